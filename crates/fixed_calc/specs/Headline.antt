@@ -1,0 +1,141 @@
+-- What a call of the program says of its source, its sink and its errors: one fact for each status, and three for all.
+-- `source` and `source'`, `sink` and `sink'` are what they tell at entry and at exit.
+use Rattle.std.specs.Prelude.{codes, ◌≡◌, ℕ, ◌+◌, ◌<◌, ◌≤◌, ◌⊎◌, ◌↔◌, ◌≢◌, ◌++◌, List, [], length, take, Option, Some, None, IfSome, ⊤}
+use Rattle.std.specs.Io.KnownBytes.{Appends, Keeps}
+use Rattle.fixed_word.specs.Decimal.{natural_text}
+use Rattle.fixed_calc.specs.Meaning.{Meaning, Output, Fault, meaning}
+use Rattle.fixed_calc.specs.Outside.{SourceState, SinkState, RoseOrLast, last_count}
+use Rattle.fixed_calc.specs.declared.cause.Cause.{Cause}
+use Rattle.fixed_calc.specs.declared.cause.Cause.TheVariants.{Syntax, OutOfRange, FractionMismatch, ZeroDivisor, NegativeRoot, Overflow}
+use Rattle.fixed_calc.specs.declared.status.Status.{Status}
+use Rattle.fixed_calc.specs.declared.status.Status.TheVariants.{Done, Script, Usage, ReadFault, WriteFault, TooLong, Memory}
+
+-- ---- words
+
+-- how many bytes a script has at most
+abbrev pub limit : ℕ
+limit = 67108864
+
+-- the input, where the source tells it, has at most `limit` bytes, was read to its end, and P holds of it
+abbrev pub ReadWhole : Option (List ℕ) → Option (List ℕ) → (List ℕ → Type 0) → Type 0
+ReadWhole None left P = ⊤
+ReadWhole (Some input) left P = (length input ≤ limit) × (left ≡ Some []) × P input
+
+-- where the source tells its bytes it goes on to tell them, and P holds of those at entry and those left
+abbrev pub IfTold : Option (List ℕ) → Option (List ℕ) → (List ℕ → List ℕ → Type 0) → Type 0
+IfTold None left P = ⊤
+IfTold (Some input) None P = ⊥
+IfTold (Some input) (Some rest) P = P input rest
+
+-- more than the limit was taken
+abbrev pub TookTooMuch : List ℕ → List ℕ → Type 0
+TookTooMuch input rest = limit + length rest < length input
+
+-- a prefix of the bytes was taken
+abbrev pub AppendsPrefix : Option (List ℕ) → Option (List ℕ) → List ℕ → Type 0
+AppendsPrefix old new bytes = (n : ℕ) × Appends old new (take n bytes)
+
+-- a prefix of the bytes was taken, and not all
+abbrev pub AppendsProperPrefix : Option (List ℕ) → Option (List ℕ) → List ℕ → Type 0
+AppendsProperPrefix old new bytes = (n : ℕ) × (n < length bytes) × Appends old new (take n bytes)
+
+-- the meaning is an output, of which P holds
+abbrev pub IsOutput : Meaning → (List ℕ → Type 0) → Type 0
+IsOutput (Output bytes) P = P bytes
+IsOutput (Fault cause) P = ⊥
+
+-- at an output a prefix of it was taken, and otherwise nothing
+abbrev pub TookPrefixOf : Option (List ℕ) → Option (List ℕ) → Meaning → Type 0
+TookPrefixOf old new (Output bytes) = AppendsPrefix old new bytes
+TookPrefixOf old new (Fault cause) = Keeps old new
+
+-- a count did not rise, and does not stand at its last value
+abbrev pub HasNoFault : ℕ → ℕ → Type 0
+HasNoFault before now = (now ≡ before) × (now ≢ last_count)
+
+-- ---- the facts
+
+-- Done: the script was read whole, its meaning is an output, the sink took it whole, and no count rose
+abbrev pub DoneTells : SourceState → SourceState → SinkState → SinkState → Status → Type 0
+DoneTells source source' sink sink' status = status ≡ Done →
+    ReadWhole source.left source'.left (λ input. IsOutput (meaning input) (Appends sink.taken sink'.taken))
+    × (source'.faults ≡ source.faults) × (sink'.faults ≡ sink.faults) × (sink'.shortages ≡ sink.shortages)
+
+-- Script: the script was read whole, its meaning is that fault, and the source did not fail
+abbrev pub ScriptTells : SourceState → SourceState → Status → Type 0
+ScriptTells source source' status = (cause : Cause) → status ≡ Script cause →
+    ReadWhole source.left source'.left (λ input. meaning input ≡ Fault cause) × (source'.faults ≡ source.faults)
+
+-- ReadFault: only where the source's count rose in this call, or stands at its last value
+abbrev pub ReadFaultTells : SourceState → SourceState → Status → Type 0
+ReadFaultTells source source' status = status ≡ ReadFault → RoseOrLast source.faults source'.faults
+
+-- TooLong: exactly where more than the limit was taken, and the source did not fail
+abbrev pub TooLongTells : SourceState → SourceState → Status → Type 0
+TooLongTells source source' status =
+    IfTold source.left source'.left (λ input rest. status ≡ TooLong ↔ TookTooMuch input rest)
+    × (status ≡ TooLong → source'.faults ≡ source.faults)
+
+-- WriteFault: only where the sink's count rose in this call, or stands at its last value;
+-- the script was read whole, its meaning is an output, and the sink took a prefix of it
+abbrev pub WriteFaultTells : SourceState → SourceState → SinkState → SinkState → Status → Type 0
+WriteFaultTells source source' sink sink' status = status ≡ WriteFault →
+    RoseOrLast sink.faults sink'.faults
+    × ReadWhole source.left source'.left (λ input. IsOutput (meaning input) (AppendsPrefix sink.taken sink'.taken))
+    × (source'.faults ≡ source.faults)
+
+-- Memory: the sink took a prefix of the output, or nothing where the meaning is a fault
+abbrev pub MemoryTells : SourceState → SinkState → SinkState → Status → Type 0
+MemoryTells source sink sink' status = status ≡ Memory → IfSome source.left (λ input. TookPrefixOf sink.taken sink'.taken (meaning input))
+
+-- with these statuses nothing is written to the sink
+abbrev pub WritesNothing : Status → Type 0
+WritesNothing Done = ⊥
+WritesNothing WriteFault = ⊥
+WritesNothing Memory = ⊥
+WritesNothing _ = ⊤
+
+-- the status that a meaning asks for, with its whole output, or want of memory
+abbrev pub IsComplete : SinkState → SinkState → Meaning → Status → Type 0
+IsComplete sink sink' (Output bytes) status = (status ≡ Memory) ⊎ ((status ≡ Done) × Appends sink.taken sink'.taken bytes)
+IsComplete sink sink' (Fault cause) status = (status ≡ Memory) ⊎ (status ≡ Script cause)
+
+-- where no count rose or stands at its last value, a script of at most the limit has that status
+abbrev pub CompleteTells : SourceState → SourceState → SinkState → SinkState → Status → Type 0
+CompleteTells source source' sink sink' status =
+    HasNoFault source.faults source'.faults → HasNoFault sink.faults sink'.faults
+    → IfSome source.left (λ input. length input ≤ limit → IsComplete sink sink' (meaning input) status)
+
+-- ---- the line for the errors
+abbrev pub cause_line : Cause → List ℕ
+cause_line (Syntax k) = codes "line " ++ natural_text k ++ codes ": syntax\n"
+cause_line (OutOfRange k) = codes "line " ++ natural_text k ++ codes ": out of range\n"
+cause_line (FractionMismatch k) = codes "line " ++ natural_text k ++ codes ": fraction mismatch\n"
+cause_line (ZeroDivisor k) = codes "line " ++ natural_text k ++ codes ": zero divisor\n"
+cause_line (NegativeRoot k) = codes "line " ++ natural_text k ++ codes ": negative root\n"
+cause_line (Overflow k) = codes "line " ++ natural_text k ++ codes ": overflow\n"
+
+abbrev pub error_line : Status → List ℕ
+error_line Done = []
+error_line (Script cause) = cause_line cause
+error_line Usage = codes "usage: fixed_prog\n"
+error_line ReadFault = codes "read fault\n"
+error_line WriteFault = codes "write fault\n"
+error_line TooLong = codes "too long\n"
+error_line Memory = codes "out of memory\n"
+
+-- the errors took the line whole, or a proper prefix of it where a count rose or stands at its last value
+abbrev pub LineTells : SinkState → SinkState → Status → Type 0
+LineTells errors errors' status =
+    Appends errors.taken errors'.taken (error_line status)
+    ⊎ (AppendsProperPrefix errors.taken errors'.taken (error_line status) × (RoseOrLast errors.faults errors'.faults ⊎ RoseOrLast errors.shortages errors'.shortages))
+
+-- ---- the number that the program ends with
+abbrev pub code_of : Status → ℕ
+code_of Done = 0
+code_of (Script _) = 1
+code_of Usage = 2
+code_of ReadFault = 3
+code_of WriteFault = 4
+code_of TooLong = 5
+code_of Memory = 6

@@ -1,0 +1,163 @@
+-- The register machine: its states, the cause of a line, and its move.
+use Rattle.std.specs.Prelude.{◌≡◌, ℕ, ◌==◌, nat_le, ◌||◌, ◌&&◌, not, Bool, true, false, ℤ, pos, List, [], ◌∷◌, get_or, set, length, Option, Some, None, is_none, if◌then◌else◌}
+use Rattle.std.specs.List.{list_any}
+use Rattle.fixed_calc.specs.declared.names.WordName.{WordName}
+use Rattle.fixed_calc.specs.declared.names.WordName.TheVariants.{I8, I16, I32, I64, U8, U16, U32, U64}
+use Rattle.fixed_calc.specs.declared.names.Policy.{Policy}
+use Rattle.fixed_calc.specs.declared.names.Op.{Op}
+use Rattle.fixed_calc.specs.declared.names.Op.TheVariants.{AddProd, Sqrt}
+use Rattle.fixed_calc.specs.declared.answer.Answer.{Answer}
+use Rattle.fixed_calc.specs.declared.answer.Answer.TheVariants.{Absent, Bits, Flagged}
+use Rattle.fixed_calc.specs.Text.{ScriptLine, SetTo, Apply, Operands, OneRegister, TwoRegisters, RegisterAndInt, ThreeRegisters}
+use Rattle.fixed_word.specs.Format.{fits}
+use Rattle.fixed_calc.specs.Rows.{exact}
+use Rattle.fixed_calc.specs.Projection.{project, is_checked, is_strict}
+use Rattle.fixed_calc.specs.Offered.{is_offered}
+use Rattle.fixed_calc.specs.declared.cause.Cause.{Cause}
+use Rattle.fixed_calc.specs.declared.cause.Cause.TheVariants.{Syntax, OutOfRange, FractionMismatch, ZeroDivisor, NegativeRoot, Overflow}
+
+abbrev pub is_signed : WordName → Bool
+is_signed I8 = true
+is_signed I16 = true
+is_signed I32 = true
+is_signed I64 = true
+is_signed U8 = false
+is_signed U16 = false
+is_signed U32 = false
+is_signed U64 = false
+
+abbrev pub width : WordName → ℕ
+width I8 = 8
+width I16 = 16
+width I32 = 32
+width I64 = 64
+width U8 = 8
+width U16 = 16
+width U32 = 32
+width U64 = 64
+
+abbrev pub is_value : WordName → ℤ → Bool
+is_value word x = fits (is_signed word) (width word) x
+
+-- ---- states
+-- a register: its bits as a whole number, and its fraction
+pub record Cell : Type 0 where
+  pub bits : ℤ
+  pub fraction : ℕ
+
+pub record State : Type 0 where
+  pub word : WordName
+  pub registers : List Cell
+
+abbrev pub empty_cell : Cell
+empty_cell = record { bits = pos 0; fraction = 0 }
+
+abbrev pub cell_at : List Cell → ℕ → Cell
+cell_at cells r = get_or cells r empty_cell
+
+-- ---- what a line names
+abbrev pub destination : ScriptLine → ℕ
+destination (SetTo dest k) = dest
+destination (Apply dest policy op xs) = dest
+
+abbrev pub operand_registers : Operands → List ℕ
+operand_registers (OneRegister a) = a ∷ []
+operand_registers (TwoRegisters a b) = a ∷ b ∷ []
+operand_registers (RegisterAndInt a k) = a ∷ []
+operand_registers (ThreeRegisters a b c) = a ∷ b ∷ c ∷ []
+
+abbrev pub registers_of : ScriptLine → List ℕ
+registers_of (SetTo dest k) = dest ∷ []
+registers_of (Apply dest policy op xs) = dest ∷ operand_registers xs
+
+abbrev pub literals_of : ScriptLine → List ℤ
+literals_of (SetTo dest k) = k ∷ []
+literals_of (Apply dest policy op (RegisterAndInt a k)) = k ∷ []
+literals_of (Apply dest policy op xs) = []
+
+-- the operands that have to have the destination's fraction
+abbrev pub tied_of_three : Op → ℕ → ℕ → ℕ → List ℕ
+tied_of_three AddProd c a b = c ∷ []
+tied_of_three _ a m c = a ∷ c ∷ []
+
+abbrev pub tied : Op → Operands → List ℕ
+tied op (OneRegister a) = a ∷ []
+tied op (TwoRegisters a b) = a ∷ b ∷ []
+tied op (RegisterAndInt a k) = a ∷ []
+tied op (ThreeRegisters a b c) = tied_of_three op a b c
+
+abbrev pub tied_registers : ScriptLine → List ℕ
+tied_registers (SetTo dest k) = []
+tied_registers (Apply dest policy op xs) = tied op xs
+
+-- ---- the row of a line
+-- three operands, of which a line takes the first ones; an integer has no fraction
+pub record Taken : Type 0 where
+  pub a : Cell
+  pub b : Cell
+  pub c : Cell
+
+abbrev pub integer : ℤ → Cell
+integer k = record { bits = k; fraction = 0 }
+
+abbrev pub taken : List Cell → Operands → Taken
+taken cells (OneRegister a) = record { a = cell_at cells a; b = empty_cell; c = empty_cell }
+taken cells (TwoRegisters a b) = record { a = cell_at cells a; b = cell_at cells b; c = empty_cell }
+taken cells (RegisterAndInt a k) = record { a = cell_at cells a; b = integer k; c = empty_cell }
+taken cells (ThreeRegisters a b c) = record { a = cell_at cells a; b = cell_at cells b; c = cell_at cells c }
+
+abbrev pub row_of : Op → Taken → Option ℤ
+row_of op t = exact op t.a.bits t.b.bits t.c.bits t.a.fraction t.b.fraction t.c.fraction
+
+-- ---- causes
+unfoldable pub is_unoffered : State → ScriptLine → Bool
+is_unoffered s (SetTo dest k) = false
+is_unoffered s (Apply dest policy op xs) = not (is_offered (is_signed s.word) policy op)
+
+unfoldable pub is_out_of_range : State → ScriptLine → Bool
+is_out_of_range s line = list_any (λ r. nat_le (length s.registers) r) (registers_of line) || list_any (λ k. not (is_value s.word k)) (literals_of line)
+
+unfoldable pub is_mismatched : State → ScriptLine → Bool
+is_mismatched s line = list_any (λ r. not ((cell_at s.registers r).fraction == (cell_at s.registers (destination line)).fraction)) (tied_registers line)
+
+abbrev pub is_sqrt : Op → Bool
+is_sqrt Sqrt = true
+is_sqrt op = false
+
+abbrev pub lacks_row : Policy → Option ℤ → Bool
+lacks_row policy row = not (is_checked policy) && is_none row
+
+abbrev pub exceeds : Bool → ℕ → Option ℤ → Bool
+exceeds signed n None = false
+exceeds signed n (Some x) = not (fits signed n x)
+
+-- the causes of a row, in order
+unfoldable pub row_causes : Bool → ℕ → Policy → Op → Option ℤ → ℕ → List (Bool × Cause)
+row_causes signed n policy op row k =
+    (lacks_row policy row && not (is_sqrt op), ZeroDivisor k) ∷ (lacks_row policy row && is_sqrt op, NegativeRoot k) ∷ (is_strict policy && exceeds signed n row, Overflow k) ∷ []
+
+abbrev pub causes_of : State → ScriptLine → ℕ → List (Bool × Cause)
+causes_of s (SetTo dest x) k = []
+causes_of s (Apply dest policy op xs) k = row_causes (is_signed s.word) (width s.word) policy op (row_of op (taken s.registers xs)) k
+
+-- the first that holds
+abbrev pub first_of : List (Bool × Cause) → Option Cause
+first_of [] = None
+first_of (p ∷ ps) = if p.0 then Some p.1 else first_of ps
+
+abbrev pub cause : State → ScriptLine → ℕ → Option Cause
+cause s line k =
+    first_of ((is_unoffered s line, Syntax k) ∷ (is_out_of_range s line, OutOfRange k) ∷ (is_mismatched s line, FractionMismatch k) ∷ causes_of s line k)
+
+-- ---- moves
+unfoldable pub answer : State → ScriptLine → Answer
+answer s (SetTo dest k) = Bits k
+answer s (Apply dest policy op xs) = project policy (is_signed s.word) (width s.word) (row_of op (taken s.registers xs))
+
+abbrev pub stored : List Cell → ℕ → Answer → List Cell
+stored cells dest Absent = cells
+stored cells dest (Bits x) = set cells dest (record { bits = x; fraction = (cell_at cells dest).fraction })
+stored cells dest (Flagged x verdict) = set cells dest (record { bits = x; fraction = (cell_at cells dest).fraction })
+
+abbrev pub move : State → ScriptLine → State
+move s line = record { word = s.word; registers = stored s.registers (destination line) (answer s line) }

@@ -1,0 +1,38 @@
+-- What a source and a sink tell of themselves, and what a read and a write say of it.
+use Rattle.std.specs.Prelude.{◌≡◌, ℕ, ◌+◌, ◌-◌, ◌^◌, ◌<◌, ◌≤◌, ◌⊎◌, min, List, Option, Result, Ok, Err}
+use Rattle.fixed_calc.specs.declared.outside.Refusal.{Refusal}
+use Rattle.fixed_calc.specs.declared.outside.Refusal.TheVariants.{Failed as RefusedFailed, Memory}
+
+-- the bytes left, where it tells them, and a count of faults
+pub record SourceState : Type 0 where
+  pub left : Option (List ℕ)
+  pub faults : ℕ
+
+-- the bytes taken, where it tells them, a count of faults and one of shortages of memory
+pub record SinkState : Type 0 where
+  pub taken : Option (List ℕ)
+  pub faults : ℕ
+  pub shortages : ℕ
+
+-- the greatest value of a count, at which it stands still
+abbrev pub last_count : ℕ
+last_count = 2 ^ 64 - 1
+
+-- a count, after one more event
+abbrev pub next_count : ℕ → ℕ
+next_count n = min (n + 1) last_count
+
+-- the count rose, or stands at its last value; it did not fall
+abbrev pub RoseOrLast : ℕ → ℕ → Type 0
+RoseOrLast before now = (before ≤ now) × ((before < now) ⊎ (now ≡ last_count))
+
+-- what a read says of the count of faults
+abbrev pub TellsFaults : {T E : Type 0} → ℕ → ℕ → Result T E → Type 0
+TellsFaults before now (Ok _) = now ≡ before
+TellsFaults before now (Err _) = RoseOrLast before now
+
+-- what a write says of the counts of faults and shortages
+abbrev pub TellsRefusals : {T : Type 0} → SinkState → SinkState → Result T Refusal → Type 0
+TellsRefusals before now (Ok _) = (now.faults ≡ before.faults) × (now.shortages ≡ before.shortages)
+TellsRefusals before now (Err RefusedFailed) = RoseOrLast before.faults now.faults × (before.shortages ≤ now.shortages)
+TellsRefusals before now (Err Memory) = RoseOrLast before.shortages now.shortages × (before.faults ≤ now.faults)

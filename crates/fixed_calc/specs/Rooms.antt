@@ -1,0 +1,94 @@
+-- What a room holds, how much it has room for, and what a run in it says.
+use Rattle.std.specs.Prelude.{◌≡◌, ℕ, ◌==◌, ◌≤◌, ◌<◌, ◌*◌, ◌+◌, List, [], ◌∷◌, length, drop, Option, Some, None, Result, Ok, Err, ⊤}
+use Rattle.std.specs.List.{All, count_by}
+use Rattle.fixed_calc.specs.declared.names.WordName.{WordName}
+use Rattle.fixed_calc.specs.Headers.{CappedHeader}
+use Rattle.fixed_word.specs.Pieces.{pieces}
+use Rattle.fixed_calc.specs.Machine.{Cell, State}
+use Rattle.fixed_calc.specs.Meaning.{Run, Meaning, Output, Fault, after, run_lines, zeros}
+use Rattle.fixed_calc.specs.Step.{IsCell, state_in}
+use Rattle.fixed_calc.specs.declared.cause.Cause.{Cause}
+use Rattle.fixed_calc.specs.declared.cause.RunFault.{RunFault}
+use Rattle.fixed_calc.specs.declared.cause.RunFault.TheVariants.{Script, Memory}
+
+pub record Space : Type 0 where
+  pub word : Option WordName
+  pub registers : List Cell
+  pub answers : List ℕ
+  pub register_room : ℕ
+  pub answer_room : ℕ
+
+-- without a header there are no registers; with one, each is of its word
+abbrev pub IsRoom : Option WordName → List Cell → Type 0
+IsRoom None cells = cells ≡ []
+IsRoom (Some word) cells = All (IsCell word) cells
+
+-- no header, no registers and no answers, and this room
+pub record IsEmptySpace (registers bytes : ℕ) (room : Space) : Type 0 where
+  pub no_word : room.word ≡ None
+  pub no_registers : room.registers ≡ []
+  pub no_answers : room.answers ≡ []
+  pub for_registers : room.register_room ≡ registers
+  pub for_answers : room.answer_room ≡ bytes
+
+-- the header, the answers and the room are as before
+pub record KeepsTheRest (old new : Space) : Type 0 where
+  pub same_word : new.word ≡ old.word
+  pub same_answers : new.answers ≡ old.answers
+  pub same_register_room : new.register_room ≡ old.register_room
+  pub same_answer_room : new.answer_room ≡ old.answer_room
+
+-- the header's registers, and no answers
+pub record IsStarted (h : CappedHeader) (room : Space) : Type 0 where
+  pub its_word : room.word ≡ Some h.word
+  pub its_registers : room.registers ≡ zeros h.fractions
+  pub no_answers : room.answers ≡ []
+
+pub record KeepsRoom (old new : Space) : Type 0 where
+  pub same_register_room : new.register_room ≡ old.register_room
+  pub same_answer_room : new.answer_room ≡ old.answer_room
+
+-- the spaces of the first piece
+abbrev pub spaces_in : List ℕ → ℕ
+spaces_in piece = count_by (λ b. b == 32) piece
+
+abbrev pub spaces_of : List (List ℕ) → ℕ
+spaces_of [] = 0
+spaces_of (p ∷ ps) = spaces_in p
+
+abbrev pub spaces : List ℕ → ℕ
+spaces script = spaces_of (pieces script)
+
+-- the room is large enough for a script
+pub record Suffices (script : List ℕ) (room : Space) : Type 0 where
+  pub for_registers : spaces script ≤ room.register_room
+  pub for_answers : 2 * length script ≤ room.answer_room
+
+-- the room's header and registers are those of the state
+abbrev pub HoldsState : Option State → Space → Type 0
+HoldsState None room = (room.word ≡ None) × (room.registers ≡ [])
+HoldsState (Some s) room = (room.word ≡ Some s.word) × (room.registers ≡ s.registers)
+
+-- the room holds what a run leaves
+pub record Holds (run : Run) (room : Space) : Type 0 where
+  pub its_answers : room.answers ≡ run.output
+  pub its_state : HoldsState run.state room
+
+-- Ok exactly where the run has no fault, and the first cause exactly where it has one
+abbrev pub RunTells : Run → Result (Unit {0}) Cause → Space → Type 0
+RunTells run (Ok _) room = (run.fault ≡ None) × Holds run room
+RunTells run (Err c) room = (run.fault ≡ Some c) × Holds run room
+
+-- The first line of the rest moved, and its text was added: the run from there, after the answers so far, is the run from before.
+pub record HasMoved (word : WordName) (k : ℕ) (rest : List ℕ) (end : ℕ) (old new : Space) : Type 0 where
+  pub some : 0 < end
+  pub within : end ≤ length rest
+  pub run : after new.answers (run_lines (state_in word new.registers) (k + 1) (pieces (drop end rest))) ≡ after old.answers (run_lines (state_in word old.registers) k (pieces rest))
+  pub its_word : new.word ≡ Some word
+  pub space : length new.answers + 2 * length (drop end rest) ≤ new.answer_room
+
+-- what a run says of the meaning
+abbrev pub MeaningTells : Meaning → Result (List ℕ) RunFault → Type 0
+MeaningTells m (Ok bytes) = m ≡ Output bytes
+MeaningTells m (Err (Script cause)) = m ≡ Fault cause
+MeaningTells m (Err Memory) = ⊤

@@ -1,0 +1,31 @@
+-- The row of each operation of the calculator.
+use Rattle.std.specs.Prelude.{ℕ, ℤ, Option, Some}
+use Rattle.fixed_calc.specs.declared.names.Op.{Op}
+use Rattle.fixed_calc.specs.declared.names.Op.TheVariants.{Neg, Add, Sub, Mul, Div, Recip, MulAdd, AddProd, MulInt, DivInt, DivEuclid, DivEuclidInt, RemEuclidInt, NextMultipleOf, Dist, Sqrt, Abs, Signum, Rem, RemInt, RemEuclid, NextPowerOfTwo}
+use Rattle.fixed_kernel.specs.Rows.{exact_neg, exact_add, exact_sub, exact_mul, exact_mul_add, exact_add_prod, exact_mul_int, exact_dist, exact_abs, exact_signum, exact_next_power_of_two, row_div, row_recip, row_div_int, row_div_euclid, row_div_euclid_int, row_rem_euclid_int, row_next_multiple_of, row_sqrt, row_rem, row_rem_int, row_rem_euclid}
+
+-- The exact number of units of the result, or nothing where the row is undefined.
+-- The operands stand in the order of the text, and f, g, h are their fractions; an operation looks at its own alone.
+unfoldable pub exact : Op → ℤ → ℤ → ℤ → ℕ → ℕ → ℕ → Option ℤ
+exact Neg a _ _ _ _ _ = Some (exact_neg a)
+exact Add a b _ _ _ _ = Some (exact_add a b)
+exact Sub a b _ _ _ _ = Some (exact_sub a b)
+exact Mul a b _ f _ _ = Some (exact_mul a b f)
+exact Div a b _ f _ _ = row_div a b f
+exact Recip a _ _ f _ _ = row_recip a f
+exact MulAdd a m c f g _ = Some (exact_mul_add a m c g)
+exact AddProd c a b f g h = Some (exact_add_prod c a b f g h)
+exact MulInt a k _ _ _ _ = Some (exact_mul_int a k)
+exact DivInt a k _ _ _ _ = row_div_int a k
+exact DivEuclid a b _ f _ _ = row_div_euclid a b f
+exact DivEuclidInt a k _ f _ _ = row_div_euclid_int a k f
+exact RemEuclidInt a k _ f _ _ = row_rem_euclid_int a k f
+exact NextMultipleOf a b _ _ _ _ = row_next_multiple_of a b
+exact Dist a b _ _ _ _ = Some (exact_dist a b)
+exact Sqrt a _ _ f _ _ = row_sqrt a f
+exact Abs a _ _ _ _ _ = Some (exact_abs a)
+exact Signum a _ _ f _ _ = Some (exact_signum a f)
+exact Rem a b _ _ _ _ = row_rem a b
+exact RemInt a k _ f _ _ = row_rem_int a k f
+exact RemEuclid a b _ _ _ _ = row_rem_euclid a b
+exact NextPowerOfTwo a _ _ _ _ _ = Some (exact_next_power_of_two a)

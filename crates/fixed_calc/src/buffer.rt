@@ -1,0 +1,65 @@
+//! A buffer whose room is asked for once, so that adding to it takes no memory.
+
+ghost use Rattle.std.specs.Prelude.{◌≡◌, ◌+◌, ◌++◌, ◌≤◌, [], length, IfOk};
+ghost use Rattle.fixed_calc.specs.Buffers.{Buffered};
+ghost use Rattle.fixed_calc.specs.Answers.{answer_text};
+
+use crate::answer::{Answer, push_answer};
+use std::alloc::{AllocError, Global};
+use std::marker::Model;
+
+/// Bytes, with room for a fixed number of them.
+#[derive(Drop)]
+pub struct Buffer {
+    held: Vec<u8>,
+    most: usize,
+}
+
+impl Model for Buffer {
+    ghost use Rattle.std.specs.Prelude.{◌≤◌};
+    ghost use Rattle.std.specs.Vec.{vec_capacity};
+    ghost use Rattle.fixed_calc.specs.Buffers.{Buffered};
+
+    ghost Value = { Buffered };
+
+    ghost view = { λ b. record { bytes = b.held.items; room = b.most } };
+
+    ghost invariant = { λ b. b.most ≤ vec_capacity b.held };
+}
+
+impl Buffer {
+    /// Empty, with room for so many bytes.
+    pub fn with_room(alloc: Global, room: usize) -> Result<Self, AllocError>
+        ensures { IfOk result (λ b. b ≡ record { bytes = []; room = room }) }
+    {
+        let held = Vec::with_capacity(alloc, room)?;
+        Ok(Buffer { held, most: room })
+    }
+
+    pub fn room(&self) -> usize
+        ensures { result ≡ self.now.room }
+    {
+        self.most
+    }
+
+    pub fn bytes(&self) -> &[u8]
+        ensures { result.now ≡ self.now.bytes }
+    {
+        self.held.as_slice()
+    }
+
+    /// Takes all bytes out; the room stays.
+    pub fn clear(&mut self)
+        ensures { self.new ≡ record { bytes = []; room = self.old.room } }
+    {
+        self.held.clear();
+    }
+
+    /// Adds the text of an answer, for which there is room.
+    pub fn push(&mut self, answer: Answer)
+        requires { length self.old.bytes + length (answer_text answer) ≤ self.old.room }
+        ensures { self.new ≡ record { bytes = self.old.bytes ++ answer_text answer; room = self.old.room } }
+    {
+        push_answer(&mut self.held, answer);
+    }
+}

@@ -1,0 +1,48 @@
+//! The calculator: a script of register lines, run by a machine whose every line takes the exact
+//! number of its operation and projects it by its policy.
+//!
+//! [`calc_main`] does all that the program does; [`run`] runs a script in memory, and [`run_in`] runs
+//! it in a [`Room`] that was made for it, without asking for memory.
+#![tactic(auto)]
+
+mod answer;
+mod buffer;
+mod cause;
+mod copy;
+mod decimal;
+mod error_line;
+mod header;
+pub mod laws;
+mod line;
+mod names;
+mod number;
+mod outside;
+mod piece;
+mod pieces;
+mod projected;
+mod reading;
+mod register;
+mod room;
+mod rows;
+mod running;
+mod status;
+mod stepping;
+mod sure;
+#[cfg(test)]
+mod tests;
+mod tokens;
+mod top;
+mod writing;
+
+pub use answer::Answer;
+pub use cause::{Cause, RunFault};
+pub use header::{Fractions, Header, parse_header};
+pub use line::{Line, parse_line};
+pub use names::{Op, Policy, WordName};
+pub use number::Literal;
+pub use outside::{Failed, Refusal, Sink, Source};
+pub use room::{Answers, Room, step};
+pub use running::{run, run_in};
+pub use status::Status;
+pub use sure::{SureSink, SureSource};
+pub use top::calc_main;

@@ -1,0 +1,182 @@
+//! The lines of a script.
+
+ghost use Rattle.std.specs.Prelude.{◌≡◌, Some, IfSome, IfNone};
+ghost use Rattle.fixed_calc.specs.Text.{shape, ScriptLine, IsLine, line_text};
+ghost use Rattle.fixed_calc.specs.Capped.{capped, denoted};
+ghost use Rattle.fixed_calc.specs.Parser.{at_end, set_at, operands_at, apply_at, line_at, tokens_of};
+
+use crate::names::{Op, Policy, policy_of};
+use crate::number::Literal;
+use crate::tokens::Tokens;
+
+/// Which operands an operation takes.
+#[derive(Clone, Copy, Debug, PartialEq, Eq, Drop)]
+pub enum Shape {
+    Unary,
+    Binary,
+    ByInt,
+    Ternary,
+}
+
+/// A line after the header, with its numbers capped.
+#[derive(Clone, Copy, Debug, PartialEq, Eq, Drop)]
+pub enum Line {
+    Set {
+        dest: u128,
+        literal: Literal,
+    },
+    One {
+        dest: u128,
+        policy: Policy,
+        op: Op,
+        a: u128,
+    },
+    Two {
+        dest: u128,
+        policy: Policy,
+        op: Op,
+        a: u128,
+        b: u128,
+    },
+    Int {
+        dest: u128,
+        policy: Policy,
+        op: Op,
+        a: u128,
+        literal: Literal,
+    },
+    Three {
+        dest: u128,
+        policy: Policy,
+        op: Op,
+        a: u128,
+        b: u128,
+        c: u128,
+    },
+}
+
+/// Which operands the operation takes.
+pub fn shape_of(op: Op) -> Shape
+    ensures { result ≡ shape op }
+{
+    match op {
+        Op::Neg | Op::Recip | Op::Sqrt | Op::Abs | Op::Signum | Op::NextPowerOfTwo => Shape::Unary,
+        Op::Add
+        | Op::Sub
+        | Op::Mul
+        | Op::Div
+        | Op::DivEuclid
+        | Op::NextMultipleOf
+        | Op::Dist
+        | Op::Rem
+        | Op::RemEuclid => Shape::Binary,
+        Op::MulInt | Op::DivInt | Op::DivEuclidInt | Op::RemEuclidInt | Op::RemInt => Shape::ByInt,
+        Op::MulAdd | Op::AddProd => Shape::Ternary,
+    }
+}
+
+/// The line, where no token is left.
+fn at_end(tokens: &Tokens<'_>, line: Line) -> Option<Line>
+    ensures { result ≡ at_end tokens.now line }
+{
+    if tokens.is_empty() { Some(line) } else { None }
+}
+
+#[tactic(auto, unfolding(crate::specs::Parser::set_at))]
+fn set_of(dest: u128, tokens: &mut Tokens<'_>) -> Option<Line>
+    ensures { result ≡ set_at dest tokens.old }
+{
+    let literal = tokens.literal()?;
+    at_end(tokens, Line::Set { dest, literal })
+}
+
+#[tactic(auto, unfolding(crate::specs::Parser::operands_at))]
+fn operands_of(dest: u128, policy: Policy, op: Op, a: u128, tokens: &mut Tokens<'_>) -> Option<Line>
+    ensures { result ≡ operands_at (shape op) dest policy op a tokens.old }
+{
+    match shape_of(op) {
+        Shape::Unary => at_end(
+            tokens,
+            Line::One {
+                dest,
+                policy,
+                op,
+                a,
+            },
+        ),
+        Shape::Binary => {
+            let b = tokens.register()?;
+            at_end(
+                tokens,
+                Line::Two {
+                    dest,
+                    policy,
+                    op,
+                    a,
+                    b,
+                },
+            )
+        }
+        Shape::ByInt => {
+            let literal = tokens.literal()?;
+            at_end(
+                tokens,
+                Line::Int {
+                    dest,
+                    policy,
+                    op,
+                    a,
+                    literal,
+                },
+            )
+        }
+        Shape::Ternary => {
+            let b = tokens.register()?;
+            let c = tokens.register()?;
+            at_end(
+                tokens,
+                Line::Three {
+                    dest,
+                    policy,
+                    op,
+                    a,
+                    b,
+                    c,
+                },
+            )
+        }
+    }
+}
+
+#[tactic(auto, unfolding(crate::specs::Parser::apply_at))]
+fn apply_of(dest: u128, policy: Policy, tokens: &mut Tokens<'_>) -> Option<Line>
+    ensures { result ≡ apply_at dest policy tokens.old }
+{
+    let op = tokens.op()?;
+    let a = tokens.register()?;
+    operands_of(dest, policy, op, a, tokens)
+}
+
+#[tactic(auto, unfolding(crate::specs::Parser::line_at))]
+fn read_line(mut tokens: Tokens<'_>) -> Option<Line>
+    ensures { result ≡ line_at tokens.entry }
+{
+    let dest = tokens.register()?;
+    let name = tokens.take()?;
+    if name == b"set".as_slice() {
+        set_of(dest, &mut tokens)
+    } else {
+        let policy = policy_of(name)?;
+        apply_of(dest, policy, &mut tokens)
+    }
+}
+
+/// The line whose text the piece is.
+pub fn parse_line(piece: &[u8]) -> Option<Line>
+    // None exactly where the piece is no line's text.
+    ensures none { IfNone result ((line : ScriptLine) → IsLine line → line_text line ≡ piece.now → ⊥) }
+    // Otherwise the capped form of the line whose text it is.
+    ensures found { IfSome result (λ read. (line : ScriptLine) × IsLine line × (line_text line ≡ piece.now) × (denoted read ≡ Some (capped line))) }
+{
+    read_line(Tokens::new(piece))
+}

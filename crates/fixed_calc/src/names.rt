@@ -1,0 +1,145 @@
+//! The names that a script gives to words, policies and operations.
+
+ghost use Rattle.std.specs.Prelude.{◌≡◌};
+ghost use Rattle.fixed_calc.specs.Names.{word_named, policy_named, op_named};
+
+#[derive(Clone, Copy, Debug, PartialEq, Eq, Drop)]
+pub enum WordName {
+    I8,
+    I16,
+    I32,
+    I64,
+    U8,
+    U16,
+    U32,
+    U64,
+}
+
+#[derive(Clone, Copy, Debug, PartialEq, Eq, Drop)]
+pub enum Policy {
+    Checked,
+    Saturating,
+    Wrapping,
+    Overflowing,
+    Strict,
+}
+
+#[derive(Clone, Copy, Debug, PartialEq, Eq, Drop)]
+pub enum Op {
+    Neg,
+    Add,
+    Sub,
+    Mul,
+    Div,
+    Recip,
+    MulAdd,
+    AddProd,
+    MulInt,
+    DivInt,
+    DivEuclid,
+    DivEuclidInt,
+    RemEuclidInt,
+    NextMultipleOf,
+    Dist,
+    Sqrt,
+    Abs,
+    Signum,
+    Rem,
+    RemInt,
+    RemEuclid,
+    NextPowerOfTwo,
+}
+
+pub fn word_of(token: &[u8]) -> Option<WordName>
+    ensures { result ≡ word_named token.now }
+{
+    if token == b"i8".as_slice() {
+        Some(WordName::I8)
+    } else if token == b"i16".as_slice() {
+        Some(WordName::I16)
+    } else if token == b"i32".as_slice() {
+        Some(WordName::I32)
+    } else if token == b"i64".as_slice() {
+        Some(WordName::I64)
+    } else if token == b"u8".as_slice() {
+        Some(WordName::U8)
+    } else if token == b"u16".as_slice() {
+        Some(WordName::U16)
+    } else if token == b"u32".as_slice() {
+        Some(WordName::U32)
+    } else if token == b"u64".as_slice() {
+        Some(WordName::U64)
+    } else {
+        None
+    }
+}
+
+pub fn policy_of(token: &[u8]) -> Option<Policy>
+    ensures { result ≡ policy_named token.now }
+{
+    if token == b"checked".as_slice() {
+        Some(Policy::Checked)
+    } else if token == b"saturating".as_slice() {
+        Some(Policy::Saturating)
+    } else if token == b"wrapping".as_slice() {
+        Some(Policy::Wrapping)
+    } else if token == b"overflowing".as_slice() {
+        Some(Policy::Overflowing)
+    } else if token == b"strict".as_slice() {
+        Some(Policy::Strict)
+    } else {
+        None
+    }
+}
+
+pub fn op_of(token: &[u8]) -> Option<Op>
+    ensures { result ≡ op_named token.now }
+{
+    if token == b"neg".as_slice() {
+        Some(Op::Neg)
+    } else if token == b"add".as_slice() {
+        Some(Op::Add)
+    } else if token == b"sub".as_slice() {
+        Some(Op::Sub)
+    } else if token == b"mul".as_slice() {
+        Some(Op::Mul)
+    } else if token == b"div".as_slice() {
+        Some(Op::Div)
+    } else if token == b"recip".as_slice() {
+        Some(Op::Recip)
+    } else if token == b"mul_add".as_slice() {
+        Some(Op::MulAdd)
+    } else if token == b"add_prod".as_slice() {
+        Some(Op::AddProd)
+    } else if token == b"mul_int".as_slice() {
+        Some(Op::MulInt)
+    } else if token == b"div_int".as_slice() {
+        Some(Op::DivInt)
+    } else if token == b"div_euclid".as_slice() {
+        Some(Op::DivEuclid)
+    } else if token == b"div_euclid_int".as_slice() {
+        Some(Op::DivEuclidInt)
+    } else if token == b"rem_euclid_int".as_slice() {
+        Some(Op::RemEuclidInt)
+    } else if token == b"next_multiple_of".as_slice() {
+        Some(Op::NextMultipleOf)
+    } else if token == b"dist".as_slice() {
+        Some(Op::Dist)
+    } else if token == b"sqrt".as_slice() {
+        Some(Op::Sqrt)
+    } else if token == b"abs".as_slice() {
+        Some(Op::Abs)
+    } else if token == b"signum".as_slice() {
+        Some(Op::Signum)
+    } else if token == b"rem".as_slice() {
+        Some(Op::Rem)
+    } else if token == b"rem_int".as_slice() {
+        Some(Op::RemInt)
+    } else if token == b"rem_euclid".as_slice() {
+        Some(Op::RemEuclid)
+    } else if token == b"next_power_of_two".as_slice() {
+        Some(Op::NextPowerOfTwo)
+    } else {
+        None
+    }
+}

@@ -1,0 +1,97 @@
+//! The decimals of a script, held capped.
+
+ghost use Rattle.std.specs.Prelude.{◌≡◌, IsTrue, IfSome, ◌≤◌, ◌^◌};
+ghost use Rattle.std.specs.List.{list_all};
+ghost use Rattle.std.specs.Char.{is_ascii_digit};
+ghost use Rattle.std.specs.Str.Parse.{digits_value};
+ghost use Rattle.fixed_calc.specs.Parser.{is_decimal, natural_at, register_at, literal_at, has_minus, without_minus};
+ghost use Rattle.fixed_calc.specs.Capped.{cap};
+
+/// What stands for each number that is as large or larger.
+pub const CAP: u128 = 18_446_744_073_709_551_616;
+
+/// A whole number of a script: its sign, and its magnitude, capped.
+#[derive(Clone, Copy, Debug, PartialEq, Eq, Drop)]
+pub struct Literal {
+    pub below_zero: bool,
+    pub magnitude: u128,
+}
+
+fn all_digits(bytes: &[u8]) -> bool
+    ensures { result ≡ list_all is_ascii_digit bytes.now }
+{
+    bytes.iter().all(|b| b.is_ascii_digit())
+}
+
+/// Whether the token is digits alone, at least one, and with no 0 before another.
+pub(crate) fn is_decimal(token: &[u8]) -> bool
+    ensures { result ≡ is_decimal token.now }
+{
+    match token {
+        [] => false,
+        [first, rest @ ..] => { (*first != b'0' || rest.is_empty()) && all_digits(token) }
+    }
+}
+
+/// The number that the digits stand for, capped.
+pub(crate) fn value_of(digits: &[u8]) -> u128
+    requires { IsTrue (is_decimal digits.now) }
+    ensures { result ≡ cap (digits_value 10 digits.now) }
+{
+    let mut value: u128 = 0;
+    for b in digits {
+        value = (value * 10 + u128::from(*b - b'0')).min(CAP);
+    }
+    value
+}
+
+/// A natural number.
+#[tactic(auto, unfolding(crate::specs::Parser::natural_at))]
+pub fn natural_of(token: &[u8]) -> Option<u128>
+    ensures { result ≡ natural_at token.now }
+{
+    if is_decimal(token) {
+        Some(value_of(token))
+    } else {
+        None
+    }
+}
+
+/// The number of a register.
+#[tactic(auto, unfolding(crate::specs::Parser::register_at))]
+pub fn register_of(token: &[u8]) -> Option<u128>
+    ensures { result ≡ register_at token.now }
+{
+    match token {
+        [b'r', number @ ..] => natural_of(number),
+        _ => None,
+    }
+}
+
+/// Whether a minus stands in front, and what stands after it.
+fn sign_of(token: &[u8]) -> (bool, &[u8])
+    ensures minus { result.0 ≡ has_minus token.now }
+    ensures number { result.1.now ≡ without_minus token.now }
+{
+    match token {
+        [b'-', number @ ..] => (true, number),
+        _ => (false, token),
+    }
+}
+
+/// A whole number, which may have a minus, but no minus before 0.
+#[tactic(auto, unfolding(crate::specs::Parser::literal_at))]
+pub fn literal_of(token: &[u8]) -> Option<Literal>
+    ensures { result ≡ literal_at token.now }
+{
+    let (below_zero, number) = sign_of(token);
+    let magnitude = natural_of(number)?;
+    if below_zero && magnitude == 0 {
+        None
+    } else {
+        Some(Literal {
+            below_zero,
+            magnitude,
+        })
+    }
+}

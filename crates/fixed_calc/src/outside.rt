@@ -1,0 +1,47 @@
+//! What the program reads from and writes to.
+
+ghost use Rattle.std.specs.Prelude.{◌≤◌, ◌<◌, length, IfOk};
+ghost use Rattle.std.specs.Io.KnownBytes.{ReadConsumes, WriteAppends};
+ghost use Rattle.fixed_calc.specs.Outside.{SinkState, SourceState, TellsFaults, TellsRefusals};
+
+/// A read that failed. It took nothing.
+#[derive(Clone, Copy, Debug, PartialEq, Eq)]
+pub struct Failed;
+
+/// Why a write was refused. A refusal takes nothing.
+#[derive(Clone, Copy, Debug, PartialEq, Eq)]
+pub enum Refusal {
+    /// The sink failed.
+    Failed,
+    /// The sink found no memory.
+    Memory,
+}
+
+/// Where the script comes from (this project's own).
+pub trait Source {
+    /// The bytes left, where the source tells them, and a count of its faults.
+    ghost state: { Self → SourceState };
+
+    /// Takes some of the bytes left into the front of the buffer. `Ok(0)` on a buffer that is not
+    /// empty is the end of input. `Failed` comes only where the count of faults rose or stands at its
+    /// last value, and leaves the bytes left.
+    fn read(&mut self, buf: &mut [u8]) -> Result<usize, Failed>
+        ensures within { IfOk result (λ k. k ≤ length buf.new) }
+        ensures bytes { ReadConsumes (state self.old).left (state self.new).left result buf.new }
+        ensures faults { TellsFaults (state self.old).faults (state self.new).faults result };
+}
+
+/// Where the answers, or the line for the errors, go (this project's own).
+pub trait Sink {
+    /// The bytes taken, where the sink tells them, and its counts of faults and of shortages of memory.
+    ghost state: { Self → SinkState };
+
+    /// Takes a prefix of the piece, of at least one byte where the piece has one. `Failed` comes only
+    /// where the count of faults rose or stands at its last value, and `Memory` where that of
+    /// shortages did.
+    fn write(&mut self, bytes: &[u8]) -> Result<usize, Refusal>
+        ensures within { IfOk result (λ k. k ≤ length bytes.now) }
+        ensures some { 0 < length bytes.now → IfOk result (λ k. 0 < k) }
+        ensures bytes { WriteAppends (state self.old).taken (state self.new).taken result bytes.now }
+        ensures counts { TellsRefusals (state self.old) (state self.new) result };
+}

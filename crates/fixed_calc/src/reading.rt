@@ -1,0 +1,46 @@
+//! Reading a source to its end.
+
+ghost use Rattle.std.specs.Prelude.{◌≡◌, ◌↔◌, IfOk, IsErrOf};
+ghost use Rattle.fixed_calc.specs.Headline.{IfTold, ReadWhole, TookTooMuch};
+ghost use Rattle.fixed_calc.specs.Reading.{ReadTells};
+
+use crate::outside::Source;
+use std::alloc::Global;
+
+/// How many bytes a script has at most.
+const LIMIT: usize = 67_108_864;
+
+/// Why reading stops short of the end.
+#[derive(Clone, Copy, Debug, PartialEq, Eq)]
+pub(crate) enum Stop {
+    Failed,
+    TooLong,
+    Memory,
+}
+
+/// All that the source has left. The limit is tested before the script grows.
+pub(crate) fn read_all<S: Source>(alloc: Global, source: &mut S) -> Result<Vec<u8>, Stop>
+    ensures whole { IfOk result (λ script. ReadWhole (S.state source.old).left (S.state source.new).left (λ input. script.items ≡ input)) }
+    ensures too_long { IfTold (S.state source.old).left (S.state source.new).left (λ input rest.
+        IsErrOf result Stop.TooLong ↔ TookTooMuch input rest) }
+    ensures faults { ReadTells (S.state source.old).faults (S.state source.new).faults result }
+{
+    let mut script = Vec::new(alloc);
+    let mut buffer = [0; 4096];
+    'reading: loop {
+        let count = match source.read(&mut buffer) {
+            Ok(count) => count,
+            Err(_) => return Err(Stop::Failed),
+        };
+        if count == 0 {
+            return Ok(script);
+        }
+        if count > LIMIT - script.len() {
+            return Err(Stop::TooLong);
+        }
+        match script.extend_from_slice(&buffer[..count]) {
+            Ok(()) => {}
+            Err(_) => return Err(Stop::Memory),
+        }
+    }
+}

@@ -1,0 +1,262 @@
+//! Where a script runs: its registers and its answers, with room that is made once.
+
+ghost use Rattle.std.specs.Prelude.{◌≡◌, ◌≤◌, ◌<◌, ◌*◌, ◌+◌, ◌++◌, [], length, vec_len, vec_capacity, IfOk, IfErr, OnOk, IsSome, IfSome, IsTrue, ◌↔◌, Some, None, true, false};
+ghost use Rattle.fixed_calc.specs.Answers.{answer_text};
+ghost use Rattle.fixed_calc.specs.Machine.{width as width_in};
+ghost use Rattle.fixed_calc.specs.Meaning.{has_wide as is_wide, zeros};
+ghost use Rattle.fixed_calc.specs.Capped.{denoted};
+ghost use Rattle.fixed_calc.specs.Rooms.{KeepsTheRest, spaces, spaces_in};
+ghost use Rattle.fixed_calc.specs.Step.{StepTells, cell_of, cells_of, state_in};
+
+use crate::answer::Answer;
+use crate::buffer::Buffer;
+use crate::cause::Cause;
+use crate::header::Header;
+use crate::line::Line;
+use crate::names::WordName;
+use crate::piece::run_piece;
+use crate::pieces::first_piece;
+use crate::register::Register;
+use crate::stepping::step_registers;
+use std::alloc::{AllocError, Global};
+use std::marker::Model;
+
+fn width(word: WordName) -> u128
+    ensures { result ≡ width_in word }
+{
+    match word {
+        WordName::I8 | WordName::U8 => 8,
+        WordName::I16 | WordName::U16 => 16,
+        WordName::I32 | WordName::U32 => 32,
+        WordName::I64 | WordName::U64 => 64,
+    }
+}
+
+/// Whether a fraction exceeds the width.
+fn has_wide(header: &Header<'_>) -> bool
+    ensures { result ≡ is_wide header.now.word header.now.fractions }
+{
+    let width = width(header.word());
+    let mut fractions = header.fractions();
+    while let Some(fraction) = fractions.next() {
+        if width < fraction {
+            return true;
+        }
+    }
+    false
+}
+
+/// A register of bits 0 for each fraction.
+fn push_fractions(registers: &mut Vec<Register>, header: &Header<'_>)
+    requires room { vec_len registers.old + length header.now.fractions ≤ vec_capacity registers.old }
+    requires narrow { is_wide header.now.word header.now.fractions ≡ false }
+    ensures items { cells_of registers.new.items ≡ cells_of registers.old.items ++ zeros header.now.fractions }
+    ensures capacity { vec_capacity registers.new ≡ vec_capacity registers.old }
+{
+    let mut fractions = header.fractions();
+    while let Some(fraction) = fractions.next() {
+        registers.push_reserved(Register {
+            magnitude: 0,
+            fraction: fraction as u32,
+            below_zero: false,
+        });
+    }
+}
+
+#[derive(Drop)]
+pub struct Room {
+    word: Option<WordName>,
+    registers: Vec<Register>,
+    most: usize,
+    answers: Buffer,
+}
+
+impl Model for Room {
+    ghost use Rattle.std.specs.Prelude.{◌≤◌, vec_capacity};
+    ghost use Rattle.fixed_calc.specs.Step.{cells_of};
+    ghost use Rattle.fixed_calc.specs.Rooms.{Space, IsRoom};
+
+    ghost Value = { Space };
+
+    ghost view = { λ r. record { word = r.word; registers = cells_of r.registers.items; answers = r.answers.bytes; register_room = r.most; answer_room = r.answers.room } };
+
+    ghost invariant = { λ r. IsRoom r.word (cells_of r.registers.items) × (r.most ≤ vec_capacity r.registers) };
+}
+
+/// The bytes of all answers.
+#[derive(Drop)]
+pub struct Answers {
+    held: Buffer,
+}
+
+impl Model for Answers {
+    ghost use Rattle.std.specs.Prelude.{List, ℕ};
+
+    ghost Value = { List ℕ };
+
+    ghost view = { λ a. a.held.bytes };
+}
+
+impl Answers {
+    pub fn as_bytes(&self) -> &[u8]
+        ensures { result.now ≡ self.now }
+    {
+        self.held.bytes()
+    }
+}
+
+impl Room {
+    ghost use Rattle.fixed_calc.specs.Meaning.{line_at};
+    ghost use Rattle.fixed_calc.specs.Capped.{denoted};
+    ghost use Rattle.fixed_calc.specs.Machine.{cell_at};
+    ghost use Rattle.fixed_calc.specs.Rooms.{IsEmptySpace, IsStarted, KeepsTheRest, KeepsRoom, Suffices, spaces};
+    ghost use Rattle.fixed_calc.specs.Step.{StepTells, state_in};
+
+    /// Without a header, registers and answers.
+    pub fn for_script(alloc: Global, script: &[u8]) -> Result<Room, AllocError>
+        ensures { IfOk result (λ room. IsEmptySpace (spaces script.now) (2 * length script.now) room) }
+    {
+        let most = spaces_of(script);
+        Ok(Room {
+            word: None,
+            registers: Vec::with_capacity(alloc, most)?,
+            most,
+            answers: Buffer::with_room(alloc, 2 * script.len())?,
+        })
+    }
+
+    /// Whether the room is large enough for a script.
+    pub fn suffices(&self, script: &[u8]) -> bool
+        ensures { IsTrue result ↔ Suffices script.now self.now }
+    {
+        spaces_of(script) <= self.most && 2 * script.len() <= self.answers.room()
+    }
+
+    pub(crate) fn clear(&mut self)
+        ensures { IsEmptySpace self.old.register_room self.old.answer_room self.new }
+    {
+        self.word = None;
+        self.registers.clear();
+        self.answers.clear();
+    }
+
+    /// All registers zero, and no answers.
+    pub fn declare(&mut self, header: &Header<'_>) -> Result<(), Cause>
+        requires { length header.now.fractions ≤ self.old.register_room }
+        ensures ok { OnOk result ((is_wide header.now.word header.now.fractions ≡ false) × IsStarted header.now self.new) }
+        ensures err { IfErr result (λ cause. (is_wide header.now.word header.now.fractions ≡ true) × (cause ≡ Cause.OutOfRange 1) × IsEmptySpace self.old.register_room self.old.answer_room self.new) }
+        ensures kept { KeepsRoom self.old self.new }
+    {
+        self.word = None;
+        self.registers.clear();
+        self.answers.clear();
+        if has_wide(header) {
+            return Err(Cause::OutOfRange(1));
+        }
+        push_fractions(&mut self.registers, header);
+        self.word = Some(header.word());
+        Ok(())
+    }
+
+    /// Runs one line.
+    pub(crate) fn step_line(&mut self, line: &Line, number: u64) -> Result<Answer, Cause>
+        requires { IsSome self.old.word }
+        ensures tells { IfSome self.old.word (λ word. StepTells (state_in word self.old.registers) (denoted line.now) number result self.new.registers) }
+        ensures kept { KeepsTheRest self.old self.new }
+    {
+        let word = self.word.unwrap();
+        step_registers(word, &mut self.registers, line, number)
+    }
+
+    /// Runs one piece.
+    pub(crate) fn step_piece(&mut self, piece: &[u8], number: u64) -> Result<Answer, Cause>
+        requires { IsSome self.old.word }
+        ensures tells { IfSome self.old.word (λ word. StepTells (state_in word self.old.registers) (line_at piece.now) number result self.new.registers) }
+        ensures kept { KeepsTheRest self.old self.new }
+    {
+        let word = self.word.unwrap();
+        run_piece(word, &mut self.registers, piece, number)
+    }
+
+    /// Adds the text of an answer, for which there is room.
+    pub(crate) fn push(&mut self, answer: Answer)
+        requires { length self.old.answers + length (answer_text answer) ≤ self.old.answer_room }
+        ensures answers { self.new.answers ≡ self.old.answers ++ answer_text answer }
+        ensures word { self.new.word ≡ self.old.word }
+        ensures registers { self.new.registers ≡ self.old.registers }
+        ensures kept { KeepsRoom self.old self.new }
+    {
+        self.answers.push(answer);
+    }
+
+    pub fn registers(&self) -> usize
+        ensures { result ≡ length self.now.registers }
+    {
+        self.registers.len()
+    }
+
+    pub fn bits_at(&self, index: usize) -> i128
+        requires { index < length self.now.registers }
+        ensures { result ≡ (cell_at self.now.registers index).bits }
+    {
+        bits_of(self.registers[index])
+    }
+
+    pub fn fraction_at(&self, index: usize) -> u32
+        requires { index < length self.now.registers }
+        ensures { result ≡ (cell_at self.now.registers index).fraction }
+    {
+        self.registers[index].fraction
+    }
+
+    pub fn answers(&self) -> &[u8]
+        ensures { result.now ≡ self.now.answers }
+    {
+        self.answers.bytes()
+    }
+
+    pub fn into_answers(self) -> Answers
+        ensures { result ≡ self.answers }
+    {
+        Answers { held: self.answers }
+    }
+}
+
+/// Runs one line of a script.
+pub fn step(room: &mut Room, line: &Line, number: u64) -> Result<Answer, Cause>
+    requires { IsSome room.old.word }
+    ensures tells { IfSome room.old.word (λ word. StepTells (state_in word room.old.registers) (denoted line.now) number result room.new.registers) }
+    ensures kept { KeepsTheRest room.old room.new }
+{
+    room.step_line(line, number)
+}
+
+/// The bits of a register.
+fn bits_of(register: Register) -> i128
+    ensures { result ≡ (cell_of register).bits }
+{
+    let magnitude = register.magnitude as i128;
+    if register.below_zero {
+        -magnitude
+    } else {
+        magnitude
+    }
+}
+
+/// The spaces of a piece.
+fn spaces_in(piece: &[u8]) -> usize
+    ensures { result ≡ spaces_in piece.now }
+{
+    piece.iter().filter(|byte| **byte == b' ').count()
+}
+
+/// The spaces of the first piece.
+fn spaces_of(script: &[u8]) -> usize
+    ensures { result ≡ spaces script.now }
+{
+    if script.is_empty() {
+        return 0;
+    }
+    let (piece, _) = first_piece(script);
+    spaces_in(piece)
+}

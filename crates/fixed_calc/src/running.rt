@@ -1,0 +1,106 @@
+//! A whole script in a room.
+
+ghost use Rattle.std.specs.Prelude.{◌≡◌, ◌≤◌, ◌<◌, ◌*◌, ◌+◌, ◌∷◌, ◌==◌, length, take, drop, Some, Err, IfOk, IfErr};
+ghost use Rattle.std.specs.List.{position};
+ghost use Rattle.fixed_word.specs.Pieces.{pieces};
+ghost use Rattle.fixed_calc.specs.Meaning.{after, meaning, run_lines as lines_run, run_of};
+ghost use Rattle.fixed_calc.specs.Rooms.{HasMoved, KeepsRoom, MeaningTells, RunTells, Suffices};
+ghost use Rattle.fixed_calc.specs.Step.{state_in};
+
+use crate::cause::{Cause, RunFault};
+use crate::names::WordName;
+use crate::piece::read_header;
+use crate::room::{Answers, Room};
+use std::alloc::Global;
+
+fn newline_at(script: &[u8]) -> Option<usize>
+    ensures { result ≡ position (λ b. b == 10) script.now }
+{
+    script.iter().position(|byte| *byte == b'\n')
+}
+
+/// Where the first piece ends.
+fn piece_end(script: &[u8]) -> usize
+    requires { 0 < length script.now }
+    ensures some { 0 < result }
+    ensures within { result ≤ length script.now }
+    ensures cut { pieces script.now ≡ take result script.now ∷ pieces (drop result script.now) }
+{
+    match newline_at(script) {
+        Some(at) => at + 1,
+        None => script.len(),
+    }
+}
+
+/// The first line of the rest. Answers where it ends.
+fn run_line(word: WordName, rest: &[u8], number: u64, room: &mut Room) -> Result<usize, Cause>
+    requires some { 0 < length rest.now }
+    requires word { room.old.word ≡ Some word }
+    requires space { length room.old.answers + 2 * length rest.now ≤ room.old.answer_room }
+    ensures ok { IfOk result (λ end. HasMoved word number rest.now end room.old room.new) }
+    ensures err { IfErr result (λ cause. RunTells (after room.old.answers (lines_run (state_in word room.old.registers) number (pieces rest.now))) (Err cause) room.new) }
+    ensures kept { KeepsRoom room.old room.new }
+{
+    let end = piece_end(rest);
+    match room.step_piece(&rest[..end], number) {
+        Ok(answer) => {
+            room.push(answer);
+            Ok(end)
+        }
+        Err(cause) => Err(cause),
+    }
+}
+
+/// The lines after the header.
+fn run_lines(word: WordName, lines: &[u8], room: &mut Room) -> Result<(), Cause>
+    requires word { room.old.word ≡ Some word }
+    requires space { length room.old.answers + 2 * length lines.now ≤ room.old.answer_room }
+    ensures tells { RunTells (after room.old.answers (lines_run (state_in word room.old.registers) 2 (pieces lines.now))) result room.new }
+    ensures kept { KeepsRoom room.old room.new }
+{
+    let mut at = 0;
+    let mut number = 2;
+    while at < lines.len() {
+        match run_line(word, &lines[at..], number, room) {
+            Ok(end) => at += end,
+            Err(cause) => return Err(cause),
+        }
+        number += 1;
+    }
+    Ok(())
+}
+
+/// Runs a script in a room, from a fresh start.
+pub fn run_in(script: &[u8], room: &mut Room) -> Result<(), Cause>
+    requires { Suffices script.now room.old }
+    ensures tells { RunTells (run_of script.now) result room.new }
+    ensures kept { KeepsRoom room.old room.new }
+{
+    room.clear();
+    if script.is_empty() {
+        return Err(Cause::Syntax(1));
+    }
+    let end = piece_end(script);
+    let header = match read_header(&script[..end]) {
+        Some(header) => header,
+        None => return Err(Cause::Syntax(1)),
+    };
+    match room.declare(&header) {
+        Ok(()) => run_lines(header.word(), &script[end..], room),
+        Err(cause) => Err(cause),
+    }
+}
+
+/// Runs a script.
+pub fn run(alloc: Global, script: &[u8]) -> Result<Answers, RunFault>
+    ensures { MeaningTells (meaning script.now) result }
+{
+    let mut room = match Room::for_script(alloc, script) {
+        Ok(room) => room,
+        Err(_) => return Err(RunFault::Memory),
+    };
+    match run_in(script, &mut room) {
+        Ok(()) => Ok(room.into_answers()),
+        Err(cause) => Err(RunFault::Script(cause)),
+    }
+}

@@ -1,0 +1,357 @@
+//! One line of a script, over the registers.
+
+ghost use Rattle.std.specs.Prelude.{◌≡◌, ◌≤◌, ◌<◌, ◌^◌, nat_le, length, set, Some, None, true, false, IsTrue, unsigned_abs};
+ghost use Rattle.std.specs.List.{All};
+ghost use Rattle.fixed_calc.specs.Capped.{denoted, literal_value};
+ghost use Rattle.fixed_word.specs.Format.{fits};
+ghost use Rattle.fixed_calc.specs.Offered.{is_offered as offered};
+ghost use Rattle.fixed_calc.specs.Machine.{is_signed as signed, is_value, cell_at as cell_in, destination as destination_of, is_unoffered as unoffered, is_out_of_range as out_of_range, is_mismatched as mismatched, stored, integer};
+ghost use Rattle.fixed_calc.specs.Step.{AnswerTells, IsApplied, IsCell, StepTells, TakenTells, cell_of, cells_of, seen, state_in, taken_of};
+
+use crate::answer::Answer;
+use crate::cause::Cause;
+use crate::line::{Line, Shape, shape_of};
+use crate::names::{Op, Policy, WordName};
+use crate::number::Literal;
+use crate::projected::answer_in;
+use crate::register::{Register, Taken};
+use fixed_word::{Side, Word, outcome_of};
+
+/// Whether the operation takes the operands of the line.
+fn is_shaped(line: &Line) -> bool
+    ensures yes { result ≡ true → denoted line.now ≡ Some (seen line.now) }
+    ensures no { result ≡ false → denoted line.now ≡ None }
+{
+    match line {
+        Line::Set { .. } => true,
+        Line::One { op, .. } => shape_of(*op) == Shape::Unary,
+        Line::Two { op, .. } => shape_of(*op) == Shape::Binary,
+        Line::Int { op, .. } => shape_of(*op) == Shape::ByInt,
+        Line::Three { op, .. } => shape_of(*op) == Shape::Ternary,
+    }
+}
+
+fn is_signed(word: WordName) -> bool
+    ensures { result ≡ signed word }
+{
+    match word {
+        WordName::I8 | WordName::I16 | WordName::I32 | WordName::I64 => true,
+        WordName::U8 | WordName::U16 | WordName::U32 | WordName::U64 => false,
+    }
+}
+
+#[tactic(auto, unfolding(crate::specs::Offered::is_offered))]
+fn is_offered(word: WordName, policy: Policy, op: Op) -> bool
+    ensures { result ≡ offered (signed word) policy op }
+{
+    match op {
+        Op::Abs | Op::Signum => is_signed(word),
+        Op::Rem | Op::RemInt | Op::RemEuclid => match policy {
+            Policy::Checked | Policy::Strict => true,
+            Policy::Saturating | Policy::Wrapping | Policy::Overflowing => false,
+        },
+        Op::NextPowerOfTwo => match policy {
+            Policy::Checked | Policy::Wrapping | Policy::Strict => !is_signed(word),
+            Policy::Saturating | Policy::Overflowing => false,
+        },
+        _ => true,
+    }
+}
+
+/// Whether the policy has the operation of the line.
+#[tactic(auto, unfolding(crate::specs::Machine::is_unoffered))]
+fn is_unoffered(word: WordName, registers: &[Register], line: &Line) -> bool
+    ensures { result ≡ unoffered (state_in word (cells_of registers.now)) (seen line.now) }
+{
+    match line {
+        Line::Set { .. } => false,
+        Line::One { policy, op, .. }
+        | Line::Two { policy, op, .. }
+        | Line::Int { policy, op, .. }
+        | Line::Three { policy, op, .. } => !is_offered(word, *policy, *op),
+    }
+}
+
+fn fits_as<T: Word>(literal: Literal) -> bool
+    ensures { result ≡ fits T.SIGNED T.BITS (literal_value literal) }
+{
+    outcome_of::<T>(literal.below_zero, literal.magnitude).side == Side::Fits
+}
+
+/// Whether a literal is a value of the word.
+fn is_literal(word: WordName, literal: Literal) -> bool
+    ensures { result ≡ is_value word (literal_value literal) }
+{
+    match word {
+        WordName::I8 => fits_as::<i8>(literal),
+        WordName::I16 => fits_as::<i16>(literal),
+        WordName::I32 => fits_as::<i32>(literal),
+        WordName::I64 => fits_as::<i64>(literal),
+        WordName::U8 => fits_as::<u8>(literal),
+        WordName::U16 => fits_as::<u16>(literal),
+        WordName::U32 => fits_as::<u32>(literal),
+        WordName::U64 => fits_as::<u64>(literal),
+    }
+}
+
+/// Whether a register was not declared.
+fn is_missing(registers: &[Register], index: u128) -> bool
+    ensures { result ≡ nat_le (length (cells_of registers.now)) index }
+{
+    registers.len() as u128 <= index
+}
+
+#[tactic(auto, unfolding(crate::specs::Machine::is_out_of_range))]
+fn is_out_of_range(word: WordName, registers: &[Register], line: &Line) -> bool
+    ensures { result ≡ out_of_range (state_in word (cells_of registers.now)) (seen line.now) }
+{
+    match line {
+        Line::Set { dest, literal } => is_missing(registers, *dest) || !is_literal(word, *literal),
+        Line::One { dest, a, .. } => is_missing(registers, *dest) || is_missing(registers, *a),
+        Line::Two { dest, a, b, .. } => {
+            is_missing(registers, *dest) || is_missing(registers, *a) || is_missing(registers, *b)
+        }
+        Line::Int {
+            dest,
+            a,
+            literal,
+            ..
+        } => {
+            is_missing(registers, *dest) || is_missing(registers, *a) || !is_literal(word, *literal)
+        }
+        Line::Three { dest, a, b, c, .. } => {
+            is_missing(registers, *dest)
+                || is_missing(registers, *a)
+                || is_missing(registers, *b)
+                || is_missing(registers, *c)
+        }
+    }
+}
+
+/// The register of that number.
+fn register_at(registers: &[Register], index: u128) -> Register
+    ensures { cell_of result ≡ cell_in (cells_of registers.now) index }
+{
+    if index < registers.len() as u128 {
+        registers[index as usize]
+    } else {
+        Register {
+            magnitude: 0,
+            fraction: 0,
+            below_zero: false,
+        }
+    }
+}
+
+fn fraction_at(registers: &[Register], index: u128) -> u32
+    ensures { result ≡ (cell_in (cells_of registers.now) index).fraction }
+{
+    register_at(registers, index).fraction
+}
+
+#[tactic(auto, unfolding(crate::specs::Machine::is_mismatched))]
+fn is_mismatched(word: WordName, registers: &[Register], line: &Line) -> bool
+    ensures { result ≡ mismatched (state_in word (cells_of registers.now)) (seen line.now) }
+{
+    match line {
+        Line::Set { .. } => false,
+        Line::One { dest, a, .. } | Line::Int { dest, a, .. } => {
+            fraction_at(registers, *a) != fraction_at(registers, *dest)
+        }
+        Line::Two { dest, a, b, .. } => {
+            let fraction = fraction_at(registers, *dest);
+            fraction_at(registers, *a) != fraction || fraction_at(registers, *b) != fraction
+        }
+        Line::Three { dest, op, a, c, .. } => {
+            let fraction = fraction_at(registers, *dest);
+            match op {
+                Op::AddProd => fraction_at(registers, *a) != fraction,
+                _ => fraction_at(registers, *a) != fraction
+                    || fraction_at(registers, *c) != fraction,
+            }
+        }
+    }
+}
+
+/// An integer as an operand.
+fn integer_of(literal: Literal) -> Register
+    requires { literal.magnitude < 2 ^ 64 }
+    ensures { cell_of result ≡ integer (literal_value literal) }
+{
+    Register {
+        magnitude: literal.magnitude as u64,
+        fraction: 0,
+        below_zero: literal.below_zero,
+    }
+}
+
+/// The operands of a line.
+fn taken_by(word: WordName, registers: &[Register], line: &Line) -> Taken
+    requires { out_of_range (state_in word (cells_of registers.now)) (seen line.now) ≡ false }
+    ensures { TakenTells (cells_of registers.now) (seen line.now) result }
+{
+    let empty = Register {
+        magnitude: 0,
+        fraction: 0,
+        below_zero: false,
+    };
+    match line {
+        Line::Set { .. } => Taken {
+            a: empty,
+            b: empty,
+            c: empty,
+        },
+        Line::One { a, .. } => Taken {
+            a: register_at(registers, *a),
+            b: empty,
+            c: empty,
+        },
+        Line::Two { a, b, .. } => Taken {
+            a: register_at(registers, *a),
+            b: register_at(registers, *b),
+            c: empty,
+        },
+        Line::Int { a, literal, .. } => Taken {
+            a: register_at(registers, *a),
+            b: integer_of(*literal),
+            c: empty,
+        },
+        Line::Three { a, b, c, .. } => Taken {
+            a: register_at(registers, *a),
+            b: register_at(registers, *b),
+            c: register_at(registers, *c),
+        },
+    }
+}
+
+/// The number of a literal.
+fn whole_of(literal: Literal) -> i128
+    requires { literal.magnitude < 2 ^ 64 }
+    ensures { result ≡ literal_value literal }
+{
+    let magnitude = literal.magnitude as i128;
+    if literal.below_zero {
+        -magnitude
+    } else {
+        magnitude
+    }
+}
+
+/// The answer of a line of an operation whose first three tests fail.
+fn applied(
+    word: WordName,
+    registers: &[Register],
+    line: &Line,
+    policy: Policy,
+    op: Op,
+    number: u64,
+) -> Result<Answer, Cause>
+    requires is { IsApplied (seen line.now) policy op }
+    requires offered { unoffered (state_in word (cells_of registers.now)) (seen line.now) ≡ false }
+    requires in_range { out_of_range (state_in word (cells_of registers.now)) (seen line.now) ≡ false }
+    requires one_fraction { mismatched (state_in word (cells_of registers.now)) (seen line.now) ≡ false }
+    requires cells { All (IsCell word) (cells_of registers.now) }
+    ensures { AnswerTells (state_in word (cells_of registers.now)) (seen line.now) number result }
+{
+    let taken = taken_by(word, registers, line);
+    answer_in(word, policy, op, &taken, number)
+}
+
+/// The answer of a line whose first three tests fail.
+fn answer_of(
+    word: WordName,
+    registers: &[Register],
+    line: &Line,
+    number: u64,
+) -> Result<Answer, Cause>
+    requires offered { unoffered (state_in word (cells_of registers.now)) (seen line.now) ≡ false }
+    requires in_range { out_of_range (state_in word (cells_of registers.now)) (seen line.now) ≡ false }
+    requires one_fraction { mismatched (state_in word (cells_of registers.now)) (seen line.now) ≡ false }
+    requires cells { All (IsCell word) (cells_of registers.now) }
+    ensures { AnswerTells (state_in word (cells_of registers.now)) (seen line.now) number result }
+{
+    match line {
+        Line::Set { literal, .. } => Ok(Answer::Bits(whole_of(*literal))),
+        Line::One { policy, op, .. } => applied(word, registers, line, *policy, *op, number),
+        Line::Two { policy, op, .. } => applied(word, registers, line, *policy, *op, number),
+        Line::Int { policy, op, .. } => applied(word, registers, line, *policy, *op, number),
+        Line::Three { policy, op, .. } => applied(word, registers, line, *policy, *op, number),
+    }
+}
+
+/// The answer of a line, or its cause.
+fn checked_answer(
+    word: WordName,
+    registers: &[Register],
+    line: &Line,
+    number: u64,
+) -> Result<Answer, Cause>
+    requires { All (IsCell word) (cells_of registers.now) }
+    ensures { AnswerTells (state_in word (cells_of registers.now)) (seen line.now) number result }
+{
+    if is_unoffered(word, registers, line) {
+        return Err(Cause::Syntax(number));
+    }
+    if is_out_of_range(word, registers, line) {
+        return Err(Cause::OutOfRange(number));
+    }
+    if is_mismatched(word, registers, line) {
+        return Err(Cause::FractionMismatch(number));
+    }
+    answer_of(word, registers, line, number)
+}
+
+fn destination(line: &Line) -> u128
+    ensures { result ≡ destination_of (seen line.now) }
+{
+    match line {
+        Line::Set { dest, .. }
+        | Line::One { dest, .. }
+        | Line::Two { dest, .. }
+        | Line::Int { dest, .. }
+        | Line::Three { dest, .. } => *dest,
+    }
+}
+
+/// Stores a number in a register.
+fn store(registers: &mut [Register], dest: u128, x: i128)
+    requires there { dest < length registers.old }
+    requires size { unsigned_abs x < 2 ^ 64 }
+    ensures { cells_of registers.new ≡ set (cells_of registers.old) dest
+        (record { bits = x; fraction = (cell_in (cells_of registers.old) dest).fraction }) }
+{
+    let register = &mut registers[dest as usize];
+    register.below_zero = x < 0;
+    register.magnitude = x.unsigned_abs() as u64;
+}
+
+/// One line over the registers.
+pub fn step_registers(
+    word: WordName,
+    registers: &mut [Register],
+    line: &Line,
+    number: u64,
+) -> Result<Answer, Cause>
+    requires { All (IsCell word) (cells_of registers.old) }
+    ensures tells { StepTells (state_in word (cells_of registers.old)) (denoted line.now) number result (cells_of registers.new) }
+    ensures kept { All (IsCell word) (cells_of registers.new) }
+{
+    if !is_shaped(line) {
+        return Err(Cause::Syntax(number));
+    }
+    let answer = match checked_answer(word, registers, line, number) {
+        Ok(answer) => answer,
+        Err(cause) => return Err(cause),
+    };
+    match answer {
+        Answer::Absent => Ok(answer),
+        Answer::Bits(x) => {
+            store(registers, destination(line), x);
+            Ok(answer)
+        }
+        Answer::Flagged(x, _) => {
+            store(registers, destination(line), x);
+            Ok(answer)
+        }
+    }
+}

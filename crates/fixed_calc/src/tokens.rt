@@ -1,0 +1,91 @@
+//! The tokens of a line: the parts between its spaces.
+
+ghost use Rattle.std.specs.Prelude.{◌≡◌, [], ◌∷◌, ◌==◌, MatchOption, IfSome, IfNone, Some, None, length, ◌<◌};
+ghost use Rattle.std.specs.List.{position};
+ghost use Rattle.fixed_calc.specs.Names.{op_named};
+ghost use Rattle.fixed_calc.specs.Parser.{tokens_of, tokens_left, next_by, register_at, literal_at};
+
+use crate::names::{Op, op_of};
+use crate::number::{Literal, literal_of, register_of};
+use std::marker::Model;
+
+/// Where the byte stands first.
+pub(crate) fn first_place(bytes: &[u8], byte: u8) -> Option<usize>
+    ensures { result ≡ position (λ b. b == byte) bytes.now }
+{
+    bytes.iter().position(|b| *b == byte)
+}
+
+/// The first token of a piece, and what comes after its space, if it has one.
+pub(crate) fn cut(piece: &[u8]) -> (&[u8], Option<&[u8]>)
+    ensures { tokens_of piece.now ≡ result.0.now ∷ tokens_left result.1 }
+{
+    match first_place(piece, b' ') {
+        Some(at) => (&piece[..at], Some(&piece[at + 1..])),
+        None => (piece, None),
+    }
+}
+
+/// The tokens of a piece that are still to come. Contracts see them as a list.
+#[derive(Drop)]
+pub struct Tokens<'a> {
+    rest: Option<&'a [u8]>,
+}
+
+impl<'a> Model for Tokens<'a> {
+    ghost use Rattle.std.specs.Prelude.{ℕ, List};
+    ghost use Rattle.fixed_calc.specs.Parser.{tokens_left};
+
+    ghost Value = { List (List ℕ) };
+
+    ghost view = { λ t. tokens_left t.rest };
+}
+
+impl<'a> Tokens<'a> {
+    pub fn new(piece: &'a [u8]) -> Self
+        ensures { result ≡ tokens_of piece.now }
+    {
+        Tokens { rest: Some(piece) }
+    }
+
+    /// Takes the next token.
+    pub fn take(&mut self) -> Option<&'a [u8]>
+        ensures { MatchOption result ((self.old ≡ []) × (self.new ≡ [])) (λ t. self.old ≡ t.now ∷ self.new) }
+    {
+        let piece = self.rest?;
+        let (token, rest) = cut(piece);
+        self.rest = rest;
+        Some(token)
+    }
+
+    /// Takes the next token, a register.
+    pub fn register(&mut self) -> Option<u128>
+        ensures some { IfSome result (λ n. next_by register_at self.old ≡ Some (n, self.new)) }
+        ensures none { IfNone result (next_by register_at self.old ≡ None) }
+    {
+        register_of(self.take()?)
+    }
+
+    /// Takes the next token, a whole number.
+    pub fn literal(&mut self) -> Option<Literal>
+        ensures some { IfSome result (λ n. next_by literal_at self.old ≡ Some (n, self.new)) }
+        ensures none { IfNone result (next_by literal_at self.old ≡ None) }
+    {
+        literal_of(self.take()?)
+    }
+
+    /// Takes the next token, an operation.
+    pub fn op(&mut self) -> Option<Op>
+        ensures some { IfSome result (λ n. next_by op_named self.old ≡ Some (n, self.new)) }
+        ensures none { IfNone result (next_by op_named self.old ≡ None) }
+    {
+        op_of(self.take()?)
+    }
+
+    /// Whether no token is left.
+    pub fn is_empty(&self) -> bool
+        ensures { result ≡ (length self.now == 0) }
+    {
+        self.rest.is_none()
+    }
+}

@@ -1,0 +1,24 @@
+//! Writing to a sink until all is taken.
+
+ghost use Rattle.std.specs.Prelude.{MatchResult};
+ghost use Rattle.std.specs.Io.KnownBytes.{Appends};
+ghost use Rattle.fixed_calc.specs.Outside.{TellsRefusals};
+ghost use Rattle.fixed_calc.specs.Headline.{AppendsProperPrefix};
+
+use crate::outside::{Refusal, Sink};
+
+/// Offers all that is left, until none is left or a write is refused.
+pub(crate) fn write_all<K: Sink>(bytes: &[u8], sink: &mut K) -> Result<(), Refusal>
+    ensures bytes { MatchResult result (λ _. Appends (K.state sink.old).taken (K.state sink.new).taken bytes.now)
+        (λ _. AppendsProperPrefix (K.state sink.old).taken (K.state sink.new).taken bytes.now) }
+    ensures counts { TellsRefusals (K.state sink.old) (K.state sink.new) result }
+{
+    let mut at = 0;
+    while at < bytes.len() {
+        match sink.write(&bytes[at..]) {
+            Ok(count) => at += count,
+            Err(refusal) => return Err(refusal),
+        }
+    }
+    Ok(())
+}

@@ -1,0 +1,4 @@
+pub mod Alikes
+pub mod PowersOfTwo
+pub mod Room
+pub mod Sqrts

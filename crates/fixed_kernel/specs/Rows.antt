@@ -1,0 +1,143 @@
+-- The exact number of each operation: a whole number of units of the result, without a bound.
+-- a, b, c and m are the operands' bits, k an integer, f the fraction of a, g and h those of the other factors.
+-- A row is that number, or nothing where the operation has none.
+use Rattle.std.specs.Prelude.{◌^◌, ◌+◌, ◌*◌, ◌+ℤ◌, ◌-ℤ◌, ◌*ℤ◌, ℕ, ℤ, pos, neg_ℤ, negsuc, zero, suc, unsigned_abs, nat_le, Option, Some, None, if◌then◌else◌}
+use Rattle.fixed_word.specs.Quotient.{floor_quotient, truncated_quotient, euclidean_quotient, euclidean_remainder}
+use Rattle.fixed_root.specs.Root.{root_of}
+
+-- x, where d is not 0
+abbrev pub by_divisor : ℤ → ℤ → Option ℤ
+by_divisor (pos zero) x = None
+by_divisor (pos (suc n)) x = Some x
+by_divisor (negsuc n) x = Some x
+
+-- x, where a is not below 0
+abbrev pub by_sign : ℤ → ℤ → Option ℤ
+by_sign (pos n) x = Some x
+by_sign (negsuc n) x = None
+
+-- k as a number of units
+abbrev pub units : ℤ → ℕ → ℤ
+units k f = k *ℤ pos (2 ^ f)
+
+-- ---- sums
+abbrev pub exact_neg : ℤ → ℤ
+exact_neg a = neg_ℤ a
+
+abbrev pub exact_add : ℤ → ℤ → ℤ
+exact_add a b = a +ℤ b
+
+abbrev pub exact_sub : ℤ → ℤ → ℤ
+exact_sub a b = a -ℤ b
+
+abbrev pub exact_dist : ℤ → ℤ → ℤ
+exact_dist a b = pos (unsigned_abs (a -ℤ b))
+
+abbrev pub exact_abs : ℤ → ℤ
+exact_abs a = pos (unsigned_abs a)
+
+abbrev pub exact_signum : ℤ → ℕ → ℤ
+exact_signum (pos zero) f = pos 0
+exact_signum (pos (suc a)) f = pos (2 ^ f)
+exact_signum (negsuc a) f = neg_ℤ (pos (2 ^ f))
+
+-- ---- products, rounded down
+abbrev pub exact_mul : ℤ → ℤ → ℕ → ℤ
+exact_mul a b f = floor_quotient (a *ℤ b) (2 ^ f)
+
+abbrev pub exact_mul_int : ℤ → ℤ → ℤ
+exact_mul_int a k = a *ℤ k
+
+-- g is the fraction of m
+abbrev pub exact_mul_add : ℤ → ℤ → ℤ → ℕ → ℤ
+exact_mul_add a m c g = floor_quotient (a *ℤ m) (2 ^ g) +ℤ c
+
+-- the product moves down by s places, or up by -s, to the places of c
+abbrev pub exact_add_prod_at : ℤ → ℤ → ℤ → ℤ → ℤ
+exact_add_prod_at c a b (pos s) = floor_quotient (a *ℤ b) (2 ^ s) +ℤ c
+exact_add_prod_at c a b (negsuc t) = (a *ℤ b) *ℤ pos (2 ^ suc t) +ℤ c
+
+-- f is the fraction of c, g that of a and h that of b
+abbrev pub exact_add_prod : ℤ → ℤ → ℤ → ℕ → ℕ → ℕ → ℤ
+exact_add_prod c a b f g h = exact_add_prod_at c a b (pos (g + h) -ℤ pos f)
+
+-- ---- quotients, rounded toward zero
+abbrev pub exact_div : ℤ → ℤ → ℕ → ℤ
+exact_div a b f = truncated_quotient (a *ℤ pos (2 ^ f)) b
+
+abbrev pub exact_div_int : ℤ → ℤ → ℤ
+exact_div_int a k = truncated_quotient a k
+
+abbrev pub exact_recip : ℤ → ℕ → ℤ
+exact_recip a f = truncated_quotient (pos (2 ^ (2 * f))) a
+
+-- ---- Euclidean quotients, as whole numbers
+abbrev pub exact_div_euclid : ℤ → ℤ → ℕ → ℤ
+exact_div_euclid a b f = euclidean_quotient a b *ℤ pos (2 ^ f)
+
+abbrev pub exact_div_euclid_int : ℤ → ℤ → ℕ → ℤ
+exact_div_euclid_int a k f = exact_div_euclid a (units k f) f
+
+-- ---- remainders
+abbrev pub exact_rem : ℤ → ℤ → ℤ
+exact_rem a b = a -ℤ b *ℤ truncated_quotient a b
+
+abbrev pub exact_rem_int : ℤ → ℤ → ℕ → ℤ
+exact_rem_int a k f = exact_rem a (units k f)
+
+abbrev pub exact_rem_euclid : ℤ → ℤ → ℤ
+exact_rem_euclid a b = euclidean_remainder a b
+
+abbrev pub exact_rem_euclid_int : ℤ → ℤ → ℕ → ℤ
+exact_rem_euclid_int a k f = exact_rem_euclid a (units k f)
+
+-- from a up to a multiple of b above 0, or down to one of b below 0
+abbrev pub exact_next_multiple_of : ℤ → ℤ → ℤ
+exact_next_multiple_of a (pos b) = a +ℤ euclidean_remainder (neg_ℤ a) (pos b)
+exact_next_multiple_of a (negsuc b) = a -ℤ euclidean_remainder a (negsuc b)
+
+-- ---- roots and powers
+abbrev pub exact_sqrt : ℤ → ℕ → ℤ
+exact_sqrt a f = root_of a f
+
+-- the least power of two that is at least n
+unfoldable pub power_over : ℕ → ℕ
+power_over zero = 1
+power_over (suc n) = if nat_le (suc n) (power_over n) then power_over n else 2 * power_over n
+
+abbrev pub exact_next_power_of_two : ℤ → ℤ
+exact_next_power_of_two a = pos (power_over (unsigned_abs a))
+
+-- ---- the rows that are undefined somewhere
+abbrev pub row_div : ℤ → ℤ → ℕ → Option ℤ
+row_div a b f = by_divisor b (exact_div a b f)
+
+abbrev pub row_div_int : ℤ → ℤ → Option ℤ
+row_div_int a k = by_divisor k (exact_div_int a k)
+
+abbrev pub row_recip : ℤ → ℕ → Option ℤ
+row_recip a f = by_divisor a (exact_recip a f)
+
+abbrev pub row_div_euclid : ℤ → ℤ → ℕ → Option ℤ
+row_div_euclid a b f = by_divisor b (exact_div_euclid a b f)
+
+abbrev pub row_div_euclid_int : ℤ → ℤ → ℕ → Option ℤ
+row_div_euclid_int a k f = by_divisor k (exact_div_euclid_int a k f)
+
+abbrev pub row_rem : ℤ → ℤ → Option ℤ
+row_rem a b = by_divisor b (exact_rem a b)
+
+abbrev pub row_rem_int : ℤ → ℤ → ℕ → Option ℤ
+row_rem_int a k f = by_divisor k (exact_rem_int a k f)
+
+abbrev pub row_rem_euclid : ℤ → ℤ → Option ℤ
+row_rem_euclid a b = by_divisor b (exact_rem_euclid a b)
+
+abbrev pub row_rem_euclid_int : ℤ → ℤ → ℕ → Option ℤ
+row_rem_euclid_int a k f = by_divisor k (exact_rem_euclid_int a k f)
+
+abbrev pub row_next_multiple_of : ℤ → ℤ → Option ℤ
+row_next_multiple_of a b = by_divisor b (exact_next_multiple_of a b)
+
+abbrev pub row_sqrt : ℤ → ℕ → Option ℤ
+row_sqrt a f = by_sign a (exact_sqrt a f)

@@ -1,0 +1,19 @@
+//! The operations of fixed-point numbers on their bits, at run time.
+//!
+//! Each function answers an [`Outcome`](fixed_word::Outcome) that stands for the exact number of its
+//! operation: what is left of it in the word, and whether it fits, lies above or lies below. Bits and
+//! numbers are whole numbers of units of `2^-frac`. No function takes memory.
+#![tactic(auto)]
+
+mod powers;
+mod products;
+mod quotients;
+mod remainders;
+mod sums;
+mod wide;
+
+pub use powers::{next_power_of_two_of, sqrt_of};
+pub use products::{add_prod_of, mul_add_of, mul_int_of, mul_of};
+pub use quotients::{div_euclid_int_of, div_euclid_of, div_int_of, div_of, recip_of};
+pub use remainders::{next_multiple_of_of, rem_euclid_int_of, rem_euclid_of, rem_int_of, rem_of};
+pub use sums::{abs_of, add_of, dist_of, neg_of, signum_of, sub_of};

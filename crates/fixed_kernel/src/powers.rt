@@ -1,0 +1,40 @@
+//! Square roots and powers of two.
+
+ghost use Rattle.std.specs.Prelude.{◌≡◌, ◌≤◌, ◌<◌, ◌^◌, ◌≤ℤ◌, pos, false};
+ghost use Rattle.fixed_word.specs.Standing.{StandsFor};
+ghost use Rattle.fixed_kernel.specs.Rows.{exact_next_power_of_two, exact_sqrt, power_over};
+
+use crate::wide::Wide;
+use fixed_root::root;
+use fixed_word::{Outcome, RawWord, Silent, Steps, Word, outcome_of};
+
+/// The root of `a 2^frac`, rounded down, for `a` not below 0.
+pub fn sqrt_of<T: Word>(a: T, frac: u32) -> Outcome<T>
+    requires frac { frac ≤ T.BITS }
+    requires sign { pos 0 ≤ℤ T.value a }
+    ensures { StandsFor T.value T.SIGNED T.BITS (exact_sqrt (T.value a) frac) result }
+{
+    let mut steps = Steps::new(Silent::new());
+    let found = root(a.to_unsigned(), frac, &mut steps);
+    outcome_of(false, found.magnitude() as u128)
+}
+
+/// The least power of two that is at least `number`.
+fn power_over_of(number: u128) -> u128
+    requires { number < 2 ^ 64 }
+    ensures { result ≡ power_over number }
+{
+    number.next_power_of_two()
+}
+
+/// The least power of two that is at least `a`, on an unsigned word.
+pub fn next_power_of_two_of<T: Word>(a: T) -> Outcome<T>
+    requires { T.SIGNED ≡ false }
+    ensures { StandsFor T.value T.SIGNED T.BITS (exact_next_power_of_two (T.value a)) result }
+{
+    Wide {
+        below_zero: false,
+        magnitude: power_over_of(Wide::of(a).magnitude),
+    }
+    .outcome()
+}

@@ -1,0 +1,6 @@
+mod Exacts
+mod Squares
+mod Digits
+mod Turns
+mod Doubled
+pub mod RootLaws

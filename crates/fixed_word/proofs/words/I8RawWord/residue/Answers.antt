@@ -1,0 +1,7 @@
+use Rattle.std.specs.Int.{w8}
+use Rattle.fixed_word.specs.Format.{with_sign}
+use Rattle.fixed_word.specs.WordLaws.{signed_bits}
+use Rattle.fixed_word.proofs.words.I8RawWord.residue.Goals as goal
+
+pub returns : goal.returns
+returns c = signed_bits w8 (with_sign c.args.below_zero c.args.magnitude) c.cast_signed.result c.residue.result (record { sfits = c.cast_signed.type_inv }) c.cast_signed.ensures c.residue.type_inv c.residue.ensures

@@ -1,0 +1,10 @@
+pub mod Format
+pub mod Quotient
+pub mod Standing
+pub mod Policies
+pub mod Decimal
+pub mod Pieces
+pub mod Digit
+pub mod Ticks
+pub mod Wraps
+pub mod WordLaws

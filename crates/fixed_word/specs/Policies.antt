@@ -1,0 +1,25 @@
+-- What each policy makes of a row: of a number without a bound, or of nothing where the row is undefined.
+use Rattle.std.specs.Prelude.{ℕ, ℤ, Bool, not, Option, Some, None, if◌then◌else◌}
+use Rattle.std.specs.Option.{option_map}
+use Rattle.fixed_word.specs.Format.{fits, clamp, wrap}
+
+-- the number where there is one that fits, and otherwise nothing
+abbrev pub checked : Bool → ℕ → Option ℤ → Option ℤ
+checked signed n None = None
+checked signed n (Some x) = if fits signed n x then Some x else None
+
+-- the nearest number that fits
+abbrev pub saturating : Bool → ℕ → Option ℤ → Option ℤ
+saturating signed n row = option_map (clamp signed n) row
+
+-- the number that fits and differs by a multiple of 2 ^ n
+abbrev pub wrapping : Bool → ℕ → Option ℤ → Option ℤ
+wrapping signed n row = option_map (wrap signed n) row
+
+-- the same, and the verdict "the number does not fit"
+abbrev pub overflowing : Bool → ℕ → Option ℤ → Option (ℤ × Bool)
+overflowing signed n row = option_map (λ x. (wrap signed n x, not (fits signed n x))) row
+
+-- the row as it stands, which is used only where its number fits
+abbrev pub strict : Option ℤ → Option ℤ
+strict row = row
