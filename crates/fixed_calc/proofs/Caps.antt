@@ -90,10 +90,10 @@ same_line s (Apply dest policy op (ThreeRegisters a b c)) h e =
     let u = either_false (nat_le n c) false t.1 in
     rw (cap_there n dest h q.0, cap_there n a h r.0, cap_there n b h t.0, cap_there n c h u.0) refl
 
-same_offer : (s : State) (l : ScriptLine) → is_unoffered s (capped l) ≡ is_unoffered s l
+same_offer : (w : WordName) (l : ScriptLine) → is_unoffered w (capped l) ≡ is_unoffered w l
 unfolding is_unoffered
-same_offer s (SetTo dest k) = refl
-same_offer s (Apply dest policy op xs) = refl
+same_offer w (SetTo dest k) = refl
+same_offer w (Apply dest policy op xs) = refl
 
 -- what comes after a test that holds is not looked at
 blocked : (k : ℕ) (u o : Bool) (xs ys : List (Bool × Cause)) → o ≡ true → first_of ((u, Syntax k) ∷ (o, OutOfRange k) ∷ xs) ≡ first_of ((u, Syntax k) ∷ (o, OutOfRange k) ∷ ys)
@@ -105,8 +105,8 @@ same_cause s l k h = by_range (is_out_of_range s l) refl
     by_range : (b : Bool) → is_out_of_range s l ≡ b → cause s (capped l) k ≡ cause s l k
     by_range false e = ap (λ (m : ScriptLine). cause s m k) (same_line s l h e)
     by_range true e =
-        rw (same_offer s l, same_range s l h)
-        (blocked k (is_unoffered s l) (is_out_of_range s l) ((is_mismatched s (capped l), FractionMismatch k) ∷ causes_of s (capped l) k) ((is_mismatched s l, FractionMismatch k) ∷ causes_of s l k) e)
+        rw (same_offer s.word l, same_range s l h)
+        (blocked k (is_unoffered s.word l) (is_out_of_range s l) ((is_mismatched s (capped l), FractionMismatch k) ∷ causes_of s (capped l) k) ((is_mismatched s l, FractionMismatch k) ∷ causes_of s l k) e)
 
 pub caps_alike : CapsAlike
 caps_alike s l k h = (

@@ -29,7 +29,7 @@ use Rattle.fixed_calc.proofs.Fits.{wrap_fits, clamp_fits, value_small}
 
 -- a line whose first three tests fail
 pub record PassesTests (s : State) (line : ScriptLine) : Type 0 where
-  pub offered : is_unoffered s line ≡ false
+  pub offered : is_unoffered s.word line ≡ false
   pub in_range : is_out_of_range s line ≡ false
   pub one_fraction : is_mismatched s line ≡ false
 
@@ -106,7 +106,7 @@ by_tests k false false false rest h = (refl, refl, refl, h)
 
 pub no_cause : (s : State) (line : ScriptLine) (k : ℕ) → cause s line k ≡ None → PassesTests s line × (first_of (causes_of s line k) ≡ None)
 no_cause s line k h =
-    let p = by_tests k (is_unoffered s line) (is_out_of_range s line) (is_mismatched s line) (causes_of s line k) h in
+    let p = by_tests k (is_unoffered s.word line) (is_out_of_range s line) (is_mismatched s line) (causes_of s line k) h in
     (record { offered = p.0; in_range = p.1; one_fraction = p.2 }, p.3)
 
 -- the number of an answer is a value of the word
@@ -190,9 +190,9 @@ taken_cells s dest policy op (RegisterAndInt a k) all h =
 taken_cells s dest policy op (ThreeRegisters a b c) all h =
     record { a = cell_is s.word s.registers a all; b = cell_is s.word s.registers b all; c = cell_is s.word s.registers c all }
 
-pub apply_offered : (s : State) (dest : ℕ) (policy : Policy) (op : Op) (xs : Operands) → is_unoffered s (Apply dest policy op xs) ≡ false → is_offered (is_signed s.word) policy op ≡ true
+pub apply_offered : (w : WordName) (dest : ℕ) (policy : Policy) (op : Op) (xs : Operands) → is_unoffered w (Apply dest policy op xs) ≡ false → is_offered (is_signed w) policy op ≡ true
 unfolding is_unoffered
-apply_offered s dest policy op xs h = not_not (is_offered (is_signed s.word) policy op) h
+apply_offered w dest policy op xs h = not_not (is_offered (is_signed w) policy op) h
 
 -- the registers that were taken for a line are those of its operands
 pub record Ready (s : State) (policy : Policy) (op : Op) (t : Taken) : Type 0 where
@@ -202,7 +202,7 @@ pub record Ready (s : State) (policy : Policy) (op : Op) (t : Taken) : Type 0 wh
 pub ready : (s : State) (line : ScriptLine) (policy : Policy) (op : Op) (t : RegistersTaken) → IsApplied line policy op → PassesTests s line → All (IsCell s.word) s.registers → TakenTells s.registers line t → Ready s policy op (taken_of t)
 ready s (SetTo dest x) policy op t is tests all tells = absurd is
 ready s (Apply dest q r xs) policy op t is tests all tells = record {
-  offered = apply_offered s dest policy op xs (rw (is.0, is.1) at tests.offered);
+  offered = apply_offered s.word dest policy op xs (rw (is.0, is.1) at tests.offered);
   cells = subst (TakenCells s.word) (sym tells) (taken_cells s dest q r xs all tests.in_range);
 }
 

@@ -110,9 +110,9 @@ abbrev pub row_of : Op → Taken → Option ℤ
 row_of op t = exact op t.a.bits t.b.bits t.c.bits t.a.fraction t.b.fraction t.c.fraction
 
 -- ---- causes
-unfoldable pub is_unoffered : State → ScriptLine → Bool
-is_unoffered s (SetTo dest k) = false
-is_unoffered s (Apply dest policy op xs) = not (is_offered (is_signed s.word) policy op)
+unfoldable pub is_unoffered : WordName → ScriptLine → Bool
+is_unoffered word (SetTo dest k) = false
+is_unoffered word (Apply dest policy op xs) = not (is_offered (is_signed word) policy op)
 
 unfoldable pub is_out_of_range : State → ScriptLine → Bool
 is_out_of_range s line = list_any (λ r. nat_le (length s.registers) r) (registers_of line) || list_any (λ k. not (is_value s.word k)) (literals_of line)
@@ -147,7 +147,7 @@ first_of (p ∷ ps) = if p.0 then Some p.1 else first_of ps
 
 abbrev pub cause : State → ScriptLine → ℕ → Option Cause
 cause s line k =
-    first_of ((is_unoffered s line, Syntax k) ∷ (is_out_of_range s line, OutOfRange k) ∷ (is_mismatched s line, FractionMismatch k) ∷ causes_of s line k)
+    first_of ((is_unoffered s.word line, Syntax k) ∷ (is_out_of_range s line, OutOfRange k) ∷ (is_mismatched s line, FractionMismatch k) ∷ causes_of s line k)
 
 -- ---- moves
 unfoldable pub answer : State → ScriptLine → Answer

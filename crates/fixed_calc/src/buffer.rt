@@ -10,7 +10,7 @@ use std::marker::Model;
 
 /// Bytes, with room for a fixed number of them.
 #[derive(Drop)]
-pub struct Buffer {
+pub(crate) struct Buffer {
     held: Vec<u8>,
     most: usize,
 }
@@ -29,34 +29,36 @@ impl Model for Buffer {
 
 impl Buffer {
     /// Empty, with room for so many bytes.
-    pub fn with_room(alloc: Global, room: usize) -> Result<Self, AllocError>
+    pub(crate) fn with_room(alloc: Global, room: usize) -> Result<Self, AllocError>
         ensures { IfOk result (λ b. b ≡ record { bytes = []; room = room }) }
     {
         let held = Vec::with_capacity(alloc, room)?;
         Ok(Buffer { held, most: room })
     }
 
-    pub fn room(&self) -> usize
+    /// For how many bytes there is room.
+    pub(crate) fn room(&self) -> usize
         ensures { result ≡ self.now.room }
     {
         self.most
     }
 
-    pub fn bytes(&self) -> &[u8]
+    /// The bytes.
+    pub(crate) fn bytes(&self) -> &[u8]
         ensures { result.now ≡ self.now.bytes }
     {
         self.held.as_slice()
     }
 
     /// Takes all bytes out; the room stays.
-    pub fn clear(&mut self)
+    pub(crate) fn clear(&mut self)
         ensures { self.new ≡ record { bytes = []; room = self.old.room } }
     {
         self.held.clear();
     }
 
     /// Adds the text of an answer, for which there is room.
-    pub fn push(&mut self, answer: Answer)
+    pub(crate) fn push(&mut self, answer: Answer)
         requires { length self.old.bytes + length (answer_text answer) ≤ self.old.room }
         ensures { self.new ≡ record { bytes = self.old.bytes ++ answer_text answer; room = self.old.room } }
     {

@@ -11,7 +11,8 @@ use crate::number::{is_decimal, value_of};
 use crate::tokens::{Tokens, cut};
 use std::marker::Model;
 
-/// A header, which borrows its text.
+/// A header, which borrows its text. Contracts see it as its word and its fractions, of which one of
+/// `2^64` or more is held as `2^64`.
 #[derive(Drop)]
 pub struct Header<'a> {
     word: WordName,
@@ -31,13 +32,14 @@ impl<'a> Model for Header<'a> {
 }
 
 impl<'a> Header<'a> {
+    /// The word.
     pub fn word(&self) -> WordName
         ensures { result ≡ self.now.word }
     {
         self.word
     }
 
-    /// The fractions in order, capped.
+    /// The fractions in order, one for each register.
     pub fn fractions(&self) -> Fractions<'_>
         ensures { result ≡ self.now.fractions }
     {
@@ -94,7 +96,8 @@ fn all_decimal(bytes: &[u8]) -> bool
     true
 }
 
-/// The header whose text the piece is.
+/// The header whose text the piece is, without its newline; None exactly where no header has that text
+/// (this project's own).
 pub fn parse_header(piece: &[u8]) -> Option<Header<'_>>
     // None exactly where the piece is no header's text.
     ensures none { IfNone result ((header : ScriptHeader) → header_text header ≡ piece.now → ⊥) }

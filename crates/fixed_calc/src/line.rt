@@ -10,16 +10,17 @@ use crate::number::Literal;
 use crate::tokens::Tokens;
 
 /// Which operands an operation takes.
-#[derive(Clone, Copy, Debug, PartialEq, Eq, Drop)]
-pub enum Shape {
+#[derive(Clone, Copy, Debug, PartialEq, Eq)]
+pub(crate) enum Shape {
     Unary,
     Binary,
     ByInt,
     Ternary,
 }
 
-/// A line after the header, with its numbers capped.
-#[derive(Clone, Copy, Debug, PartialEq, Eq, Drop)]
+/// A line after the header. Registers and literals stand in the order of the text; a number of `2^64` or
+/// more is held as `2^64`, which is no declared register and no value of any word.
+#[derive(Clone, Copy, Debug, PartialEq, Eq)]
 pub enum Line {
     Set {
         dest: u128,
@@ -56,7 +57,7 @@ pub enum Line {
 }
 
 /// Which operands the operation takes.
-pub fn shape_of(op: Op) -> Shape
+pub(crate) fn shape_of(op: Op) -> Shape
     ensures { result ≡ shape op }
 {
     match op {
@@ -171,7 +172,8 @@ fn read_line(mut tokens: Tokens<'_>) -> Option<Line>
     }
 }
 
-/// The line whose text the piece is.
+/// The line whose text the piece is, without its newline; None exactly where no line has that text (this
+/// project's own).
 pub fn parse_line(piece: &[u8]) -> Option<Line>
     // None exactly where the piece is no line's text.
     ensures none { IfNone result ((line : ScriptLine) → IsLine line → line_text line ≡ piece.now → ⊥) }

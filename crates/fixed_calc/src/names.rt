@@ -3,7 +3,8 @@
 ghost use Rattle.std.specs.Prelude.{◌≡◌};
 ghost use Rattle.fixed_calc.specs.Names.{word_named, policy_named, op_named};
 
-#[derive(Clone, Copy, Debug, PartialEq, Eq, Drop)]
+/// The word of a script, by its name: `i8 i16 i32 i64 u8 u16 u32 u64`.
+#[derive(Clone, Copy, Debug, PartialEq, Eq)]
 pub enum WordName {
     I8,
     I16,
@@ -15,7 +16,8 @@ pub enum WordName {
     U64,
 }
 
-#[derive(Clone, Copy, Debug, PartialEq, Eq, Drop)]
+/// A policy, by its name: `checked saturating wrapping overflowing strict`.
+#[derive(Clone, Copy, Debug, PartialEq, Eq)]
 pub enum Policy {
     Checked,
     Saturating,
@@ -24,7 +26,8 @@ pub enum Policy {
     Strict,
 }
 
-#[derive(Clone, Copy, Debug, PartialEq, Eq, Drop)]
+/// An operation, by its name, which is the variant's in snake case.
+#[derive(Clone, Copy, Debug, PartialEq, Eq)]
 pub enum Op {
     Neg,
     Add,
@@ -50,7 +53,8 @@ pub enum Op {
     NextPowerOfTwo,
 }
 
-pub fn word_of(token: &[u8]) -> Option<WordName>
+/// The word of that name.
+pub(crate) fn word_of(token: &[u8]) -> Option<WordName>
     ensures { result ≡ word_named token.now }
 {
     if token == b"i8".as_slice() {
@@ -74,7 +78,8 @@ pub fn word_of(token: &[u8]) -> Option<WordName>
     }
 }
 
-pub fn policy_of(token: &[u8]) -> Option<Policy>
+/// The policy of that name.
+pub(crate) fn policy_of(token: &[u8]) -> Option<Policy>
     ensures { result ≡ policy_named token.now }
 {
     if token == b"checked".as_slice() {
@@ -92,7 +97,8 @@ pub fn policy_of(token: &[u8]) -> Option<Policy>
     }
 }
 
-pub fn op_of(token: &[u8]) -> Option<Op>
+/// The operation of that name.
+pub(crate) fn op_of(token: &[u8]) -> Option<Op>
     ensures { result ≡ op_named token.now }
 {
     if token == b"neg".as_slice() {

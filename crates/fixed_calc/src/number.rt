@@ -8,10 +8,11 @@ ghost use Rattle.fixed_calc.specs.Parser.{is_decimal, natural_at, register_at, l
 ghost use Rattle.fixed_calc.specs.Capped.{cap};
 
 /// What stands for each number that is as large or larger.
-pub const CAP: u128 = 18_446_744_073_709_551_616;
+pub(crate) const CAP: u128 = 18_446_744_073_709_551_616;
 
-/// A whole number of a script: its sign, and its magnitude, capped.
-#[derive(Clone, Copy, Debug, PartialEq, Eq, Drop)]
+/// A whole number of a script: its sign, and its magnitude. A magnitude of `2^64` or more is held as
+/// `2^64`, which is no value of any word.
+#[derive(Clone, Copy, Debug, PartialEq, Eq)]
 pub struct Literal {
     pub below_zero: bool,
     pub magnitude: u128,
@@ -47,7 +48,7 @@ pub(crate) fn value_of(digits: &[u8]) -> u128
 
 /// A natural number.
 #[tactic(auto, unfolding(crate::specs::Parser::natural_at))]
-pub fn natural_of(token: &[u8]) -> Option<u128>
+pub(crate) fn natural_of(token: &[u8]) -> Option<u128>
     ensures { result ≡ natural_at token.now }
 {
     if is_decimal(token) {
@@ -59,7 +60,7 @@ pub fn natural_of(token: &[u8]) -> Option<u128>
 
 /// The number of a register.
 #[tactic(auto, unfolding(crate::specs::Parser::register_at))]
-pub fn register_of(token: &[u8]) -> Option<u128>
+pub(crate) fn register_of(token: &[u8]) -> Option<u128>
     ensures { result ≡ register_at token.now }
 {
     match token {
@@ -81,7 +82,7 @@ fn sign_of(token: &[u8]) -> (bool, &[u8])
 
 /// A whole number, which may have a minus, but no minus before 0.
 #[tactic(auto, unfolding(crate::specs::Parser::literal_at))]
-pub fn literal_of(token: &[u8]) -> Option<Literal>
+pub(crate) fn literal_of(token: &[u8]) -> Option<Literal>
     ensures { result ≡ literal_at token.now }
 {
     let (below_zero, number) = sign_of(token);

@@ -26,7 +26,7 @@ pub(crate) fn read_line(piece: &[u8]) -> Option<Line>
 }
 
 /// One piece over the registers.
-pub fn run_piece(
+pub(crate) fn run_piece(
     word: WordName,
     registers: &mut [Register],
     piece: &[u8],

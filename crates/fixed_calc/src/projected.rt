@@ -10,7 +10,7 @@ ghost use Rattle.fixed_calc.specs.Step.{FitsFormat, IsCell, NumberTells, RowTell
 use crate::answer::Answer;
 use crate::cause::Cause;
 use crate::names::{Op, Policy, WordName};
-use crate::register::{Register, Taken};
+use crate::register::{Register, Taken, with_sign};
 use crate::rows::{Operand, outcome_as};
 use fixed_policy::{checked_of, overflowing_of, wrapping_of};
 use fixed_strict::{saturating_of, strict_of};
@@ -105,7 +105,7 @@ fn answer_as<T: Word>(policy: Policy, op: Op, taken: &Taken, number: u64) -> Res
 }
 
 /// The same in the word of a name.
-pub fn answer_in(
+pub(crate) fn answer_in(
     word: WordName,
     policy: Policy,
     op: Op,

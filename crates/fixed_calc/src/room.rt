@@ -15,8 +15,8 @@ use crate::header::Header;
 use crate::line::Line;
 use crate::names::WordName;
 use crate::piece::run_piece;
-use crate::pieces::first_piece;
-use crate::register::Register;
+use crate::pieces::piece_end;
+use crate::register::{Register, with_sign};
 use crate::stepping::step_registers;
 use std::alloc::{AllocError, Global};
 use std::marker::Model;
@@ -147,9 +147,7 @@ impl Room {
         ensures err { IfErr result (λ cause. (is_wide header.now.word header.now.fractions ≡ true) × (cause ≡ Cause.OutOfRange 1) × IsEmptySpace self.old.register_room self.old.answer_room self.new) }
         ensures kept { KeepsRoom self.old self.new }
     {
-        self.word = None;
-        self.registers.clear();
-        self.answers.clear();
+        self.clear();
         if has_wide(header) {
             return Err(Cause::OutOfRange(1));
         }
@@ -199,7 +197,8 @@ impl Room {
         requires { index < length self.now.registers }
         ensures { result ≡ (cell_at self.now.registers index).bits }
     {
-        bits_of(self.registers[index])
+        let register = self.registers[index];
+        with_sign(register.below_zero, register.magnitude)
     }
 
     pub fn fraction_at(&self, index: usize) -> u32
@@ -231,18 +230,6 @@ pub fn step(room: &mut Room, line: &Line, number: u64) -> Result<Answer, Cause>
     room.step_line(line, number)
 }
 
-/// The bits of a register.
-fn bits_of(register: Register) -> i128
-    ensures { result ≡ (cell_of register).bits }
-{
-    let magnitude = register.magnitude as i128;
-    if register.below_zero {
-        -magnitude
-    } else {
-        magnitude
-    }
-}
-
 /// The spaces of a piece.
 fn spaces_in(piece: &[u8]) -> usize
     ensures { result ≡ spaces_in piece.now }
@@ -257,6 +244,5 @@ fn spaces_of(script: &[u8]) -> usize
     if script.is_empty() {
         return 0;
     }
-    let (piece, _) = first_piece(script);
-    spaces_in(piece)
+    spaces_in(&script[..piece_end(script)])
 }

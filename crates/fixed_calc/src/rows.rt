@@ -6,20 +6,23 @@ ghost use Rattle.fixed_calc.specs.Offered.{is_offered};
 ghost use Rattle.fixed_calc.specs.Step.{OutcomeTells};
 
 use crate::names::{Op, Policy};
-use fixed_kernel::*;
+use fixed_kernel::{
+    abs_of, add_of, add_prod_of, dist_of, div_euclid_int_of, div_euclid_of, div_int_of, div_of,
+    mul_add_of, mul_int_of, mul_of, neg_of, next_multiple_of_of, next_power_of_two_of, recip_of,
+    rem_euclid_int_of, rem_euclid_of, rem_int_of, rem_of, signum_of, sqrt_of, sub_of,
+};
 use fixed_word::{Outcome, Word};
 
 /// An operand: its bits in a word, and its fraction.
 #[derive(Clone, Copy)]
-pub struct Operand<T> {
+pub(crate) struct Operand<T> {
     pub bits: T,
     pub fraction: u32,
 }
 
-/// The outcome, unless the divisor is 0.
 /// The outcome of the operation's row, where it is defined.
 #[tactic(auto, unfolding(crate::specs::Rows::exact, crate::specs::Offered::is_offered))]
-pub fn outcome_as<T: Word>(
+pub(crate) fn outcome_as<T: Word>(
     policy: Policy,
     op: Op,
     a: Operand<T>,

@@ -1,7 +1,6 @@
 //! A whole script in a room.
 
-ghost use Rattle.std.specs.Prelude.{◌≡◌, ◌≤◌, ◌<◌, ◌*◌, ◌+◌, ◌∷◌, ◌==◌, length, take, drop, Some, Err, IfOk, IfErr};
-ghost use Rattle.std.specs.List.{position};
+ghost use Rattle.std.specs.Prelude.{◌≡◌, ◌≤◌, ◌<◌, ◌*◌, ◌+◌, length, Some, Err, IfOk, IfErr};
 ghost use Rattle.fixed_word.specs.Pieces.{pieces};
 ghost use Rattle.fixed_calc.specs.Meaning.{after, meaning, run_lines as lines_run, run_of};
 ghost use Rattle.fixed_calc.specs.Rooms.{HasMoved, KeepsRoom, MeaningTells, RunTells, Suffices};
@@ -10,27 +9,9 @@ ghost use Rattle.fixed_calc.specs.Step.{state_in};
 use crate::cause::{Cause, RunFault};
 use crate::names::WordName;
 use crate::piece::read_header;
+use crate::pieces::piece_end;
 use crate::room::{Answers, Room};
 use std::alloc::Global;
-
-fn newline_at(script: &[u8]) -> Option<usize>
-    ensures { result ≡ position (λ b. b == 10) script.now }
-{
-    script.iter().position(|byte| *byte == b'\n')
-}
-
-/// Where the first piece ends.
-fn piece_end(script: &[u8]) -> usize
-    requires { 0 < length script.now }
-    ensures some { 0 < result }
-    ensures within { result ≤ length script.now }
-    ensures cut { pieces script.now ≡ take result script.now ∷ pieces (drop result script.now) }
-{
-    match newline_at(script) {
-        Some(at) => at + 1,
-        None => script.len(),
-    }
-}
 
 /// The first line of the rest. Answers where it ends.
 fn run_line(word: WordName, rest: &[u8], number: u64, room: &mut Room) -> Result<usize, Cause>
@@ -70,7 +51,9 @@ fn run_lines(word: WordName, lines: &[u8], room: &mut Room) -> Result<(), Cause>
     Ok(())
 }
 
-/// Runs a script in a room, from a fresh start.
+/// Runs a script in a room that suffices for it, from a fresh start, and asks for no memory. Ok with all
+/// answers in the room, or the first line's cause with the registers and answers of the lines before it
+/// in the room (this project's own).
 pub fn run_in(script: &[u8], room: &mut Room) -> Result<(), Cause>
     requires { Suffices script.now room.old }
     ensures tells { RunTells (run_of script.now) result room.new }
@@ -91,7 +74,8 @@ pub fn run_in(script: &[u8], room: &mut Room) -> Result<(), Cause>
     }
 }
 
-/// Runs a script.
+/// Runs a script: its answers, its first cause, or want of memory. On a fault nothing is handed out (this
+/// project's own).
 pub fn run(alloc: Global, script: &[u8]) -> Result<Answers, RunFault>
     ensures { MeaningTells (meaning script.now) result }
 {

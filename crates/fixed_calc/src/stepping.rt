@@ -14,7 +14,7 @@ use crate::line::{Line, Shape, shape_of};
 use crate::names::{Op, Policy, WordName};
 use crate::number::Literal;
 use crate::projected::answer_in;
-use crate::register::{Register, Taken};
+use crate::register::{Register, Taken, with_sign};
 use fixed_word::{Side, Word, outcome_of};
 
 /// Whether the operation takes the operands of the line.
@@ -60,8 +60,8 @@ fn is_offered(word: WordName, policy: Policy, op: Op) -> bool
 
 /// Whether the policy has the operation of the line.
 #[tactic(auto, unfolding(crate::specs::Machine::is_unoffered))]
-fn is_unoffered(word: WordName, registers: &[Register], line: &Line) -> bool
-    ensures { result ≡ unoffered (state_in word (cells_of registers.now)) (seen line.now) }
+fn is_unoffered(word: WordName, line: &Line) -> bool
+    ensures { result ≡ unoffered word (seen line.now) }
 {
     match line {
         Line::Set { .. } => false,
@@ -229,12 +229,7 @@ fn whole_of(literal: Literal) -> i128
     requires { literal.magnitude < 2 ^ 64 }
     ensures { result ≡ literal_value literal }
 {
-    let magnitude = literal.magnitude as i128;
-    if literal.below_zero {
-        -magnitude
-    } else {
-        magnitude
-    }
+    with_sign(literal.below_zero, literal.magnitude as u64)
 }
 
 /// The answer of a line of an operation whose first three tests fail.
@@ -247,7 +242,7 @@ fn applied(
     number: u64,
 ) -> Result<Answer, Cause>
     requires is { IsApplied (seen line.now) policy op }
-    requires offered { unoffered (state_in word (cells_of registers.now)) (seen line.now) ≡ false }
+    requires offered { unoffered word (seen line.now) ≡ false }
     requires in_range { out_of_range (state_in word (cells_of registers.now)) (seen line.now) ≡ false }
     requires one_fraction { mismatched (state_in word (cells_of registers.now)) (seen line.now) ≡ false }
     requires cells { All (IsCell word) (cells_of registers.now) }
@@ -264,7 +259,7 @@ fn answer_of(
     line: &Line,
     number: u64,
 ) -> Result<Answer, Cause>
-    requires offered { unoffered (state_in word (cells_of registers.now)) (seen line.now) ≡ false }
+    requires offered { unoffered word (seen line.now) ≡ false }
     requires in_range { out_of_range (state_in word (cells_of registers.now)) (seen line.now) ≡ false }
     requires one_fraction { mismatched (state_in word (cells_of registers.now)) (seen line.now) ≡ false }
     requires cells { All (IsCell word) (cells_of registers.now) }
@@ -289,7 +284,7 @@ fn checked_answer(
     requires { All (IsCell word) (cells_of registers.now) }
     ensures { AnswerTells (state_in word (cells_of registers.now)) (seen line.now) number result }
 {
-    if is_unoffered(word, registers, line) {
+    if is_unoffered(word, line) {
         return Err(Cause::Syntax(number));
     }
     if is_out_of_range(word, registers, line) {
@@ -326,7 +321,7 @@ fn store(registers: &mut [Register], dest: u128, x: i128)
 }
 
 /// One line over the registers.
-pub fn step_registers(
+pub(crate) fn step_registers(
     word: WordName,
     registers: &mut [Register],
     line: &Line,

@@ -28,7 +28,7 @@ pub(crate) fn cut(piece: &[u8]) -> (&[u8], Option<&[u8]>)
 
 /// The tokens of a piece that are still to come. Contracts see them as a list.
 #[derive(Drop)]
-pub struct Tokens<'a> {
+pub(crate) struct Tokens<'a> {
     rest: Option<&'a [u8]>,
 }
 
@@ -42,14 +42,14 @@ impl<'a> Model for Tokens<'a> {
 }
 
 impl<'a> Tokens<'a> {
-    pub fn new(piece: &'a [u8]) -> Self
+    pub(crate) fn new(piece: &'a [u8]) -> Self
         ensures { result ≡ tokens_of piece.now }
     {
         Tokens { rest: Some(piece) }
     }
 
     /// Takes the next token.
-    pub fn take(&mut self) -> Option<&'a [u8]>
+    pub(crate) fn take(&mut self) -> Option<&'a [u8]>
         ensures { MatchOption result ((self.old ≡ []) × (self.new ≡ [])) (λ t. self.old ≡ t.now ∷ self.new) }
     {
         let piece = self.rest?;
@@ -59,7 +59,7 @@ impl<'a> Tokens<'a> {
     }
 
     /// Takes the next token, a register.
-    pub fn register(&mut self) -> Option<u128>
+    pub(crate) fn register(&mut self) -> Option<u128>
         ensures some { IfSome result (λ n. next_by register_at self.old ≡ Some (n, self.new)) }
         ensures none { IfNone result (next_by register_at self.old ≡ None) }
     {
@@ -67,7 +67,7 @@ impl<'a> Tokens<'a> {
     }
 
     /// Takes the next token, a whole number.
-    pub fn literal(&mut self) -> Option<Literal>
+    pub(crate) fn literal(&mut self) -> Option<Literal>
         ensures some { IfSome result (λ n. next_by literal_at self.old ≡ Some (n, self.new)) }
         ensures none { IfNone result (next_by literal_at self.old ≡ None) }
     {
@@ -75,7 +75,7 @@ impl<'a> Tokens<'a> {
     }
 
     /// Takes the next token, an operation.
-    pub fn op(&mut self) -> Option<Op>
+    pub(crate) fn op(&mut self) -> Option<Op>
         ensures some { IfSome result (λ n. next_by op_named self.old ≡ Some (n, self.new)) }
         ensures none { IfNone result (next_by op_named self.old ≡ None) }
     {
@@ -83,7 +83,7 @@ impl<'a> Tokens<'a> {
     }
 
     /// Whether no token is left.
-    pub fn is_empty(&self) -> bool
+    pub(crate) fn is_empty(&self) -> bool
         ensures { result ≡ (length self.now == 0) }
     {
         self.rest.is_none()
