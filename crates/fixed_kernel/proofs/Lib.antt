@@ -2,3 +2,6 @@ pub mod Alikes
 pub mod PowersOfTwo
 pub mod Room
 pub mod Sqrts
+pub mod RowLaws
+pub mod RowLawsFits
+pub mod RowLawsPowers

@@ -1,3 +1,4 @@
 pub mod Rows
 pub mod WideValue
 pub mod Alike
+pub mod Laws

@@ -5,6 +5,7 @@
 //! numbers are whole numbers of units of `2^-frac`. No function takes memory.
 #![tactic(auto)]
 
+pub mod laws;
 mod powers;
 mod products;
 mod quotients;

@@ -1,3 +1,4 @@
 pub mod Sides
 pub mod QuotientLaws
 pub mod Standings
+pub mod Nearest

@@ -1,7 +1,7 @@
 //! Laws of the definitions. These functions do nothing: each contract is the law.
 
-ghost use Rattle.std.specs.Prelude.{◌≡◌, ◌≢◌, ◌<◌, ◌^◌, ℕ, ℤ, Bool, pos};
-ghost use Rattle.fixed_word.specs.Format.{Congruent, InRange, IsWidth, wrap};
+ghost use Rattle.std.specs.Prelude.{◌≡◌, ◌≢◌, ◌↔◌, ◌<◌, ◌≤◌, ◌^◌, ◌<ℤ◌, ◌-ℤ◌, ℕ, ℤ, Bool, IsTrue, true, false, pos, unsigned_abs};
+ghost use Rattle.fixed_word.specs.Format.{Congruent, InRange, IsWidth, clamp, fits, highest, lowest, wrap};
 ghost use Rattle.fixed_word.specs.Quotient.{euclidean_quotient, euclidean_remainder, floor_quotient, truncated_quotient};
 ghost use Rattle.fixed_word.specs.Quotient.{IsEuclidean, IsFloor, IsTruncated};
 
@@ -11,6 +11,31 @@ pub fn wrap_law()
     ensures congruent { (s : Bool) (n : ℕ) (x : ℤ) → IsWidth n → Congruent (2 ^ n) x (wrap s n x) }
     ensures unique { (s : Bool) (n : ℕ) (x y : ℤ) → IsWidth n → InRange s n y
         → Congruent (2 ^ n) x y → wrap s n x ≡ y }
+{}
+
+/// Nothing of a number that fits is lost on the way through the unsigned or the signed word of its
+/// width.
+pub fn return_law()
+    ensures by_unsigned { (s : Bool) (n : ℕ) (x : ℤ) → IsWidth n → InRange s n x
+        → wrap s n (wrap false n x) ≡ x }
+    ensures by_signed { (s : Bool) (n : ℕ) (x : ℤ) → IsWidth n → InRange s n x
+        → wrap s n (wrap true n x) ≡ x }
+{}
+
+/// `clamp` gives the nearest number that fits: x itself where x fits, and otherwise the end of the
+/// range on its side.
+pub fn clamp_law()
+    ensures in_range { (s : Bool) (n : ℕ) (x : ℤ) → InRange s n (clamp s n x) }
+    ensures same { (s : Bool) (n : ℕ) (x : ℤ) → InRange s n x → clamp s n x ≡ x }
+    ensures below { (s : Bool) (n : ℕ) (x : ℤ) → x <ℤ lowest s n → clamp s n x ≡ lowest s n }
+    ensures above { (s : Bool) (n : ℕ) (x : ℤ) → highest s n <ℤ x → clamp s n x ≡ highest s n }
+    ensures nearest { (s : Bool) (n : ℕ) (x y : ℤ) → InRange s n y
+        → unsigned_abs (x -ℤ clamp s n x) ≤ unsigned_abs (x -ℤ y) }
+{}
+
+/// The test `fits` is the fact that a number lies in the range.
+pub fn fits_law()
+    ensures { (s : Bool) (n : ℕ) (x : ℤ) → IsTrue (fits s n x) ↔ InRange s n x }
 {}
 
 /// The quotients meet the equations that define them, and nothing else does.

@@ -1,0 +1,95 @@
+//! Laws over the rows: which exact numbers fit, which operations are undefined and where, and what
+//! multiples, powers and whole numbers are. These functions do nothing: each contract is the law.
+//!
+//! A number of the format is a whole number in the range of its word; n is the width and f the
+//! fraction.
+
+ghost use Rattle.std.specs.Prelude.{◌≡◌, ◌≢◌, ◌↔◌, ◌⊎◌, ◌-◌, ◌^◌, ◌≤◌, ◌≤ℤ◌, ◌<ℤ◌, ◌+ℤ◌, ◌*ℤ◌, ℕ, ℤ, Bool, true, false, pos, negsuc, unsigned_abs};
+ghost use Rattle.fixed_word.specs.Format.{InRange, IsWidth, lowest};
+ghost use Rattle.fixed_word.specs.Quotient.{euclidean_quotient, truncated_quotient};
+ghost use Rattle.fixed_kernel.specs.Laws.{IsFromZero, IsNextMultiple, IsNextPower, IsOffZero, Misses};
+ghost use Rattle.fixed_kernel.specs.Rows.{exact_abs, exact_dist, exact_div, exact_div_euclid, exact_div_euclid_int, exact_div_int, exact_mul, exact_neg, exact_next_multiple_of, exact_next_power_of_two, exact_recip, exact_rem, exact_rem_euclid, exact_rem_euclid_int, exact_rem_int, exact_signum, exact_sqrt};
+ghost use Rattle.fixed_kernel.specs.Rows.{row_div, row_div_euclid, row_div_euclid_int, row_div_int, row_next_multiple_of, row_recip, row_rem, row_rem_euclid, row_rem_euclid_int, row_rem_int, row_sqrt};
+
+/// The remainders fit on every word, though the integer of `rem_int` may be far outside the range
+/// as a number of units; a Euclidean remainder is at least 0 and below the magnitude of its divisor.
+pub fn remainder_law()
+    ensures rem { (s : Bool) (n : ℕ) (a b : ℤ) → InRange s n a → b ≢ pos 0
+        → InRange s n (exact_rem a b) }
+    ensures rem_int { (s : Bool) (n f : ℕ) (a k : ℤ) → InRange s n a → k ≢ pos 0
+        → InRange s n (exact_rem_int a k f) }
+    ensures rem_euclid { (s : Bool) (n : ℕ) (a b : ℤ) → InRange s n b → b ≢ pos 0
+        → InRange s n (exact_rem_euclid a b) }
+    ensures from_zero { (a b : ℤ) → b ≢ pos 0 → pos 0 ≤ℤ exact_rem_euclid a b }
+    ensures small { (a b : ℤ) → b ≢ pos 0 → exact_rem_euclid a b <ℤ pos (unsigned_abs b) }
+{}
+
+/// On unsigned words distances, roots, and quotients and remainders by an integer fit.
+pub fn unsigned_law()
+    ensures sqrt { (n f : ℕ) (a : ℤ) → f ≤ n → InRange false n a → InRange false n (exact_sqrt a f) }
+    ensures dist { (n : ℕ) (a b : ℤ) → InRange false n a → InRange false n b
+        → InRange false n (exact_dist a b) }
+    ensures div_int { (n : ℕ) (a k : ℤ) → InRange false n a → InRange false n k → k ≢ pos 0
+        → InRange false n (exact_div_int a k) }
+    ensures div_euclid_int { (n f : ℕ) (a k : ℤ) → InRange false n a → InRange false n k
+        → k ≢ pos 0 → InRange false n (exact_div_euclid_int a k f) }
+    ensures rem_euclid_int { (n f : ℕ) (a k : ℤ) → InRange false n a → k ≢ pos 0
+        → InRange false n (exact_rem_euclid_int a k f) }
+{}
+
+/// On signed words these fail to fit at the named operands alone.
+pub fn signed_law()
+    ensures neg { (n : ℕ) (a : ℤ) → InRange true n a
+        → Misses true n (exact_neg a) ↔ (a ≡ lowest true n) }
+    ensures abs { (n : ℕ) (a : ℤ) → InRange true n a
+        → Misses true n (exact_abs a) ↔ (a ≡ lowest true n) }
+    ensures div_int { (n : ℕ) (a k : ℤ) → InRange true n a → k ≢ pos 0
+        → Misses true n (exact_div_int a k) ↔ ((a ≡ lowest true n) × (k ≡ negsuc 0)) }
+    ensures signum { (n f : ℕ) (a : ℤ) → IsWidth n → f ≤ n
+        → Misses true n (exact_signum a f)
+        ↔ (((f ≡ n) × (a ≢ pos 0)) ⊎ ((f ≡ n - 1) × (pos 0 <ℤ a))) }
+    ensures sqrt { (n f : ℕ) (a : ℤ) → IsWidth n → f ≤ n → InRange true n a → pos 0 ≤ℤ a
+        → Misses true n (exact_sqrt a f) ↔ ((f ≡ n) × (pos (2 ^ (n - 2)) ≤ℤ a)) }
+{}
+
+/// Where the fraction is 0, numbers behave as whole numbers.
+pub fn integer_law()
+    ensures mul { (a b : ℤ) → exact_mul a b 0 ≡ a *ℤ b }
+    ensures div { (a b : ℤ) → exact_div a b 0 ≡ truncated_quotient a b }
+    ensures div_euclid { (a b : ℤ) → exact_div_euclid a b 0 ≡ euclidean_quotient a b }
+    ensures rem_int { (a k : ℤ) → exact_rem_int a k 0 ≡ exact_rem a k }
+    ensures div_euclid_int { (a k : ℤ) → exact_div_euclid_int a k 0 ≡ exact_div_euclid a k 0 }
+    ensures rem_euclid_int { (a k : ℤ) → exact_rem_euclid_int a k 0 ≡ exact_rem_euclid a k }
+{}
+
+/// The next multiple of b above 0 is the least that is at least a, and of b below 0 the greatest
+/// that is at most a. There is no other.
+pub fn multiple_law()
+    ensures is { (a b : ℤ) → b ≢ pos 0 → IsNextMultiple a b (exact_next_multiple_of a b) }
+    ensures unique { (a b m : ℤ) → b ≢ pos 0 → IsNextMultiple a b m
+        → exact_next_multiple_of a b ≡ m }
+{}
+
+/// The next power of two is the least that is at least a.
+pub fn power_law()
+    ensures { (a : ℤ) → pos 0 ≤ℤ a → IsNextPower a (exact_next_power_of_two a) }
+{}
+
+/// A row has no number exactly where its divisor is 0, or where the operand of its root is below 0.
+pub fn row_law()
+    ensures div { (a b : ℤ) (f : ℕ) → IsOffZero b (exact_div a b f) (row_div a b f) }
+    ensures div_int { (a k : ℤ) → IsOffZero k (exact_div_int a k) (row_div_int a k) }
+    ensures recip { (a : ℤ) (f : ℕ) → IsOffZero a (exact_recip a f) (row_recip a f) }
+    ensures div_euclid { (a b : ℤ) (f : ℕ)
+        → IsOffZero b (exact_div_euclid a b f) (row_div_euclid a b f) }
+    ensures div_euclid_int { (a k : ℤ) (f : ℕ)
+        → IsOffZero k (exact_div_euclid_int a k f) (row_div_euclid_int a k f) }
+    ensures rem { (a b : ℤ) → IsOffZero b (exact_rem a b) (row_rem a b) }
+    ensures rem_int { (a k : ℤ) (f : ℕ) → IsOffZero k (exact_rem_int a k f) (row_rem_int a k f) }
+    ensures rem_euclid { (a b : ℤ) → IsOffZero b (exact_rem_euclid a b) (row_rem_euclid a b) }
+    ensures rem_euclid_int { (a k : ℤ) (f : ℕ)
+        → IsOffZero k (exact_rem_euclid_int a k f) (row_rem_euclid_int a k f) }
+    ensures next_multiple_of { (a b : ℤ)
+        → IsOffZero b (exact_next_multiple_of a b) (row_next_multiple_of a b) }
+    ensures sqrt { (a : ℤ) (f : ℕ) → IsFromZero a (exact_sqrt a f) (row_sqrt a f) }
+{}
