@@ -5,6 +5,7 @@
 //! numbers are whole numbers of units of `2^-frac`. No function takes memory.
 #![tactic(auto)]
 
+mod overflowing;
 mod powers;
 mod products;
 mod quotients;
@@ -12,6 +13,7 @@ mod remainders;
 mod sums;
 mod wide;
 
+pub use overflowing::{overflowing_div, overflowing_mul, overflowing_mul_add};
 pub use powers::{next_power_of_two_of, sqrt_of};
 pub use products::{add_prod_of, mul_add_of, mul_int_of, mul_of};
 pub use quotients::{div_euclid_int_of, div_euclid_of, div_int_of, div_of, recip_of};
