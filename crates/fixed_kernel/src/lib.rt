@@ -11,6 +11,8 @@ mod products;
 mod quotients;
 mod remainders;
 mod sums;
+#[cfg(test)]
+mod tests;
 mod wide;
 
 pub use overflowing::{overflowing_div, overflowing_mul, overflowing_mul_add};

@@ -1,0 +1,4 @@
+//! What no clause says: that the rows are those meant, by vectors and by plain computations.
+
+mod calls;
+mod vectors;
