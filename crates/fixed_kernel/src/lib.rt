@@ -6,13 +6,17 @@
 #![tactic(auto)]
 
 pub mod laws;
+mod overflowing;
 mod powers;
 mod products;
 mod quotients;
 mod remainders;
 mod sums;
+#[cfg(test)]
+mod tests;
 mod wide;
 
+pub use overflowing::{overflowing_div, overflowing_mul, overflowing_mul_add};
 pub use powers::{next_power_of_two_of, sqrt_of};
 pub use products::{add_prod_of, mul_add_of, mul_int_of, mul_of};
 pub use quotients::{div_euclid_int_of, div_euclid_of, div_int_of, div_of, recip_of};

@@ -1,8 +1,8 @@
 //! Products, rounded down.
 
-ghost use Rattle.std.specs.Prelude.{◌≡◌, ◌≤◌};
+ghost use Rattle.std.specs.Prelude.{◌≡◌, ◌<◌, ◌≤◌, ◌*◌, ◌≤ℤ◌, pos, neg_ℤ};
 ghost use Rattle.fixed_word.specs.Standing.{StandsFor};
-ghost use Rattle.fixed_kernel.specs.Rows.{exact_add_prod, exact_mul, exact_mul_add, exact_mul_int};
+ghost use Rattle.fixed_kernel.specs.Rows.{exact_add_prod, exact_add_prod_at, exact_mul, exact_mul_add, exact_mul_int};
 
 use crate::wide::Wide;
 use fixed_word::{Outcome, Word};
@@ -43,14 +43,42 @@ pub fn add_prod_of<T: Word>(c: T, a: T, b: T, c_frac: u32, a_frac: u32, b_frac: 
     ensures { StandsFor T.value T.SIGNED T.BITS
         (exact_add_prod (T.value c) (T.value a) (T.value b) c_frac a_frac b_frac) result }
 {
-    let product = Wide::product(a, b);
-    let places = a_frac + b_frac;
-    if places >= c_frac {
-        product.floored(places - c_frac).plus(Wide::of(c)).outcome()
+    add_prod_at(c, a, b, (a_frac + b_frac) as i32 - c_frac as i32)
+}
+
+/// `c` plus the product of `a` and `b`, which moves down by `places` and is rounded down, or up by
+/// `-places`.
+pub(crate) fn add_prod_at<T: Word>(c: T, a: T, b: T, places: i32) -> Outcome<T>
+    requires lower { neg_ℤ (pos T.BITS) ≤ℤ places }
+    requires upper { places ≤ℤ pos (2 * T.BITS) }
+    ensures { StandsFor T.value T.SIGNED T.BITS
+        (exact_add_prod_at (T.value c) (T.value a) (T.value b) places) result }
+{
+    if places >= 0 {
+        add_prod_down(c, a, b, places as u32)
     } else {
-        product
-            .scaled_alike(c_frac - places)
-            .plus(Wide::of(c))
-            .outcome_alike()
+        add_prod_up(c, a, b, places.unsigned_abs())
     }
+}
+
+/// `c` plus the product of `a` and `b` over `2^by`, rounded down.
+fn add_prod_down<T: Word>(c: T, a: T, b: T, by: u32) -> Outcome<T>
+    requires { by ≤ 128 }
+    ensures { StandsFor T.value T.SIGNED T.BITS
+        (exact_add_prod_at (T.value c) (T.value a) (T.value b) (pos by)) result }
+{
+    Wide::product(a, b).floored(by).plus(Wide::of(c)).outcome()
+}
+
+/// `c` plus the product of `a` and `b` times `2^by`.
+fn add_prod_up<T: Word>(c: T, a: T, b: T, by: u32) -> Outcome<T>
+    requires some { 0 < by }
+    requires most { by ≤ 64 }
+    ensures { StandsFor T.value T.SIGNED T.BITS
+        (exact_add_prod_at (T.value c) (T.value a) (T.value b) (neg_ℤ (pos by))) result }
+{
+    Wide::product(a, b)
+        .scaled_alike(by)
+        .plus(Wide::of(c))
+        .outcome_alike()
 }

@@ -53,13 +53,9 @@ fn whole_over(divisor: u128) -> u128
     ensures more { 1 < divisor → result ≡ 2 ^ 128 / divisor }
 {
     if divisor == 1 {
-        return 1 << 127;
-    }
-    let quotient = u128::MAX / divisor;
-    if u128::MAX % divisor + 1 == divisor {
-        quotient + 1
+        1 << 127
     } else {
-        quotient
+        (u128::MAX - (divisor - 1)) / divisor + 1
     }
 }
 

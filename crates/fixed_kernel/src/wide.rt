@@ -1,6 +1,6 @@
 //! Whole numbers of up to 128 bits and a sign, in which the operations compute.
 
-ghost use Rattle.std.specs.Prelude.{◌≡◌, ◌+◌, ◌*◌, ◌/◌, ◌^◌, ◌<◌, ◌≤◌, ◌+ℤ◌, ◌-ℤ◌, ◌*ℤ◌, ℤ, unsigned_abs, neg_ℤ, pos};
+ghost use Rattle.std.specs.Prelude.{◌≡◌, ◌+◌, ◌*◌, ◌/◌, ◌%◌, ◌^◌, ◌<◌, ◌≤◌, ◌+ℤ◌, ◌-ℤ◌, ◌*ℤ◌, ℤ, unsigned_abs, neg_ℤ, pos};
 ghost use Rattle.fixed_word.specs.Quotient.{euclidean_quotient, euclidean_remainder, floor_quotient, truncated_quotient};
 ghost use Rattle.fixed_word.specs.Standing.{StandsFor};
 ghost use Rattle.fixed_kernel.specs.Alike.{Alike};
@@ -17,6 +17,7 @@ pub struct Wide {
 
 impl Wide {
     /// The number of a word.
+    #[inline]
     pub fn of<T: RawWord>(word: T) -> Wide
         ensures value { value_of result ≡ T.value word }
         ensures small { result.magnitude < 2 ^ 64 }
@@ -28,6 +29,7 @@ impl Wide {
     }
 
     /// The product of two words, which leaves room for a third.
+    #[inline]
     pub fn product<T: RawWord>(a: T, b: T) -> Wide
         ensures value { value_of result ≡ T.value a *ℤ T.value b }
         ensures room { result.magnitude + 2 ^ 64 ≤ 2 ^ 128 }
@@ -35,6 +37,7 @@ impl Wide {
         Wide::of(a).times(Wide::of(b))
     }
 
+    #[inline]
     pub fn absolute(self) -> Wide
         ensures { value_of result ≡ pos (unsigned_abs (value_of self)) }
     {
@@ -52,10 +55,11 @@ impl Wide {
     {
         Wide {
             below_zero: self.below_zero,
-            magnitude: self.magnitude % divisor.magnitude,
+            magnitude: divided(self.magnitude, divisor.magnitude).1,
         }
     }
 
+    #[inline]
     pub fn negated(self) -> Wide
         ensures value { value_of result ≡ neg_ℤ (value_of self) }
         ensures size { result.magnitude ≡ self.magnitude }
@@ -66,6 +70,7 @@ impl Wide {
         }
     }
 
+    #[inline]
     pub fn plus(self, other: Wide) -> Wide
         requires { self.magnitude + other.magnitude < 2 ^ 128 }
         ensures value { value_of result ≡ value_of self +ℤ value_of other }
@@ -89,6 +94,7 @@ impl Wide {
         }
     }
 
+    #[inline]
     pub fn times(self, other: Wide) -> Wide
         requires { self.magnitude * other.magnitude < 2 ^ 128 }
         ensures value { value_of result ≡ value_of self *ℤ value_of other }
@@ -101,6 +107,7 @@ impl Wide {
     }
 
     /// The number times a power of two.
+    #[inline]
     pub fn scaled(self, by: u32) -> Wide
         requires room { self.magnitude * 2 ^ by < 2 ^ 128 }
         requires shift { by < 128 }
@@ -140,9 +147,9 @@ impl Wide {
         ensures size { result.magnitude ≤ self.magnitude }
     {
         let magnitude = if self.below_zero && self.magnitude > 0 {
-            (self.magnitude - 1) / divisor.magnitude + 1
+            divided(self.magnitude - 1, divisor.magnitude).0 + 1
         } else {
-            self.magnitude / divisor.magnitude
+            divided(self.magnitude, divisor.magnitude).0
         };
         Wide {
             below_zero: (self.below_zero && self.magnitude > 0) != divisor.below_zero,
@@ -157,9 +164,9 @@ impl Wide {
         ensures size { result.magnitude < divisor.magnitude }
     {
         let magnitude = if self.below_zero && self.magnitude > 0 {
-            divisor.magnitude - 1 - (self.magnitude - 1) % divisor.magnitude
+            divisor.magnitude - 1 - divided(self.magnitude - 1, divisor.magnitude).1
         } else {
-            self.magnitude % divisor.magnitude
+            divided(self.magnitude, divisor.magnitude).1
         };
         Wide {
             below_zero: false,
@@ -175,7 +182,7 @@ impl Wide {
     {
         Wide {
             below_zero: self.below_zero != divisor.below_zero,
-            magnitude: self.magnitude / divisor.magnitude,
+            magnitude: divided(self.magnitude, divisor.magnitude).0,
         }
     }
 
@@ -211,9 +218,27 @@ impl Wide {
 }
 
 /// `magnitude / 2^by`
+#[inline]
 fn shifted(magnitude: u128, by: u32) -> u128
     requires { by ≤ 128 }
     ensures { result ≡ magnitude / 2 ^ by }
 {
     if by == 128 { 0 } else { magnitude >> by }
+}
+
+/// The quotient and the remainder of the magnitudes. Two that words of 64 bits hold are divided there,
+/// since a division of 128 bits takes many times as long.
+#[inline]
+fn divided(magnitude: u128, divisor: u128) -> (u128, u128)
+    requires { 0 < divisor }
+    ensures quotient { result.0 ≡ magnitude / divisor }
+    ensures remainder { result.1 ≡ magnitude % divisor }
+{
+    let most = u64::MAX as u128;
+    if magnitude <= most && divisor <= most {
+        let (dividend, by) = (magnitude as u64, divisor as u64);
+        ((dividend / by) as u128, (dividend % by) as u128)
+    } else {
+        (magnitude / divisor, magnitude % divisor)
+    }
 }

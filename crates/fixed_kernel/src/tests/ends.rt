@@ -1,0 +1,201 @@
+//! The ends of every word, with no fraction, with one integer bit and with none.
+
+use super::calls::{Op, answer};
+use super::plain::stands;
+use fixed_word::Side::{Above, Below, Fits};
+use fixed_word::{Outcome, SignedWord, UnsignedWord};
+use std::process::Abort;
+
+#[test]
+fn signed_bytes(rt: HostRuntime) {
+    for (op, a, b, frac, wrapped, side) in [
+        (Op::Mul, -128_i8, -128, 0, 0, Above),
+        (Op::Mul, -128, -128, 7, -128, Above),
+        (Op::Mul, -128, -128, 8, 64, Fits),
+        (Op::Div, -128, -1, 0, -128, Above),
+        (Op::Div, -128, -1, 7, 0, Above),
+        (Op::Div, -128, -1, 8, 0, Above),
+        (Op::Recip, 1, 0, 0, 1, Fits),
+        (Op::Recip, 1, 0, 7, 0, Above),
+        (Op::Recip, 1, 0, 8, 0, Above),
+        (Op::Sqrt, 127, 0, 0, 11, Fits),
+        (Op::Sqrt, 127, 0, 7, 127, Fits),
+        (Op::Sqrt, 127, 0, 8, -76, Above),
+        (Op::DivEuclidInt, -1, 2, 0, -1, Fits),
+        (Op::DivEuclidInt, -1, 2, 7, -128, Fits),
+        (Op::DivEuclidInt, -1, 2, 8, 0, Below),
+        (Op::Signum, 5, 0, 0, 1, Fits),
+        (Op::Signum, 5, 0, 7, -128, Above),
+        (Op::Signum, 5, 0, 8, 0, Above),
+        (Op::RemInt, -128, -128, 0, 0, Fits),
+        (Op::RemInt, -128, -128, 7, -128, Fits),
+        (Op::RemInt, -128, -128, 8, -128, Fits),
+        (Op::NextMultipleOf, 127, -128, 0, 0, Fits),
+        (Op::NextMultipleOf, 127, -128, 7, 0, Fits),
+        (Op::NextMultipleOf, 127, -128, 8, 0, Fits),
+    ] {
+        assert_eq!(rt;
+            answer(op, a, b, frac),
+            Some(Outcome { wrapped, side }),
+            "{op:?} of {a} and {b} at {frac}"
+        );
+    }
+}
+
+#[test]
+fn unsigned_bytes(rt: HostRuntime) {
+    for (op, a, b, frac, wrapped, side) in [
+        (Op::Mul, 255_u8, 255, 0, 1, Above),
+        (Op::Mul, 255, 255, 7, 252, Above),
+        (Op::Mul, 255, 255, 8, 254, Fits),
+        (Op::Div, 255, 1, 0, 255, Fits),
+        (Op::Div, 255, 1, 7, 128, Above),
+        (Op::Div, 255, 1, 8, 0, Above),
+        (Op::Recip, 255, 0, 0, 0, Fits),
+        (Op::Recip, 255, 0, 7, 64, Fits),
+        (Op::Recip, 255, 0, 8, 1, Above),
+        (Op::Sqrt, 255, 0, 0, 15, Fits),
+        (Op::Sqrt, 255, 0, 7, 180, Fits),
+        (Op::Sqrt, 255, 0, 8, 255, Fits),
+    ] {
+        assert_eq!(rt;
+            answer(op, a, b, frac),
+            Some(Outcome { wrapped, side }),
+            "{op:?} of {a} and {b} at {frac}"
+        );
+    }
+}
+
+fn signed_ends<T: SignedWord>(rt: &impl Abort, frac: u32) {
+    let least = T::MIN;
+    let half = least.magnitude() as u128;
+    let minus_one = T::residue(true, 1);
+    let two = T::residue(false, 2);
+    let five = T::residue(false, 5);
+    if frac <= 64 {
+        let unit = 1_u128 << frac;
+        assert!(rt;
+            stands(
+                answer(Op::Mul, least, least, frac),
+                false,
+                half.wrapping_mul(half) >> frac
+            )
+        );
+        assert!(rt;
+            stands(
+                answer(Op::Div, least, minus_one, frac),
+                false,
+                half.wrapping_mul(unit)
+            )
+        );
+        assert!(rt; stands(answer(Op::DivEuclidInt, minus_one, two, frac), true, unit));
+        assert!(rt; stands(answer(Op::Signum, five, least, frac), false, unit));
+        assert!(rt; stands(answer(Op::NextMultipleOf, T::MAX, least, frac), false, 0));
+        let left = if frac == 0 { 0 } else { half };
+        assert!(rt; stands(answer(Op::RemInt, least, least, frac), true, left));
+        if frac < 64 {
+            assert!(rt;
+                stands(
+                    answer(Op::Recip, T::ONE, least, frac),
+                    false,
+                    unit.wrapping_mul(unit)
+                )
+            );
+        }
+    }
+}
+
+fn unsigned_ends<T: UnsignedWord>(rt: &impl Abort, frac: u32) {
+    let most = T::MAX;
+    let size = most.magnitude() as u128;
+    if frac <= 64 && size > 0 {
+        let unit = 1_u128 << frac;
+        assert!(rt;
+            stands(
+                answer(Op::Mul, most, most, frac),
+                false,
+                size.wrapping_mul(size) >> frac
+            )
+        );
+        assert!(rt;
+            stands(
+                answer(Op::Div, most, T::ONE, frac),
+                false,
+                size.wrapping_mul(unit)
+            )
+        );
+        if frac < 64 {
+            assert!(rt;
+                stands(
+                    answer(Op::Recip, most, most, frac),
+                    false,
+                    unit.wrapping_mul(unit) / size
+                )
+            );
+        }
+    }
+}
+
+#[test]
+fn wider_words(rt: HostRuntime) {
+    for frac in [0, 15, 16] {
+        signed_ends::<i16>(&rt, frac);
+        unsigned_ends::<u16>(&rt, frac);
+    }
+    for frac in [0, 31, 32] {
+        signed_ends::<i32>(&rt, frac);
+        unsigned_ends::<u32>(&rt, frac);
+    }
+    for frac in [0, 63, 64] {
+        signed_ends::<i64>(&rt, frac);
+        unsigned_ends::<u64>(&rt, frac);
+    }
+}
+
+#[test]
+fn roots_of_the_ends(rt: HostRuntime) {
+    for (frac, root) in [(0, 181), (15, 32767), (16, 46340)] {
+        assert!(rt;
+            stands(answer(Op::Sqrt, i16::MAX, 0, frac), false, root),
+            "i16 at {frac}"
+        );
+    }
+    for (frac, root) in [(0, 255), (15, 46340), (16, 65535)] {
+        assert!(rt;
+            stands(answer(Op::Sqrt, u16::MAX, 0, frac), false, root),
+            "u16 at {frac}"
+        );
+    }
+    for (frac, root) in [(0, 46340), (31, 2147483647), (32, 3037000499)] {
+        assert!(rt;
+            stands(answer(Op::Sqrt, i32::MAX, 0, frac), false, root),
+            "i32 at {frac}"
+        );
+    }
+    for (frac, root) in [(0, 65535), (31, 3037000499), (32, 4294967295)] {
+        assert!(rt;
+            stands(answer(Op::Sqrt, u32::MAX, 0, frac), false, root),
+            "u32 at {frac}"
+        );
+    }
+    for (frac, root) in [
+        (0, 3037000499),
+        (63, 9223372036854775807),
+        (64, 13043817825332782211),
+    ] {
+        assert!(rt;
+            stands(answer(Op::Sqrt, i64::MAX, 0, frac), false, root),
+            "i64 at {frac}"
+        );
+    }
+    for (frac, root) in [
+        (0, 4294967295),
+        (63, 13043817825332782211),
+        (64, 18446744073709551615),
+    ] {
+        assert!(rt;
+            stands(answer(Op::Sqrt, u64::MAX, 0, frac), false, root),
+            "u64 at {frac}"
+        );
+    }
+}

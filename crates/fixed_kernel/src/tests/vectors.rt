@@ -1,0 +1,297 @@
+//! Vectors: the numbers of the crate's own tests and documentation, and the corners of its code.
+
+use super::calls::{Op, add_product, answer, multiply_add, product, ratio, sum_of_product};
+use fixed_word::Outcome;
+use fixed_word::Side::{Above, Below, Fits};
+
+#[test]
+fn signed_bytes(rt: HostRuntime) {
+    for (op, a, b, frac, wrapped, side) in [
+        (Op::Mul, 127_i8, 64, 4, -4, Above),
+        (Op::Div, -128, -1, 8, 0, Above),
+        (Op::RemEuclidInt, -120, 20, 4, -56, Above),
+        (Op::DivEuclid, 120, 32, 4, 48, Fits),
+        (Op::DivEuclid, -120, 32, 4, -64, Fits),
+        (Op::DivEuclid, 127, 4, 4, -16, Above),
+        (Op::DivEuclid, -128, 4, 4, 0, Below),
+        (Op::DivEuclidInt, -128, -1, 4, -128, Above),
+        (Op::Recip, 32, 0, 7, 0, Above),
+        (Op::Recip, -32, 0, 7, 0, Below),
+        (Op::NextMultipleOf, 64, 24, 4, 72, Fits),
+        (Op::NextMultipleOf, 64, -24, 4, 48, Fits),
+        (Op::NextMultipleOf, 127, 126, 4, -4, Above),
+        (Op::Signum, 64, 0, 7, -128, Above),
+        (Op::Signum, 64, 0, 8, 0, Above),
+        (Op::Signum, -128, 0, 8, 0, Below),
+        (Op::Dist, -128, 127, 4, -1, Above),
+        (Op::Sqrt, 32, 0, 4, 22, Fits),
+        (Op::Sqrt, 127, 0, 8, -76, Above),
+        (Op::DivEuclid, 68, -8, 4, -128, Fits),
+        (Op::DivEuclid, 64, 100, 8, 0, Fits),
+        (Op::DivEuclidInt, -64, 2, 8, 0, Below),
+        (Op::RemInt, -128, 8, 4, 0, Fits),
+        (Op::RemInt, 127, 100, 4, 127, Fits),
+        (Op::Rem, -128, -1, 4, 0, Fits),
+        (Op::RemEuclid, -128, -1, 4, 0, Fits),
+        (Op::RemEuclidInt, -5, 1, 8, -5, Above),
+        (Op::NextMultipleOf, 48, -24, 4, 48, Fits),
+        (Op::NextMultipleOf, -128, -1, 4, -128, Fits),
+        (Op::NextMultipleOf, 127, -1, 4, 127, Fits),
+        (Op::Mul, 1, -1, 8, -1, Fits),
+        (Op::DivEuclidInt, -1, 2, 8, 0, Below),
+        (Op::RemInt, 0, -128, 8, 0, Fits),
+        (Op::Recip, -128, 0, 7, -128, Fits),
+        (Op::Sqrt, 64, 0, 8, -128, Above),
+    ] {
+        assert_eq!(rt;
+            answer(op, a, b, frac),
+            Some(Outcome { wrapped, side }),
+            "{op:?} of {a} and {b} at {frac}"
+        );
+    }
+}
+
+#[test]
+fn unsigned_bytes(rt: HostRuntime) {
+    for (op, a, b, frac, wrapped, side) in [
+        (Op::Mul, 255_u8, 64, 4, 252, Above),
+        (Op::DivEuclid, 255, 4, 4, 240, Above),
+        (Op::Sqrt, 255, 0, 8, 255, Fits),
+        (Op::Recip, 3, 0, 8, 85, Above),
+        (Op::NextPowerOfTwo, 0, 0, 4, 1, Fits),
+        (Op::NextPowerOfTwo, 200, 0, 4, 0, Above),
+    ] {
+        assert_eq!(rt;
+            answer(op, a, b, frac),
+            Some(Outcome { wrapped, side }),
+            "{op:?} of {a} and {b} at {frac}"
+        );
+    }
+}
+
+#[test]
+fn signed_words_of_32_bits(rt: HostRuntime) {
+    for (op, a, b, frac, wrapped, side) in [
+        (Op::Div, -2147483648_i32, 1, 32, 0, Below),
+        (Op::Div, -2147483648, -2147483648, 32, 0, Above),
+        (Op::Div, -2147483647, -2147483648, 32, -2, Above),
+        (Op::Div, -2147483647, -1, 32, 0, Above),
+        (Op::Div, -2147483647, 1, 32, 0, Below),
+        (Op::RemInt, -2147483648, -1, 16, 0, Fits),
+        (Op::RemEuclidInt, -1073741824, 3, 31, 1073741824, Above),
+        (Op::RemEuclidInt, -536870912, 3, 31, 1610612736, Above),
+        (Op::RemEuclidInt, -536870912, 1, 31, 1610612736, Fits),
+        (Op::RemEuclidInt, -1610612736, 1, 32, -1610612736, Above),
+    ] {
+        assert_eq!(rt;
+            answer(op, a, b, frac),
+            Some(Outcome { wrapped, side }),
+            "{op:?} of {a} and {b} at {frac}"
+        );
+    }
+}
+
+#[test]
+fn each_kernel_at_a_signed_word(rt: HostRuntime) {
+    for (op, a, b, frac, wrapped, side) in [
+        (Op::Neg, -5_i16, 0, 0, 5, Fits),
+        (Op::Neg, -32768, 0, 0, -32768, Above),
+        (Op::Add, 32767, 1, 0, -32768, Above),
+        (Op::Sub, -32768, 1, 0, 32767, Below),
+        (Op::Dist, -3, 4, 0, 7, Fits),
+        (Op::Abs, -32768, 0, 0, -32768, Above),
+        (Op::Abs, -7, 0, 0, 7, Fits),
+        (Op::Signum, -9, 0, 4, -16, Fits),
+        (Op::Signum, 0, 0, 4, 0, Fits),
+        (Op::Mul, -3, 8, 4, -2, Fits),
+        (Op::MulInt, -300, 200, 4, 5536, Below),
+        (Op::Div, -7, 2, 1, -7, Fits),
+        (Op::Div, -7, 3, 0, -2, Fits),
+        (Op::DivInt, -7, 2, 0, -3, Fits),
+        (Op::Recip, -3, 0, 2, -5, Fits),
+        (Op::DivEuclid, -7, 2, 1, -8, Fits),
+        (Op::DivEuclidInt, -7, 2, 1, -4, Fits),
+        (Op::Rem, -7, 4, 0, -3, Fits),
+        (Op::Rem, 7, -4, 0, 3, Fits),
+        (Op::RemInt, -7, 3, 1, -1, Fits),
+        (Op::RemEuclid, -7, -4, 0, 1, Fits),
+        (Op::RemEuclidInt, -7, 3, 1, 5, Fits),
+        (Op::NextMultipleOf, -7, 4, 0, -4, Fits),
+        (Op::NextMultipleOf, -7, -4, 0, -8, Fits),
+        (Op::Sqrt, 50, 0, 0, 7, Fits),
+    ] {
+        assert_eq!(rt;
+            answer(op, a, b, frac),
+            Some(Outcome { wrapped, side }),
+            "{op:?} of {a} and {b} at {frac}"
+        );
+    }
+}
+
+#[test]
+fn each_kernel_at_an_unsigned_word(rt: HostRuntime) {
+    for (op, a, b, frac, wrapped, side) in [
+        (Op::Neg, 5_u16, 0, 0, 65531, Below),
+        (Op::Add, 65535, 1, 0, 0, Above),
+        (Op::Sub, 3, 4, 0, 65535, Below),
+        (Op::Dist, 3, 40000, 0, 39997, Fits),
+        (Op::Mul, 3, 40, 4, 7, Fits),
+        (Op::MulInt, 300, 300, 4, 24464, Above),
+        (Op::Div, 7, 2, 1, 7, Fits),
+        (Op::DivInt, 7, 2, 0, 3, Fits),
+        (Op::Recip, 3, 0, 2, 5, Fits),
+        (Op::DivEuclid, 7, 2, 1, 6, Fits),
+        (Op::DivEuclidInt, 7, 2, 1, 2, Fits),
+        (Op::Rem, 7, 4, 0, 3, Fits),
+        (Op::RemInt, 7, 3, 1, 1, Fits),
+        (Op::RemEuclid, 7, 4, 0, 3, Fits),
+        (Op::RemEuclidInt, 7, 2, 1, 3, Fits),
+        (Op::NextMultipleOf, 7, 4, 0, 8, Fits),
+        (Op::Sqrt, 50, 0, 1, 10, Fits),
+        (Op::NextPowerOfTwo, 32769, 0, 0, 0, Above),
+        (Op::NextPowerOfTwo, 33, 0, 0, 64, Fits),
+        (Op::Sqrt, 256, 0, 7, 181, Fits),
+    ] {
+        assert_eq!(rt;
+            answer(op, a, b, frac),
+            Some(Outcome { wrapped, side }),
+            "{op:?} of {a} and {b} at {frac}"
+        );
+    }
+}
+
+#[test]
+fn reciprocals_with_no_integer_bits(rt: HostRuntime) {
+    for (op, a, b, frac, wrapped, side) in [
+        (Op::Recip, 1_u64, 0, 64, 0, Above),
+        (Op::Recip, 18446744073709551615, 0, 64, 1, Above),
+    ] {
+        assert_eq!(rt;
+            answer(op, a, b, frac),
+            Some(Outcome { wrapped, side }),
+            "{op:?} of {a} and {b} at {frac}"
+        );
+    }
+}
+
+#[test]
+fn unsigned_multiply_add_at_each_length(rt: HostRuntime) {
+    let max = u64::MAX;
+    for (lhs, mul, add, length, wrapped, verdict) in [
+        (max, max, max, 128, max, false),
+        (max, max, max, 127, 0, true),
+        (max, max, max - 1, 127, max, false),
+        (0, 0, max, -64, max, false),
+        (1, 1, max, -64, max, true),
+        (1, 1, 0, -63, 9223372036854775808, false),
+        (1, 1, max, -63, 9223372036854775807, true),
+        (max, max, 0, -64, 0, true),
+    ] {
+        assert_eq!(rt;
+            sum_of_product(lhs, mul, add, length),
+            Some((wrapped, verdict)),
+            "{lhs} by {mul} plus {add} at {length}"
+        );
+    }
+}
+
+#[test]
+fn signed_multiply_add_at_each_length(rt: HostRuntime) {
+    let max = i64::MAX;
+    let min = i64::MIN;
+    for (lhs, mul, add, length, wrapped, verdict) in [
+        (max, max, max, 126, max, false),
+        (max, max, max, 125, min, true),
+        (max, max, max - 1, 125, max, false),
+        (min, min, max, 127, max, false),
+        (min, min, max, 126, min, true),
+        (min, min, max - 1, 126, max, false),
+        (max, min, -max, 126, min, false),
+        (max, min, -max, 125, max, true),
+        (max, min, -max + 1, 125, min, false),
+        (0, 0, max, -64, max, false),
+        (1, 1, -1, -63, max, false),
+        (1, 1, 0, -63, min, true),
+        (1, -1, min, -64, min, true),
+        (1, -1, 0, -63, min, false),
+        (1, -1, max, -63, -1, false),
+        (1, 1, max, -64, max, true),
+        (-1, -1, max, -64, max, true),
+        (-1, -1, -1, -63, max, false),
+        (-1, -1, 0, -63, min, true),
+        (1, -1, max, -64, max, true),
+        (max, max, min, -64, min, true),
+        (min, min, -1, -64, -1, true),
+    ] {
+        assert_eq!(rt;
+            sum_of_product(lhs, mul, add, length),
+            Some((wrapped, verdict)),
+            "{lhs} by {mul} plus {add} at {length}"
+        );
+    }
+}
+
+#[test]
+fn sums_of_products(rt: HostRuntime) {
+    for (a, mul, add, frac, wrapped, side) in [
+        (127_i8, 48, 127, 4, -4, Above),
+        (127, 24, -127, 4, 63, Fits),
+        (-1, 1, 0, 8, -1, Fits),
+    ] {
+        assert_eq!(rt;
+            multiply_add(a, mul, add, frac),
+            Some(Outcome { wrapped, side }),
+            "{a} by {mul} plus {add} at {frac}"
+        );
+    }
+    for (c, a, b, places, wrapped, side) in [
+        (-128_i8, 1, 1, (8, 0, 0), -128, Above),
+        (127, -128, 127, (0, 8, 8), 126, Fits),
+        (127, -128, -128, (0, 8, 8), 127, Fits),
+    ] {
+        assert_eq!(rt;
+            add_product(c, a, b, places),
+            Some(Outcome { wrapped, side }),
+            "{c} plus {a} by {b}"
+        );
+    }
+    for (c, a, b, places, wrapped, side) in [
+        (0_i32, 16384, 229376, (16, 16, 16), 57344, Fits),
+        (57344, 32768, -65537, (16, 16, 16), 24575, Fits),
+    ] {
+        assert_eq!(rt;
+            add_product(c, a, b, places),
+            Some(Outcome { wrapped, side }),
+            "{c} plus {a} by {b}"
+        );
+    }
+    let max = u64::MAX;
+    assert_eq!(rt;
+        add_product(max, max, max, (0, 64, 64)),
+        Some(Outcome {
+            wrapped: max,
+            side: Fits
+        })
+    );
+    assert_eq!(rt;
+        add_product(-1, 1, 1, (63, 0, 0)),
+        Some(Outcome {
+            wrapped: i64::MAX,
+            side: Fits
+        })
+    );
+}
+
+#[test]
+fn verdicts(rt: HostRuntime) {
+    assert_eq!(rt; product(127_i8, 64, 4), Some((-4, true)));
+    assert_eq!(rt; product(255_u8, 64, 4), Some((252, true)));
+    assert_eq!(rt; product(127_i8, 16, 4), Some((127, false)));
+    assert_eq!(rt; product(-1_i8, 1, 8), Some((-1, false)));
+    assert_eq!(rt; ratio(-128_i8, -1, 8), Some((0, true)));
+    assert_eq!(rt; ratio(i32::MIN, i32::MIN, 32), Some((0, true)));
+    assert_eq!(rt; ratio(-2147483647_i32, i32::MIN, 32), Some((-2, true)));
+    assert_eq!(rt; ratio(7_u8, 2, 1), Some((7, false)));
+    assert_eq!(rt; ratio(-7_i8, 2, 0), Some((-3, false)));
+    assert_eq!(rt; sum_of_product(127_i8, 48, 127, 4), Some((-4, true)));
+}
