@@ -7,6 +7,7 @@
 mod digits;
 pub mod laws;
 mod ledger;
+mod narrow;
 mod outcome;
 #[cfg(test)]
 mod tests;
@@ -15,5 +16,6 @@ mod words;
 
 pub use digits::Digits;
 pub use ledger::{Count, Ledger, Silent, Steps};
+pub use narrow::Narrow;
 pub use outcome::{Outcome, Side, outcome_of};
 pub use word::{RawWord, SignedWord, UnsignedWord, Valued, Word};
