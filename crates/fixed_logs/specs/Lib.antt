@@ -1,0 +1,2 @@
+pub mod Logarithm
+pub mod Power
