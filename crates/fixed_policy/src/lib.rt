@@ -5,5 +5,7 @@
 #![tactic(auto)]
 
 mod policies;
+#[cfg(test)]
+mod tests;
 
 pub use policies::{checked_of, overflowing_of, wrapping_of};

@@ -5,5 +5,7 @@
 #![tactic(auto)]
 
 mod policies;
+#[cfg(test)]
+mod tests;
 
 pub use policies::{saturating_of, strict_of};
