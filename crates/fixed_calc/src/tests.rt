@@ -1,21 +1,58 @@
 //! What no clause says: worked scripts from bytes to bytes, printed texts, and ample memory.
 
-use crate::{RunFault, run};
+mod calls;
+mod faults;
+mod pairs;
+mod refused;
+mod worked;
+
+use crate::{Cause, Status, SureSink, SureSource, calc_main};
+use std::alloc::Global;
+use std::process::Abort;
 use std::test::Fail;
 
-#[test]
-fn first_run(rt: HostRuntime) -> Result<(), Fail> {
-    let alloc = rt.alloc();
-    let script =
-        b"i32 16 16\nr0 set 98304\nr1 set 131072\nr0 checked mul r0 r1\nr1 wrapping add r0 r1\n";
-    match run(alloc, script) {
-        Ok(answers) => {
-            assert_eq!(rt;
-                answers.as_bytes(),
-                b"98304\n131072\n196608\n327680\n".as_slice()
-            );
-        }
-        Err(fault) => assert_eq!(rt; fault, RunFault::Memory, "ample memory"),
-    }
+/// What a call of the program leaves.
+#[derive(Drop)]
+struct Seen {
+    status: Status,
+    sink: SureSink,
+    errors: SureSink,
+}
+
+/// A call with no words, on a source of these bytes.
+fn outcome(alloc: Global, script: &[u8]) -> Result<Seen, Fail> {
+    let words = Vec::new(alloc);
+    let mut source = SureSource::new(script.to_vec(alloc)?);
+    let mut sink = SureSink::new(alloc);
+    let mut errors = SureSink::new(alloc);
+    let status = calc_main(alloc, &words, &mut source, &mut sink, &mut errors);
+    Ok(Seen {
+        status,
+        sink,
+        errors,
+    })
+}
+
+/// Asserts that the script is done with these answers.
+fn answers(rt: &impl Abort, alloc: Global, script: &str, want: &str) -> Result<(), Fail> {
+    let seen = outcome(alloc, script.as_bytes())?;
+    assert_eq!(rt; seen.status, Status::Done, "{script}");
+    assert_eq!(rt; seen.sink.taken(), want.as_bytes(), "{script}");
+    assert_eq!(rt; seen.errors.taken(), b"".as_slice(), "{script}");
+    Ok(())
+}
+
+/// Asserts that the script ends with this cause and this line, and that nothing is written.
+fn refuses(
+    rt: &impl Abort,
+    alloc: Global,
+    script: &[u8],
+    cause: Cause,
+    line: &str,
+) -> Result<(), Fail> {
+    let seen = outcome(alloc, script)?;
+    assert_eq!(rt; seen.status, Status::Script(cause), "{script:?}");
+    assert_eq!(rt; seen.errors.taken(), line.as_bytes(), "{script:?}");
+    assert_eq!(rt; seen.sink.taken(), b"".as_slice(), "{script:?}");
     Ok(())
 }

@@ -1,6 +1,8 @@
 //! Standard input, output and error as a source, a sink and errors. They tell no bytes.
 
-ghost use Rattle.std.specs.Prelude.{◌≡◌, None};
+ghost use Rattle.std.specs.Prelude.{◌≡◌, ◌≤◌, ◌<◌, None, IfErr, IfOk, length, take};
+ghost use Rattle.std.specs.Io.KnownBytes.{Appends, ReadConsumes, WriteAppends};
+ghost use Rattle.fixed_calc.specs.Outside.{TellsFaults, TellsRefusals, next_count};
 
 use fixed_calc::{Failed, Refusal, Sink, Source};
 use std::io::{Read, Write};
@@ -23,7 +25,14 @@ impl<R: Read> StdSource<R> {
 impl<R: Read> Source for StdSource<R> {
     ghost state = { λ s. record { left = None; faults = s.faults } };
 
-    fn read(&mut self, buf: &mut [u8]) -> Result<usize, Failed> {
+    fn read(&mut self, buf: &mut [u8]) -> Result<usize, Failed>
+        ensures within { IfOk result (λ k. k ≤ length buf.new) }
+        ensures bytes { ReadConsumes None None result buf.new }
+        ensures faults { TellsFaults self.old.faults self.new.faults result }
+        ensures raised { IfErr result (λ _. self.new.faults ≡ next_count self.old.faults) }
+        // What the reader gave, where it tells its bytes.
+        ensures given { ReadConsumes (R.remaining self.old.reader) (R.remaining self.new.reader) result buf.new }
+    {
         match self.reader.read(buf) {
             Ok(count) => Ok(count),
             Err(_) => {
@@ -53,7 +62,18 @@ impl<W: Write> StdSink<W> {
 impl<W: Write> Sink for StdSink<W> {
     ghost state = { λ s. record { taken = None; faults = s.faults; shortages = 0 } };
 
-    fn write(&mut self, bytes: &[u8]) -> Result<usize, Refusal> {
+    fn write(&mut self, bytes: &[u8]) -> Result<usize, Refusal>
+        ensures within { IfOk result (λ k. k ≤ length bytes.now) }
+        ensures some { 0 < length bytes.now → IfOk result (λ k. 0 < k) }
+        ensures bytes { WriteAppends None None result bytes.now }
+        ensures counts { TellsRefusals
+            (record { taken = None; faults = self.old.faults; shortages = 0 })
+            (record { taken = None; faults = self.new.faults; shortages = 0 }) result }
+        ensures refused { IfErr result (λ refusal. refusal ≡ Refusal.Failed) }
+        ensures raised { IfErr result (λ _. self.new.faults ≡ next_count self.old.faults) }
+        // What the writer took, where it tells its bytes.
+        ensures taken { IfOk result (λ k. Appends (W.contents self.old.writer) (W.contents self.new.writer) (take k bytes.now)) }
+    {
         match self.writer.write(bytes) {
             Ok(count) => {
                 if (count > 0 || bytes.is_empty()) && self.writer.flush().is_ok() {
@@ -86,7 +106,18 @@ impl<W: Write> StdErrors<W> {
 impl<W: Write> Sink for StdErrors<W> {
     ghost state = { λ s. record { taken = None; faults = s.sink.faults; shortages = 0 } };
 
-    fn write(&mut self, bytes: &[u8]) -> Result<usize, Refusal> {
+    fn write(&mut self, bytes: &[u8]) -> Result<usize, Refusal>
+        ensures within { IfOk result (λ k. k ≤ length bytes.now) }
+        ensures some { 0 < length bytes.now → IfOk result (λ k. 0 < k) }
+        ensures bytes { WriteAppends None None result bytes.now }
+        ensures counts { TellsRefusals
+            (record { taken = None; faults = self.old.sink.faults; shortages = 0 })
+            (record { taken = None; faults = self.new.sink.faults; shortages = 0 }) result }
+        ensures refused { IfErr result (λ refusal. refusal ≡ Refusal.Failed) }
+        ensures raised { IfErr result (λ _. self.new.sink.faults ≡ next_count self.old.sink.faults) }
+        // What the writer took, where it tells its bytes.
+        ensures taken { IfOk result (λ k. Appends (W.contents self.old.sink.writer) (W.contents self.new.sink.writer) (take k bytes.now)) }
+    {
         self.sink.write(bytes)
     }
 }

@@ -3,6 +3,8 @@
 #![tactic(auto)]
 
 mod adapters;
+#[cfg(test)]
+mod tests;
 
 use adapters::{StdErrors, StdSink, StdSource};
 use fixed_calc::{Status, calc_main};
