@@ -1,10 +1,10 @@
 -- An outcome that stands for a number stands for each that is alike.
-use Rattle.std.proofs.Common.{◌≡◌, ◌≢◌, ◌⊎◌, ◌+◌, ◌-◌, ◌*◌, ◌/◌, ◌%◌, ◌^◌, ◌<◌, ◌≤◌, ◌≤ℤ◌, ◌<ℤ◌, ◌+ℤ◌, ◌-ℤ◌, ◌*ℤ◌, ℕ, ℤ, zero, suc, Bool, true, false, pos, neg_ℤ, nat_abs, refl, ap, sym, ◌∙◌, arith, inl, inr}
+use Rattle.std.proofs.Common.{◌≡◌, ◌≢◌, ◌⊎◌, ◌+◌, ◌-◌, ◌*◌, ◌/◌, ◌%◌, ◌^◌, ◌<◌, ◌≤◌, ◌≤ℤ◌, ◌<ℤ◌, ◌+ℤ◌, ◌*ℤ◌, ℕ, ℤ, zero, suc, Bool, true, false, pos, neg_ℤ, nat_abs, refl, ap, sym, ◌∙◌, arith, inl, inr}
 use Rattle.std.proofs.lemmas.Int.{ints}
 use Rattle.std.proofs.lemmas.Nat.{div-add-mod', mul-le, mul-mod_first, one_shl, shl_below, pow-add}
-use borrow.Author.Differences.{up, down, sum_is_lem}
+use borrow.Author.Differences.{sum_is_lem}
 use Rattle.fixed_word.specs.declared.outcome.Outcome.{Outcome}
-use Rattle.fixed_word.specs.Format.{IsWidth, lowest, highest, InRange, Congruent, wrap, with_sign}
+use Rattle.fixed_word.specs.Format.{IsWidth, lowest, highest, Congruent, wrap, with_sign}
 use Rattle.fixed_word.specs.Standing.{StandsFor, side_of}
 use Rattle.fixed_word.specs.Wraps.{width_pos, neg-times, wrap_in_range, wrap_congruent, wrap_unique}
 use Rattle.fixed_word.proofs.Sides.{side_above, side_below}

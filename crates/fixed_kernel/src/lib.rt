@@ -3,6 +3,9 @@
 //! Each function answers an [`Outcome`](fixed_word::Outcome) that stands for the exact number of its
 //! operation: what is left of it in the word, and whether it fits, lies above or lies below. Bits and
 //! numbers are whole numbers of units of `2^-frac`. No function takes memory.
+//! The condition of each is that its fractions are at most the word's width and its divisor is not 0.
+//! These functions are this project's own. [`overflowing_mul`], [`overflowing_div`] and
+//! [`overflowing_mul_add`], which answer the word that is left and a verdict, are the crate's.
 #![tactic(auto)]
 
 pub mod laws;

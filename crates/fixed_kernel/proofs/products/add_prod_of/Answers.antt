@@ -1,4 +1,4 @@
-use Rattle.std.proofs.Common.{rules, ◌≡◌, ◌+◌, ◌^◌, ◌<◌, ◌≤◌, ◌-ℤ◌, ℕ, ℤ, pos, arith}
+use Rattle.std.proofs.Common.{◌≡◌, ◌+◌, ◌^◌, ◌<◌, ◌-ℤ◌, ℕ, pos, arith}
 use Rattle.std.proofs.lemmas.Int.{ints, to_z_pos, to_z-of_z}
 use Rattle.std.specs.Int.{w32}
 use mir.Val.{SFits, to_z, of_z}

@@ -1,4 +1,4 @@
-use Rattle.std.proofs.Common.{◌≡◌, ◌≢◌, ◌*◌, ◌^◌, ◌<◌, ◌≤◌, ℕ, ℤ, pos, subst, sym, ap, ◌∙◌, arith}
+use Rattle.std.proofs.Common.{◌≡◌, ◌*◌, ◌^◌, ◌<◌, ℕ, ℤ, pos, subst, sym, ap, ◌∙◌, arith}
 use Rattle.fixed_word.specs.Quotient.{truncated_quotient}
 use Rattle.fixed_word.specs.Standing.{StandsFor}
 use Rattle.fixed_kernel.specs.WideValue.{value_of}
