@@ -5,3 +5,4 @@ pub mod Sqrts
 pub mod RowLaws
 pub mod RowLawsFits
 pub mod RowLawsPowers
+pub mod Truncated

@@ -5,7 +5,7 @@ ghost use Rattle.fixed_word.specs.Standing.{StandsFor};
 ghost use Rattle.fixed_kernel.specs.Rows.{exact_abs, exact_add, exact_dist, exact_neg, exact_signum, exact_sub};
 
 use crate::wide::Wide;
-use fixed_word::{Outcome, Word};
+use fixed_word::{Outcome, RawWord, Word};
 
 /// `-a`
 pub fn neg_of<T: Word>(a: T) -> Outcome<T>
@@ -56,4 +56,20 @@ pub fn signum_of<T: Word>(a: T, frac: u32) -> Outcome<T>
         magnitude: unit,
     }
     .outcome()
+}
+
+/// `a + b`, for words of one width that may differ in sign.
+pub fn mixed_add_of<T: Word, U: RawWord>(a: T, b: U) -> Outcome<T>
+    requires { U.BITS ≡ T.BITS }
+    ensures { StandsFor T.value T.SIGNED T.BITS (exact_add (T.value a) (U.value b)) result }
+{
+    Wide::of(a).plus(Wide::of(b)).outcome()
+}
+
+/// `a - b`, for words of one width that may differ in sign.
+pub fn mixed_sub_of<T: Word, U: RawWord>(a: T, b: U) -> Outcome<T>
+    requires { U.BITS ≡ T.BITS }
+    ensures { StandsFor T.value T.SIGNED T.BITS (exact_sub (T.value a) (U.value b)) result }
+{
+    Wide::of(a).plus(Wide::of(b).negated()).outcome()
 }

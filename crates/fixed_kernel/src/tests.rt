@@ -4,5 +4,6 @@ mod calls;
 mod ends;
 mod exhaustive;
 mod families;
+mod mixed;
 mod plain;
 mod vectors;
