@@ -2,6 +2,8 @@
 
 use super::{answers, refuses};
 use crate::Cause;
+use std::alloc::Global;
+use std::process::Abort;
 use std::test::Fail;
 
 /// Each operation on a signed and on an unsigned word, where it is offered: a number that does not
@@ -286,6 +288,31 @@ fn strict_overflows(rt: HostRuntime) -> Result<(), Fail> {
     Ok(())
 }
 
+/// Asserts what the operation, whose row is undefined, says under the policy, where it is offered.
+fn undefined(rt: &impl Abort, alloc: Global, policy: &str, call: &str) -> Result<(), Fail> {
+    let script = format!(in alloc; "i8 4 4\nr1 set -5\nr0 {policy} {call}\n")?;
+    let bytes = script.as_bytes();
+    if policy == "checked" {
+        answers(rt, alloc, &script, "-5\nnone\n")
+    } else if call == "sqrt r1" {
+        refuses(
+            rt,
+            alloc,
+            bytes,
+            Cause::NegativeRoot(3),
+            "line 3: negative root\n",
+        )
+    } else {
+        refuses(
+            rt,
+            alloc,
+            bytes,
+            Cause::ZeroDivisor(3),
+            "line 3: zero divisor\n",
+        )
+    }
+}
+
 /// Where its row is undefined, an operation answers no value under checked, and has its cause under
 /// each other policy that has it.
 #[test]
@@ -300,25 +327,16 @@ fn undefined_rows(rt: HostRuntime) -> Result<(), Fail> {
         "rem_euclid_int r1 0",
         "next_multiple_of r1 r0",
         "sqrt r1",
-        "rem r1 r0",
-        "rem_int r1 0",
-        "rem_euclid r1 r0",
     ] {
-        for policy in POLICIES {
-            let script = format!(in alloc; "i8 4 4\nr1 set -5\nr0 {policy} {call}\n")?;
-            if policy == "checked" {
-                answers(&rt, alloc, &script, "-5\nnone\n")?;
-            } else if call == "sqrt r1" {
-                let line = "line 3: negative root\n";
-                refuses(&rt, alloc, script.as_bytes(), Cause::NegativeRoot(3), line)?;
-            } else if policy == "strict"
-                || !call.starts_with("rem")
-                || call.starts_with("rem_euclid_int")
-            {
-                let line = "line 3: zero divisor\n";
-                refuses(&rt, alloc, script.as_bytes(), Cause::ZeroDivisor(3), line)?;
-            }
-        }
+        undefined(&rt, alloc, "checked", call)?;
+        undefined(&rt, alloc, "saturating", call)?;
+        undefined(&rt, alloc, "wrapping", call)?;
+        undefined(&rt, alloc, "overflowing", call)?;
+        undefined(&rt, alloc, "strict", call)?;
+    }
+    for call in ["rem r1 r0", "rem_int r1 0", "rem_euclid r1 r0"] {
+        undefined(&rt, alloc, "checked", call)?;
+        undefined(&rt, alloc, "strict", call)?;
     }
     Ok(())
 }
