@@ -1,5 +1,5 @@
 -- The cause of a line, from its tests.
-use Rattle.std.proofs.Common.{◌≡◌, ◌^◌, ◌<◌, ◌≤◌, ℕ, ℤ, Bool, true, false, nat_le, List, [], ◌∷◌, pos, set, length, unsigned_abs, Option, Some, None, Result, Ok, Err, if◌then◌else◌, ◌&&◌, ◌||◌, not, refl, ap, ◌∙◌, sym, rules, arith, IsTrue, neg_ℤ, subst, inl, inr}
+use Rattle.std.proofs.Common.{◌≡◌, ◌^◌, ◌<◌, ℕ, ℤ, Bool, true, false, nat_le, List, [], ◌∷◌, pos, set, length, unsigned_abs, Option, Some, None, Result, Ok, Err, if◌then◌else◌, ◌||◌, not, refl, ap, ◌∙◌, sym, arith, neg_ℤ, subst, inl, inr}
 use Rattle.std.proofs.lemmas.Bool.Decides.{nat_tests}
 use Rattle.std.specs.Bool.{⊤}
 use Rattle.std.proofs.lemmas.List.{get_or_past}
@@ -17,11 +17,10 @@ use Rattle.fixed_calc.specs.declared.names.Op.{Op}
 use Rattle.fixed_calc.specs.declared.answer.Answer.{Answer}
 use Rattle.fixed_calc.specs.declared.answer.Answer.TheVariants.{Absent, Bits, Flagged}
 use Rattle.fixed_calc.specs.Text.{ScriptLine, SetTo, Apply, Operands, OneRegister, TwoRegisters, RegisterAndInt, ThreeRegisters}
-use Rattle.fixed_word.specs.Format.{fits}
-use Rattle.fixed_calc.specs.Projection.{plain, project, is_strict}
+use Rattle.fixed_calc.specs.Projection.{plain, project}
 use Rattle.fixed_calc.specs.Offered.{is_offered}
-use Rattle.fixed_calc.specs.Machine.{State, Cell, cell_at, empty_cell, destination, registers_of, literals_of, cause, integer, Taken, first_of, causes_of, row_causes, row_of, taken, is_unoffered, is_out_of_range, is_mismatched, is_value, is_signed, width, answer, stored, move, exceeds}
-use Rattle.fixed_calc.specs.Step.{AnswerTells, RowTells, StepTells, IsCell, FitsFormat, IsApplied, TakenTells, taken_of}
+use Rattle.fixed_calc.specs.Machine.{State, Cell, cell_at, empty_cell, destination, registers_of, cause, integer, Taken, first_of, causes_of, row_causes, row_of, taken, is_unoffered, is_out_of_range, is_mismatched, is_value, is_signed, width, answer}
+use Rattle.fixed_calc.specs.Step.{AnswerTells, RowTells, IsCell, IsApplied, TakenTells, taken_of}
 use Rattle.fixed_calc.specs.declared.register.Taken.{Taken as RegistersTaken}
 use Rattle.fixed_calc.specs.declared.cause.Cause.{Cause}
 use Rattle.fixed_calc.specs.declared.cause.Cause.TheVariants.{Syntax, OutOfRange, FractionMismatch, ZeroDivisor, NegativeRoot, Overflow}

@@ -1,12 +1,10 @@
 -- Registers as cells.
-use Rattle.std.proofs.Common.{◌≡◌, ◌<◌, ◌∙◌, ◌^◌, ℕ, zero, suc, ℤ, pos, negsuc, get_or, set, map, length, List, unsigned_abs, ap, sym, refl, rules, arith}
-use Rattle.std.specs.Int.{w128}
-use Rattle.std.proofs.lemmas.Int.{to_z-of_z, ints}
+use Rattle.std.proofs.Common.{◌≡◌, ◌<◌, ◌∙◌, ℕ, zero, suc, ℤ, pos, negsuc, get_or, set, length, List, unsigned_abs, sym, refl, arith}
+use Rattle.std.proofs.lemmas.Int.{ints}
 use Rattle.std.proofs.lemmas.List.{map-set, get_or-map}
-use mir.Val.{SFits, to_z, of_z}
 use lib.Signed.{lt_z}
 use Rattle.fixed_word.specs.Format.{with_sign}
-use Rattle.fixed_calc.specs.Machine.{Cell, empty_cell, cell_at}
+use Rattle.fixed_calc.specs.Machine.{empty_cell, cell_at}
 use Rattle.fixed_calc.specs.Step.{cell_of, cells_of}
 use Rattle.fixed_calc.specs.declared.register.Register.{Register}
 

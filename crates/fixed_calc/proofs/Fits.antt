@@ -1,5 +1,5 @@
 -- Numbers that fit.
-use Rattle.std.proofs.Common.{◌≡◌, ◌^◌, ◌-◌, ◌<◌, ◌≤ℤ◌, ◌<ℤ◌, ℕ, ℤ, Bool, true, false, not, IsTrue, pos, neg_ℤ, unsigned_abs, inl, inr, arith, refl, sym, ap, ◌∙◌}
+use Rattle.std.proofs.Common.{◌≡◌, ◌^◌, ◌<◌, ◌≤ℤ◌, ◌<ℤ◌, ℕ, ℤ, Bool, true, false, IsTrue, pos, neg_ℤ, unsigned_abs, inl, inr, arith, refl}
 use Rattle.std.proofs.lemmas.Int.{ints}
 use Rattle.fixed_word.specs.Format.{IsWidth, fits, InRange, lowest, highest, wrap, clamp, with_sign}
 use Rattle.fixed_word.specs.Wraps.{wrap_in_range, width_pos}

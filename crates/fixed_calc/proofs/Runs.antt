@@ -1,7 +1,7 @@
 -- A run, one line at a time.
-use Rattle.std.proofs.Common.{◌≡◌, ◌+◌, ◌<◌, ◌≤◌, ◌*◌, ◌^◌, if◌then◌else◌, Bool, true, false, subst, ℕ, List, [], ◌∷◌, ◌++◌, map, length, nat_lt, min, Option, Some, None, Ok, Err, Result, refl, sym, ap, ◌∙◌, append_assoc, arith}
-use Rattle.std.specs.List.{list_any, All}
-use Rattle.std.proofs.lemmas.List.{append-nil, length-map}
+use Rattle.std.proofs.Common.{◌≡◌, ◌+◌, ◌≤◌, ◌*◌, if◌then◌else◌, Bool, true, false, subst, ℕ, List, [], ◌∷◌, ◌++◌, map, length, nat_lt, Option, Some, None, Ok, Err, Result, refl, sym, ap, ◌∙◌, append_assoc, arith}
+use Rattle.std.specs.List.{All}
+use Rattle.std.proofs.lemmas.List.{append-nil}
 use Rattle.std.proofs.lemmas.List.Elements.{All-nil, All-cons}
 use Rattle.std.proofs.lemmas.Bool.Decides.{nat_tests}
 use Rattle.fixed_calc.specs.declared.names.WordName.{WordName}
@@ -11,7 +11,7 @@ use Rattle.fixed_calc.specs.Answers.{answer_text}
 use Rattle.fixed_word.specs.Pieces.{pieces}
 use Rattle.fixed_calc.specs.Capped.{cap}
 use Rattle.fixed_calc.specs.Text.{ScriptHeader, ScriptLine}
-use Rattle.fixed_calc.specs.Machine.{State, Cell, cause, answer, move, width}
+use Rattle.fixed_calc.specs.Machine.{State, Cell, answer, move, width}
 use Rattle.fixed_calc.specs.Meaning.{Run, after, stopped, by_cause, step_then, run_lines, run_of, run_pieces, run_from, line_at, header_at, start, has_wide, fractions_of, zeros}
 use Rattle.fixed_calc.specs.Rooms.{Space, RunTells, HoldsState}
 use Rattle.fixed_calc.specs.Step.{StepTells, state_in, IsCell}

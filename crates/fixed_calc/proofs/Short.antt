@@ -1,6 +1,5 @@
 -- An answer is at most twice as long as its line, and a header has a space for each register.
-use Rattle.std.proofs.Common.{◌≡◌, ◌^◌, ◌<◌, ◌≤◌, ◌+◌, ◌*◌, ◌-◌, ◌==◌, if◌then◌else◌, cond, ℕ, zero, suc, ℤ, Bool, true, false, not, List, [], ◌∷◌, ◌++◌, length, take, map, Option, Some, None, refl, sym, ap, ◌∙◌, arith, length-append, rules}
-use Rattle.std.specs.List.{count_by}
+use Rattle.std.proofs.Common.{◌≡◌, ◌≤◌, ◌+◌, ◌*◌, ◌-◌, ◌==◌, if◌then◌else◌, cond, ℕ, ℤ, Bool, true, false, not, List, [], ◌∷◌, length, take, Option, Some, None, refl, ap, arith, length-append}
 use Rattle.std.specs.Prelude.{slice_index}
 use Rattle.std.proofs.lemmas.List.{length-take, length-map}
 use Rattle.std.proofs.lemmas.List.Splits.{length-slice_split}
@@ -8,13 +7,11 @@ use Rattle.fixed_calc.specs.declared.names.WordName.{WordName}
 use Rattle.fixed_calc.specs.declared.names.Policy.{Policy}
 use Rattle.fixed_calc.specs.declared.names.Policy.TheVariants.{Checked, Saturating, Wrapping, Overflowing, Strict}
 use Rattle.fixed_calc.specs.declared.names.Op.{Op}
-use Rattle.fixed_calc.specs.declared.answer.Answer.{Answer}
-use Rattle.fixed_calc.specs.declared.answer.Answer.TheVariants.{Absent, Bits, Flagged}
-use Rattle.fixed_word.specs.Decimal.{natural_text, whole_text}
+use Rattle.fixed_calc.specs.declared.answer.Answer.TheVariants.{Bits, Flagged}
+use Rattle.fixed_word.specs.Decimal.{natural_text}
 use Rattle.fixed_calc.specs.Answers.{answer_text}
 use Rattle.fixed_calc.specs.Names.{policy_name}
 use Rattle.fixed_word.specs.Pieces.{body}
-use Rattle.fixed_calc.specs.Parser.{tokens_of}
 use Rattle.fixed_calc.specs.Text.{ScriptHeader, header_text, ScriptLine, SetTo, Apply, Operands, OneRegister, TwoRegisters, RegisterAndInt, ThreeRegisters, line_text}
 use Rattle.fixed_calc.proofs.Lengths.{length_natural_some, length_whole}
 use Rattle.fixed_calc.proofs.HeaderLaws.{tokens_of_header}

@@ -1,19 +1,17 @@
 -- A piece is read as the line whose text it is.
-use Rattle.std.proofs.Common.{◌≡◌, ◌↔◌, ℕ, ℤ, suc, pos, negsuc, neg_ℤ, List, [], ◌∷◌, map, drop, Option, Some, None, Bool, true, false, if◌then◌else◌, refl, sym, ap, subst, rules, IfNone, IfSome, ◌∙◌, codes}
+use Rattle.std.proofs.Common.{◌≡◌, ℕ, ℤ, suc, pos, negsuc, neg_ℤ, List, [], ◌∷◌, map, drop, Option, Some, None, Bool, true, false, if◌then◌else◌, refl, sym, ap, subst, rules, IfNone, IfSome, ◌∙◌, codes}
 use Rattle.std.specs.Option.{option_map}
 use Rattle.std.specs.Str.{bytes_eq}
-use Rattle.std.specs.Str.Parse.{digits_value}
 use Rattle.std.proofs.lemmas.Slice.Eq.{bytes_eq-Decides}
 use Rattle.std.proofs.lemmas.Option.{same_Some}
-use Rattle.fixed_calc.specs.declared.names.WordName.{WordName}
 use Rattle.fixed_calc.specs.declared.names.Policy.{Policy}
 use Rattle.fixed_calc.specs.declared.names.Op.{Op}
 use Rattle.fixed_calc.specs.declared.line.Shape.{Shape}
 use Rattle.fixed_calc.specs.declared.line.Shape.TheVariants.{Unary, Binary, ByInt, Ternary}
 use Rattle.fixed_word.specs.Decimal.{natural_text, whole_text}
-use Rattle.fixed_calc.specs.Names.{word_named, policy_named, op_named}
-use Rattle.fixed_calc.specs.Text.{ScriptHeader, header_text, header_tokens, ScriptLine, SetTo, Apply, Operands, OneRegister, TwoRegisters, RegisterAndInt, ThreeRegisters, IsLine, line_text, line_tokens, register_text, shape, shape_of}
-use Rattle.fixed_calc.specs.Parser.{tokens_of, has_minus}
+use Rattle.fixed_calc.specs.Names.{policy_named, op_named}
+use Rattle.fixed_calc.specs.Text.{ScriptHeader, header_text, header_tokens, ScriptLine, SetTo, Apply, OneRegister, TwoRegisters, RegisterAndInt, ThreeRegisters, IsLine, line_text, line_tokens, shape, shape_of}
+use Rattle.fixed_calc.specs.Parser.{tokens_of}
 use Rattle.fixed_calc.proofs.Decimals.{decimal_of_text}
 use Rattle.fixed_calc.proofs.Readers.{policy_again, op_again, no_minus}
 use Rattle.fixed_calc.proofs.Joined.{tokens_of_line}

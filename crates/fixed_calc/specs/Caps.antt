@@ -1,5 +1,5 @@
 -- The cap at 2 ^ 64 changes nothing.
-use Rattle.std.specs.Prelude.{◌≡◌, ◌≤◌, ◌^◌, ℕ, length, Option, None}
+use Rattle.std.specs.Prelude.{◌≡◌, ◌≤◌, ◌^◌, ℕ, length, None}
 use Rattle.fixed_calc.specs.Text.{ScriptLine}
 use Rattle.fixed_calc.specs.Capped.{capped}
 use Rattle.fixed_calc.specs.Machine.{State, cause, answer, move}

@@ -1,9 +1,8 @@
 -- The line, and the header, whose text a piece is.
-use Rattle.std.specs.Prelude.{◌≡◌, ◌↔◌, ◌∷◌, ℕ, ℤ, pos, neg_ℤ, List, [], drop, get_or, map, Option, Some, None, if◌then◌else◌, codes}
+use Rattle.std.specs.Prelude.{◌≡◌, ◌↔◌, ℕ, ℤ, pos, neg_ℤ, List, [], drop, get_or, map, Option, Some, None, if◌then◌else◌, codes}
 use Rattle.std.specs.Option.{option_map}
 use Rattle.std.specs.Str.{bytes_eq}
 use Rattle.std.specs.Str.Parse.{digits_value}
-use Rattle.fixed_calc.specs.declared.names.WordName.{WordName}
 use Rattle.fixed_calc.specs.declared.names.Policy.{Policy}
 use Rattle.fixed_calc.specs.declared.names.Op.{Op}
 use Rattle.fixed_calc.specs.declared.line.Shape.{Shape}

@@ -1,19 +1,18 @@
 -- What a step says.
 use Rattle.std.specs.Prelude.{◌≡◌, ◌≤◌, ℕ, ℤ, Bool, List, map, Option, Some, None, Result, Ok, Err, IsTrue, ⊤, true, false, not, ◌&&◌}
-use Rattle.std.specs.List.{All}
 use Rattle.fixed_calc.specs.declared.names.WordName.{WordName}
 use Rattle.fixed_calc.specs.declared.names.Policy.{Policy}
 use Rattle.fixed_calc.specs.declared.names.Op.{Op}
 use Rattle.fixed_calc.specs.declared.answer.Answer.{Answer}
 use Rattle.fixed_calc.specs.declared.line.Line.{Line}
 use Rattle.fixed_calc.specs.declared.line.Line.TheVariants.{Set, One, Two, Int, Three}
-use Rattle.fixed_calc.specs.Text.{ScriptLine, SetTo, Apply, Operands, OneRegister, TwoRegisters, RegisterAndInt, ThreeRegisters}
-use Rattle.fixed_calc.specs.Capped.{literal_value, denoted}
+use Rattle.fixed_calc.specs.Text.{ScriptLine, SetTo, Apply, OneRegister, TwoRegisters, RegisterAndInt, ThreeRegisters}
+use Rattle.fixed_calc.specs.Capped.{literal_value}
 use Rattle.fixed_word.specs.Format.{with_sign, fits}
 use Rattle.fixed_word.specs.Standing.{StandsFor}
 use Rattle.fixed_word.specs.declared.outcome.Outcome.{Outcome}
 use Rattle.fixed_calc.specs.Projection.{project, is_strict}
-use Rattle.fixed_calc.specs.Machine.{Cell, State, Taken, taken, is_value, is_signed, width, row_of, row_causes, first_of, cause, answer, move}
+use Rattle.fixed_calc.specs.Machine.{Cell, State, Taken, taken, is_signed, width, row_causes, first_of, cause, answer, move}
 use Rattle.fixed_calc.specs.declared.cause.Cause.{Cause}
 use Rattle.fixed_calc.specs.declared.cause.Cause.TheVariants.{Syntax, Overflow}
 use Rattle.fixed_calc.specs.declared.register.Register.{Register}

@@ -19,7 +19,7 @@ pub struct SureSource {
 impl SureSource {
     /// A source of these bytes.
     pub fn new(bytes: Vec<u8>) -> SureSource
-        ensures bytes { drop result.at result.bytes.items ≡ bytes.items }
+        ensures { ⟦<SureSource as Source>⟧.state result ≡ record { left = Some bytes.items; faults = 0 } }
     {
         SureSource { bytes, at: 0 }
     }
@@ -30,7 +30,7 @@ impl Source for SureSource {
 
     fn read(&mut self, buf: &mut [u8]) -> Result<usize, Failed>
         ensures within { IfOk result (λ k. k ≤ length buf.new) }
-        ensures bytes { ReadConsumes (Some (drop self.old.at self.old.bytes.items)) (Some (drop self.new.at self.new.bytes.items)) result buf.new }
+        ensures bytes { ReadConsumes (⟦<SureSource as Source>⟧.state self.old).left (⟦<SureSource as Source>⟧.state self.new).left result buf.new }
         ensures faults { TellsFaults 0 0 result }
         ensures sure { IsOk result }
     {
@@ -51,8 +51,7 @@ pub struct SureSink {
 impl SureSink {
     /// A sink that has taken nothing.
     pub fn new(alloc: Global) -> SureSink
-        ensures bytes { result.bytes.items ≡ [] }
-        ensures shortages { result.shortages ≡ 0 }
+        ensures { ⟦<SureSink as Sink>⟧.state result ≡ record { taken = Some []; faults = 0; shortages = 0 } }
     {
         SureSink {
             bytes: Vec::new(alloc),
@@ -62,7 +61,7 @@ impl SureSink {
 
     /// The bytes taken.
     pub fn taken(&self) -> &[u8]
-        ensures { result.now ≡ self.now.bytes.items }
+        ensures { (⟦<SureSink as Sink>⟧.state self.now).taken ≡ Some result.now }
     {
         &self.bytes
     }
@@ -74,12 +73,10 @@ impl Sink for SureSink {
     fn write(&mut self, bytes: &[u8]) -> Result<usize, Refusal>
         ensures within { IfOk result (λ k. k ≤ length bytes.now) }
         ensures some { 0 < length bytes.now → IfOk result (λ k. 0 < k) }
-        ensures bytes { WriteAppends (Some self.old.bytes.items) (Some self.new.bytes.items) result bytes.now }
-        ensures counts { TellsRefusals
-            (record { taken = Some self.old.bytes.items; faults = 0; shortages = self.old.shortages })
-            (record { taken = Some self.new.bytes.items; faults = 0; shortages = self.new.shortages }) result }
+        ensures bytes { WriteAppends (⟦<SureSink as Sink>⟧.state self.old).taken (⟦<SureSink as Sink>⟧.state self.new).taken result bytes.now }
+        ensures counts { TellsRefusals (⟦<SureSink as Sink>⟧.state self.old) (⟦<SureSink as Sink>⟧.state self.new) result }
         ensures sure { IsErrOf result Refusal.Failed → ⊥ }
-        ensures short { IfErr result (λ _. self.new.shortages ≡ next_count self.old.shortages) }
+        ensures short { IfErr result (λ _. (⟦<SureSink as Sink>⟧.state self.new).shortages ≡ next_count (⟦<SureSink as Sink>⟧.state self.old).shortages) }
     {
         match self.bytes.extend_from_slice(bytes) {
             Ok(()) => Ok(bytes.len()),

@@ -1,4 +1,4 @@
-use Rattle.std.proofs.Common.{◌+◌, ◌≡◌, ◌≤◌, ◌++◌, length, drop}
+use Rattle.std.proofs.Common.{◌≡◌, ◌≤◌, ◌++◌, length, drop}
 use Rattle.fixed_word.specs.Decimal.{natural_text}
 use Rattle.fixed_calc.proofs.decimal.decimal_into.Given as goal
 

@@ -1,4 +1,4 @@
-use Rattle.std.proofs.Common.{◌≡◌, ◌≤◌, ◌^◌, length, arith, rules, sym, subst, Option}
+use Rattle.std.proofs.Common.{◌≤◌, ◌^◌, length, arith, sym, subst, Option}
 use Rattle.std.proofs.lemmas.List.{length-map}
 use Rattle.fixed_calc.specs.Text.{ScriptLine}
 use Rattle.fixed_calc.specs.Step.{StepTells, cell_of, cells_of, state_in}

@@ -1,10 +1,9 @@
-use Rattle.std.proofs.Common.{◌≡◌, ◌≤◌, ◌-◌, ◌∙◌, List, ℕ, ap, sym, subst, arith, refl, drop, take, map, length, None, true, false}
-use Rattle.std.proofs.lemmas.List.{take_rest, nil_from_length, length-map, length-take}
+use Rattle.std.proofs.Common.{◌≡◌, ◌∙◌, ap, sym, arith, drop, map, length, None, true, false}
+use Rattle.std.proofs.lemmas.List.{take_rest, nil_from_length, length-map}
 use Rattle.fixed_calc.specs.Capped.{cap}
-use Rattle.fixed_calc.specs.Headers.{CappedHeader, capped_header}
+use Rattle.fixed_calc.specs.Headers.{CappedHeader}
 use Rattle.fixed_word.specs.Pieces.{pieces}
-use Rattle.fixed_calc.specs.Meaning.{stopped, fractions_of, has_wide, zeros, start}
-use Rattle.fixed_calc.specs.Machine.{State}
+use Rattle.fixed_calc.specs.Meaning.{stopped, fractions_of, has_wide, zeros}
 use Rattle.fixed_calc.specs.Rooms.{spaces_of}
 use Rattle.fixed_calc.proofs.Short.{header_room}
 use Rattle.fixed_calc.proofs.Runs.{run_of_nil, run_of_no_header, run_of_wide, run_of_lines, told_none, told_started, caps_wide, caps_narrow}

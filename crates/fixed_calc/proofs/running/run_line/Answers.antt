@@ -1,4 +1,4 @@
-use Rattle.std.proofs.Common.{◌≡◌, ◌≤◌, ◌+◌, ◌*◌, ◌∙◌, ◌++◌, List, ℕ, ap, sym, subst, arith, take, drop, length, refl, Some, Ok, Err, rules}
+use Rattle.std.proofs.Common.{◌≡◌, ◌+◌, ◌∙◌, ◌++◌, List, ℕ, ap, sym, arith, take, drop, length}
 use Rattle.std.proofs.lemmas.List.{length-drop, length-append, length-take}
 use Rattle.fixed_calc.specs.Answers.{answer_text}
 use Rattle.fixed_word.specs.Pieces.{pieces}

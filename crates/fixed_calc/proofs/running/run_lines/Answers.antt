@@ -1,4 +1,4 @@
-use Rattle.std.proofs.Common.{◌≡◌, ◌∙◌, List, ℕ, ap, sym, arith, refl, drop}
+use Rattle.std.proofs.Common.{◌∙◌, List, ℕ, ap, sym, arith, refl}
 use Rattle.std.proofs.lemmas.List.{drop_all}
 use Rattle.fixed_word.specs.Pieces.{pieces}
 use Rattle.fixed_calc.specs.Meaning.{after, run_lines}

@@ -1,11 +1,9 @@
-use Rattle.std.proofs.Common.{◌≡◌, ◌∙◌, ap, Ok, rules, sym, subst, ℤ, Result}
+use Rattle.std.proofs.Common.{ap, Ok, rules, sym, subst, ℤ}
 use Rattle.std.specs.Int.{w128}
 use Rattle.std.proofs.lemmas.Int.{to_z-of_z}
 use mir.Val.{SFits}
 use Rattle.fixed_calc.specs.Capped.{literal_value}
-use Rattle.fixed_calc.specs.declared.answer.Answer.{Answer}
 use Rattle.fixed_calc.specs.declared.answer.Answer.TheVariants.{Bits}
-use Rattle.fixed_calc.specs.declared.cause.Cause.{Cause}
 use Rattle.fixed_calc.specs.Step.{AnswerTells, cells_of, state_in, seen}
 use Rattle.fixed_calc.proofs.Causes.{PassesTests, set_small, set_tells}
 use Rattle.fixed_calc.proofs.stepping.answer_of.Goals as goal
