@@ -9,6 +9,7 @@ mod powers;
 mod products;
 mod quotients;
 mod remainders;
+mod rounding;
 mod sums;
 mod wide;
 
@@ -16,4 +17,5 @@ pub use powers::{next_power_of_two_of, sqrt_of};
 pub use products::{add_prod_of, mul_add_of, mul_int_of, mul_of};
 pub use quotients::{div_euclid_int_of, div_euclid_of, div_int_of, div_of, recip_of};
 pub use remainders::{next_multiple_of_of, rem_euclid_int_of, rem_euclid_of, rem_int_of, rem_of};
+pub use rounding::round_to_zero_of;
 pub use sums::{abs_of, add_of, dist_of, neg_of, signum_of, sub_of};
