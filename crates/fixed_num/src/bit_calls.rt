@@ -1,6 +1,6 @@
 //! Calls on the bits and bytes of a number, which are those of its word.
 
-ghost use Rattle.std.specs.Prelude.{◌≡◌, ℕ, List, reverse, min, max, count_by};
+ghost use Rattle.std.specs.Prelude.{◌≡◌, false, true, reverse, min, max, count_by};
 ghost use Rattle.std.specs.List.{prefix_len, suffix_len};
 ghost use Rattle.fixed_word.specs.Format.{wrap};
 ghost use Rattle.fixed_bits.specs.Digits.{IsRotated, bit_list, byte_list, complement, differ, is_one, is_zero, zip_with};

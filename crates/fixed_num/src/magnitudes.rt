@@ -54,12 +54,15 @@ impl<T: Word, const F: u32> Fixed<T, F> {
     {
         let by = rhs.min(T::BITS);
         let magnitude = self.bits.magnitude() as u128;
-        let bits = if self.bits.is_below_zero() {
-            T::residue(true, ((magnitude - 1) >> by) + 1)
+        if self.bits.is_below_zero() {
+            Fixed {
+                bits: T::residue(true, ((magnitude - 1) >> by) + 1),
+            }
         } else {
-            T::residue(false, magnitude >> by)
-        };
-        Fixed { bits }
+            Fixed {
+                bits: T::residue(false, magnitude >> by),
+            }
+        }
     }
 
     /// The number with what stands behind the point dropped toward zero. Condition: `F` is at most n.
