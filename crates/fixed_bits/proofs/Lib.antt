@@ -1,0 +1,5 @@
+pub mod Lists
+pub mod Bits
+pub mod Counts
+pub mod ByteLists
+pub mod Words

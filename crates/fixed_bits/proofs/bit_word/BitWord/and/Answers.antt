@@ -1,0 +1,6 @@
+use Rattle.std.proofs.Common.{◌∙◌}
+use Rattle.fixed_bits.proofs.Bits.{and_list}
+use Rattle.fixed_bits.proofs.bit_word.BitWord.and.Goals as goal
+
+pub returns : goal.returns
+returns g c = rw (c.pattern_of.ensures.digits, c.pattern_of-2.ensures.digits) (c.word_of.ensures ∙ and_list g.Self.Valued.BITS c.pattern_of.result c.pattern_of-2.result)

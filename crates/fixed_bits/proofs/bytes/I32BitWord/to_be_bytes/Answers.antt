@@ -1,0 +1,10 @@
+use Rattle.std.proofs.Common.{ℕ, List, reverse, rules, ap, ◌∙◌}
+use Rattle.std.specs.Int.{w32}
+use mir.Val.{SFits}
+use Rattle.fixed_bits.proofs.ByteLists.{bytes_of_signed}
+use Rattle.fixed_bits.proofs.bytes.I32BitWord.to_be_bytes.Goals as goal
+
+pub returns : goal.returns
+returns c =
+    let f : SFits w32 c.args.self = search rules in
+    c.to_be_bytes.ensures ∙ ap {B = List ℕ} reverse (bytes_of_signed w32 c.args.self _ f c.to_unsigned.ensures.value)

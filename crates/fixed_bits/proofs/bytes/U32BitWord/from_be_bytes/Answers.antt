@@ -1,0 +1,6 @@
+use Rattle.std.proofs.Common.{arith, rules}
+use Rattle.fixed_bits.proofs.ByteLists.{be_back_4}
+use Rattle.fixed_bits.proofs.bytes.U32BitWord.from_be_bytes.Goals as goal
+
+pub returns : goal.returns
+returns c = be_back_4 c.args.bytes c.from_be_bytes.result (search rules) (search rules) (search rules) c.from_be_bytes.ensures

@@ -1,0 +1,139 @@
+//! The calls on the bits and bytes of a word.
+
+ghost use Rattle.std.specs.Prelude.{◌≡◌, ◌^◌, ◌<◌, ◌*ℤ◌, ℕ, List, pos, reverse, min, max, count_by};
+ghost use Rattle.std.specs.List.{prefix_len, suffix_len};
+ghost use Rattle.fixed_word.specs.Format.{InRange, wrap};
+ghost use Rattle.fixed_word.specs.Quotient.{floor_quotient};
+ghost use Rattle.fixed_bits.specs.Digits.{IsRotated, bit_list, byte_list, complement, differ, is_one, is_zero, zip_with};
+
+use crate::pattern::{pattern_of, rotated, word_of};
+use fixed_word::{RawWord, Valued, Word};
+
+/// A word of n bits as its bit list, of n digits 0 or 1, and its byte list, of n/8 digits from 0 to
+/// 255, both the least digit first (this project's own; the calls are std's of the same names).
+pub trait BitWord: Word {
+    /// The array of n/8 bytes.
+    type Bytes: Copy;
+
+    // the bytes, in the order in which they stand
+    ghost as_list: { Self.Bytes → List ℕ };
+
+    /// Each bit turned into the other.
+    fn not(self) -> Self
+        ensures { bit_list Self.BITS (Self.value result) ≡ complement (bit_list Self.BITS (Self.value self)) }
+    {
+        word_of(!pattern_of(self) as u128)
+    }
+
+    /// Each bit 1 where it is 1 in both words.
+    fn and(self, other: Self) -> Self
+        ensures { bit_list Self.BITS (Self.value result)
+            ≡ zip_with min (bit_list Self.BITS (Self.value self)) (bit_list Self.BITS (Self.value other)) }
+    {
+        word_of(pattern_of(self) as u128 & pattern_of(other) as u128)
+    }
+
+    /// Each bit 1 where it is 1 in either word.
+    fn or(self, other: Self) -> Self
+        ensures { bit_list Self.BITS (Self.value result)
+            ≡ zip_with max (bit_list Self.BITS (Self.value self)) (bit_list Self.BITS (Self.value other)) }
+    {
+        word_of(pattern_of(self) as u128 | pattern_of(other) as u128)
+    }
+
+    /// Each bit 1 where it differs between the words.
+    fn xor(self, other: Self) -> Self
+        ensures { bit_list Self.BITS (Self.value result)
+            ≡ zip_with differ (bit_list Self.BITS (Self.value self)) (bit_list Self.BITS (Self.value other)) }
+    {
+        word_of(pattern_of(self) as u128 ^ pattern_of(other) as u128)
+    }
+
+    /// The value times `2^by`, without what lies past the width. Condition: `by` is below n.
+    fn shift_left(self, by: u32) -> Self
+        requires { by < Self.BITS }
+        ensures { Self.value result ≡ wrap Self.SIGNED Self.BITS (Self.value self *ℤ pos (2 ^ by)) }
+    {
+        Self::residue(self.is_below_zero(), (self.magnitude() as u128) << by)
+    }
+
+    /// The value over `2^by`, rounded down. Condition: `by` is below n.
+    fn shift_right(self, by: u32) -> Self
+        requires { by < Self.BITS }
+        ensures { Self.value result ≡ floor_quotient (Self.value self) (2 ^ by) }
+    {
+        let magnitude = self.magnitude();
+        if self.is_below_zero() {
+            Self::residue(true, ((magnitude - 1) >> by) as u128 + 1)
+        } else {
+            Self::residue(false, (magnitude >> by) as u128)
+        }
+    }
+
+    /// Bit i goes to place `i + by` modulo n.
+    fn rotate_left(self, by: u32) -> Self
+        ensures { IsRotated by (bit_list Self.BITS (Self.value self)) (bit_list Self.BITS (Self.value result)) }
+    {
+        let width = Self::BITS;
+        word_of(rotated(pattern_of(self), by % width, width))
+    }
+
+    /// Bit i goes to place `i - by` modulo n, so that a rotation to the left by `by` brings it back.
+    fn rotate_right(self, by: u32) -> Self
+        ensures { IsRotated by (bit_list Self.BITS (Self.value result)) (bit_list Self.BITS (Self.value self)) }
+    {
+        let width = Self::BITS;
+        word_of(rotated(pattern_of(self), width - by % width, width))
+    }
+
+    /// How many bits are 1.
+    fn count_ones(self) -> u32
+        ensures { result ≡ count_by is_one (bit_list Self.BITS (Self.value self)) }
+    {
+        pattern_of(self).count_ones()
+    }
+
+    /// How many of the highest bits are 0, before the first that is 1.
+    fn leading_zeros(self) -> u32
+        ensures { result ≡ suffix_len is_zero (bit_list Self.BITS (Self.value self)) }
+    {
+        pattern_of(self).leading_zeros() - (64 - Self::BITS)
+    }
+
+    /// How many of the lowest bits are 0, before the first that is 1.
+    fn trailing_zeros(self) -> u32
+        ensures { result ≡ prefix_len is_zero (bit_list Self.BITS (Self.value self)) }
+    {
+        pattern_of(self).trailing_zeros().min(Self::BITS)
+    }
+
+    /// The bytes in the other order.
+    fn swap_bytes(self) -> Self
+        ensures { byte_list Self.BITS (Self.value result) ≡ reverse (byte_list Self.BITS (Self.value self)) }
+    {
+        Self::from_be_bytes(self.to_le_bytes())
+    }
+
+    /// The bits in the other order.
+    fn reverse_bits(self) -> Self
+        ensures { bit_list Self.BITS (Self.value result) ≡ reverse (bit_list Self.BITS (Self.value self)) }
+    {
+        word_of((pattern_of(self).reverse_bits() >> (64 - Self::BITS)) as u128)
+    }
+
+    /// The bytes, the greatest first.
+    fn to_be_bytes(self) -> Self::Bytes
+        ensures { as_list result ≡ reverse (byte_list Self.BITS (Self.value self)) };
+
+    /// The bytes, the least first.
+    fn to_le_bytes(self) -> Self::Bytes
+        ensures { as_list result ≡ byte_list Self.BITS (Self.value self) };
+
+    /// The word of these bytes, the greatest first: the inverse of `to_be_bytes`.
+    fn from_be_bytes(bytes: Self::Bytes) -> Self
+        ensures { reverse (byte_list Self.BITS (Self.value result)) ≡ as_list bytes };
+
+    /// The word of these bytes, the least first: the inverse of `to_le_bytes`.
+    fn from_le_bytes(bytes: Self::Bytes) -> Self
+        ensures { byte_list Self.BITS (Self.value result) ≡ as_list bytes };
+}

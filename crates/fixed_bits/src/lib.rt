@@ -1,0 +1,15 @@
+//! Words as lists of bits and of bytes.
+//!
+//! The bit list of a word of n bits has n digits 0 or 1, the least first, whose sum of `digit_i 2^i`
+//! differs from the value by a multiple of `2^n`. The byte list is the same with n/8 digits from 0 to
+//! 255 in base 256. No call takes memory.
+#![tactic(auto)]
+
+mod bit_word;
+mod bytes;
+pub mod laws;
+mod pattern;
+#[cfg(test)]
+mod tests;
+
+pub use bit_word::BitWord;

@@ -1,0 +1,1 @@
+//! The calls of words on bits and bytes.

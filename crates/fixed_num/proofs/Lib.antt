@@ -1,0 +1,5 @@
+pub mod Counts
+pub mod Ranges
+pub mod Roots
+pub mod Sized
+pub mod Wides

@@ -1,0 +1,7 @@
+use Rattle.std.proofs.Common.{true}
+use Rattle.fixed_word.specs.Wraps.{width_pos}
+use Rattle.fixed_num.proofs.Ranges.{bits_wrap}
+use Rattle.fixed_num.proofs.format.Fixed.cast_signed.Goals as goal
+
+pub returns-clause-bits : goal.returns-clause-bits
+returns-clause-bits g c = bits_wrap true g.T.Valued.BITS _ (g.T.Valued.value c.args.self.bits) (width_pos g.T.Valued.BITS g.met.T.RawWord.width_law) c.to_signed.ensures.value

@@ -1,0 +1,6 @@
+use Rattle.std.proofs.Common.{◌∙◌}
+use Rattle.fixed_num.proofs.Wides.{wide_product_signed}
+use Rattle.fixed_num.proofs.format.Fixed.wide_mul_signed.Goals as goal
+
+pub returns : goal.returns
+returns g c = wide_product_signed g.T.RawWord.SIGNED _ _ g.T.Valued.BITS _ _ (g.T.Valued.value c.args.self.bits) (g.T.Signed.Valued.value c.args.rhs.bits) _ g.met.T.RawWord.width_law (g.met.T.Double.Word.signed_width_law ∙ g.met.T.Narrow.double_width_law) g.met.T.Word.signed_width_law g.met.T.UnsignedWord.sign_law g.met.T.Double.Word.signed_sign_law g.met.T.Word.signed_sign_law c.product.ensures.a_in_range c.product.ensures.b_in_range c.product.ensures.value

@@ -1,0 +1,32 @@
+-- What the calls on a number's size answer.
+use Rattle.std.specs.Prelude.{◌≡◌, ◌⊎◌, ◌+◌, ◌-◌, ◌≤◌, ◌<◌, ◌^◌, ◌+ℤ◌, ◌<ℤ◌, ◌≤ℤ◌, ℕ, ℤ, pos, neg_ℤ}
+use Rattle.fixed_word.specs.Quotient.{floor_quotient}
+
+-- m is the least number of which P holds
+pub record IsLeast (P : ℕ → Type 0) (m : ℕ) : Type 0 where
+  pub holds : P m
+  pub least : (k : ℕ) → P k → m ≤ k
+
+-- a number of at least 0 needs at most m bits
+abbrev pub HasSize : ℤ → ℕ → Type 0
+HasSize a m = a <ℤ pos (2 ^ m)
+
+-- a number needs at most m bits, of which one is for the sign
+abbrev pub HasSignedSize : ℤ → ℕ → Type 0
+HasSignedSize a m = (1 ≤ m) × (neg_ℤ (pos (2 ^ (m - 1))) ≤ℤ a) × (a <ℤ pos (2 ^ (m - 1)))
+
+-- a is a power of 2
+abbrev pub IsPower : ℤ → Type 0
+IsPower a = (j : ℕ) × (a ≡ pos (2 ^ j))
+
+-- r is the greatest power of 2 that is at most a, or 0 where a is 0
+abbrev pub IsHighestOne : ℤ → ℤ → Type 0
+IsHighestOne a r = ((a ≡ pos 0) × (r ≡ pos 0)) ⊎ ((j : ℕ) × (r ≡ pos (2 ^ j)) × (r ≤ℤ a) × (a <ℤ pos (2 ^ (j + 1))))
+
+-- the same of numbers above 0
+abbrev pub IsHighestPower : ℕ → ℕ → Type 0
+IsHighestPower a r = (j : ℕ) × (r ≡ 2 ^ j) × (r ≤ a) × (a < 2 ^ (j + 1))
+
+-- half the sum, rounded down
+abbrev pub mean_of : ℤ → ℤ → ℤ
+mean_of a b = floor_quotient (a +ℤ b) 2

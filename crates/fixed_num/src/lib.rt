@@ -1,0 +1,20 @@
+//! Fixed-point numbers: a word of bits, of which a fixed count stands behind the point.
+//!
+//! `Fixed<T, F>` stands for its bits times `2^-F`. The calls speak of the bits as a whole number, in
+//! units of `2^-F`. Below, n is the width of the word T. No call takes memory.
+#![tactic(auto)]
+
+mod bit_calls;
+mod counted;
+mod format;
+pub mod laws;
+mod magnitudes;
+mod sides;
+#[cfg(test)]
+mod tests;
+mod wide;
+
+pub use format::{
+    Constants, Fixed, FixedI8, FixedI16, FixedI32, FixedI64, FixedU8, FixedU16, FixedU32, FixedU64,
+    Held, Number,
+};
