@@ -1,7 +1,6 @@
 pub mod Alikes
 pub mod PowersOfTwo
 pub mod Room
-pub mod Truncated
 pub mod Sqrts
 pub mod RowLaws
 pub mod RowLawsFits

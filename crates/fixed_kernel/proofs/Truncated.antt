@@ -37,10 +37,7 @@ dropped s n f b m v r w h i g e t =
     sign_is false m (pos a) s e = omega (arith, ints)
     sign_is false m (negsuc a) s e = let t = s.1 (omega (arith, ints)) in cc
     sign_is true m v s e = let h = s.0 refl in omega (arith, ints)
-<<<<<<< HEAD
 
-=======
->>>>>>> e2b00297b522a2706117a3ff3b52c897d62fb976
     magnitude_64 : (s : Bool) (n m : ℕ) (v : ℤ) → IsWidth n → InRange s n v → m ≡ nat_abs v → m < 2 ^ 64
     magnitude_64 s n m v w r e =
         let f = magnitude_fits s n v (width_pos n w) r in

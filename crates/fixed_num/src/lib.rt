@@ -6,6 +6,7 @@
 
 mod bit_calls;
 mod counted;
+mod exact;
 mod format;
 pub mod laws;
 mod magnitudes;
@@ -14,6 +15,7 @@ mod sides;
 mod tests;
 mod wide;
 
+pub use exact::exact_number;
 pub use format::{
     Constants, Fixed, FixedI8, FixedI16, FixedI32, FixedI64, FixedU8, FixedU16, FixedU32, FixedU64,
     Held, Number,

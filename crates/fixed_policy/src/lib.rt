@@ -4,8 +4,21 @@
 //! is. No function takes memory.
 #![tactic(auto)]
 
+mod checked;
+mod checked_products;
+mod numbers;
+mod overflowing;
+mod overflowing_products;
 mod policies;
 #[cfg(test)]
 mod tests;
+mod wrapping;
+mod wrapping_products;
 
+pub use checked::{Checked, CheckedSigned, CheckedUnsigned};
+pub use checked_products::{CheckedMulAdd, CheckedProducts};
+pub use overflowing::{Overflowing, OverflowingSigned, OverflowingUnsigned};
+pub use overflowing_products::{OverflowingMulAdd, OverflowingProducts};
 pub use policies::{checked_of, overflowing_of, wrapping_of};
+pub use wrapping::{Wrapping, WrappingSigned, WrappingUnsigned};
+pub use wrapping_products::{WrappingMulAdd, WrappingProducts};

@@ -1,0 +1,302 @@
+//! Operations whose number is answered where it fits, and None where it does not.
+
+ghost use Rattle.std.specs.Prelude.{◌<◌, ◌%◌, ◌^◌, ◌*ℤ◌, ◌↔◌, IsNone, ◌≡◌, ◌≤◌, ◌≢◌, ◌≤ℤ◌, pos, Some, option_map};
+ghost use Rattle.fixed_word.specs.Format.{wrap};
+ghost use Rattle.fixed_word.specs.Policies.{checked};
+ghost use Rattle.fixed_word.specs.Quotient.{floor_quotient};
+ghost use Rattle.fixed_kernel.specs.Rows.{exact_abs, exact_add, exact_dist, exact_mul, exact_mul_int, exact_neg, exact_next_power_of_two, exact_signum, exact_sub, row_div, row_div_euclid, row_div_euclid_int, row_div_int, row_next_multiple_of, row_recip, row_rem, row_rem_euclid, row_rem_euclid_int, row_rem_int, row_sqrt};
+
+use crate::numbers::checked_number;
+use fixed_kernel::{
+    abs_of, add_of, dist_of, div_euclid_int_of, div_euclid_of, div_int_of, div_of, mixed_add_of,
+    mixed_sub_of, mul_int_of, mul_of, neg_of, next_multiple_of_of, next_power_of_two_of, recip_of,
+    rem_euclid_int_of, rem_euclid_of, rem_int_of, rem_of, signum_of, sqrt_of, sub_of,
+};
+use fixed_num::{Fixed, Held, Number};
+use fixed_word::{RawWord, SignedWord, UnsignedWord, Word};
+
+/// The `checked_` forms of all numbers. Integers and numbers are bits, in units of `2^-F` (the
+/// crate's).
+pub trait Checked: Number {
+    /// The negated number; None exactly where it does not fit.
+    fn checked_neg(self) -> Option<Self>
+        ensures { option_map Self.number result ≡ checked Self.SIGNED Self.BITS (Some (exact_neg (Self.number self))) };
+
+    /// The sum; None exactly where it does not fit.
+    fn checked_add(self, rhs: Self) -> Option<Self>
+        ensures { option_map Self.number result ≡ checked Self.SIGNED Self.BITS (Some (exact_add (Self.number self) (Self.number rhs))) };
+
+    /// The difference; None exactly where it does not fit.
+    fn checked_sub(self, rhs: Self) -> Option<Self>
+        ensures { option_map Self.number result ≡ checked Self.SIGNED Self.BITS (Some (exact_sub (Self.number self) (Self.number rhs))) };
+
+    /// The product, rounded down; None exactly where it does not fit.
+    fn checked_mul(self, rhs: Self) -> Option<Self>
+        requires { Self.FRACTION ≤ Self.BITS }
+        ensures { option_map Self.number result ≡ checked Self.SIGNED Self.BITS (Some (exact_mul (Self.number self) (Self.number rhs) Self.FRACTION)) };
+
+    /// The quotient, rounded toward zero; None exactly on a zero divisor or where it does not fit.
+    fn checked_div(self, rhs: Self) -> Option<Self>
+        requires { Self.FRACTION ≤ Self.BITS }
+        ensures { option_map Self.number result ≡ checked Self.SIGNED Self.BITS (row_div (Self.number self) (Self.number rhs) Self.FRACTION) };
+
+    /// One over the number, rounded toward zero; None exactly on zero or where it does not fit.
+    fn checked_recip(self) -> Option<Self>
+        requires { Self.FRACTION ≤ Self.BITS }
+        ensures { option_map Self.number result ≡ checked Self.SIGNED Self.BITS (row_recip (Self.number self) Self.FRACTION) };
+
+    /// The remainder of the quotient that is rounded toward zero; None exactly on a zero divisor or
+    /// where it does not fit.
+    fn checked_rem(self, rhs: Self) -> Option<Self>
+        ensures { option_map Self.number result ≡ checked Self.SIGNED Self.BITS (row_rem (Self.number self) (Self.number rhs)) };
+
+    /// The Euclidean remainder; None exactly on a zero divisor or where it does not fit.
+    fn checked_rem_euclid(self, rhs: Self) -> Option<Self>
+        ensures { option_map Self.number result ≡ checked Self.SIGNED Self.BITS (row_rem_euclid (Self.number self) (Self.number rhs)) };
+
+    /// The Euclidean quotient, a whole number; None exactly on a zero divisor or where it does not
+    /// fit.
+    fn checked_div_euclid(self, rhs: Self) -> Option<Self>
+        requires { Self.FRACTION ≤ Self.BITS }
+        ensures { option_map Self.number result ≡ checked Self.SIGNED Self.BITS (row_div_euclid (Self.number self) (Self.number rhs) Self.FRACTION) };
+
+    /// The distance of both numbers; None exactly where it does not fit.
+    fn checked_dist(self, other: Self) -> Option<Self>
+        ensures { option_map Self.number result ≡ checked Self.SIGNED Self.BITS (Some (exact_dist (Self.number self) (Self.number other))) };
+
+    /// The next multiple of `other`, upward where it is above zero and downward where it is below;
+    /// None exactly on a zero `other` or where it does not fit.
+    fn checked_next_multiple_of(self, other: Self) -> Option<Self>
+        ensures { option_map Self.number result ≡ checked Self.SIGNED Self.BITS (row_next_multiple_of (Self.number self) (Self.number other)) };
+
+    /// The product by an integer; None exactly where it does not fit.
+    fn checked_mul_int(self, rhs: Self::Bits) -> Option<Self>
+        ensures { option_map Self.number result ≡ checked Self.SIGNED Self.BITS (Some (exact_mul_int (Self.number self) (Self.Bits.value rhs))) };
+
+    /// The quotient by an integer, rounded toward zero; None exactly on a zero divisor or where it
+    /// does not fit.
+    fn checked_div_int(self, rhs: Self::Bits) -> Option<Self>
+        ensures { option_map Self.number result ≡ checked Self.SIGNED Self.BITS (row_div_int (Self.number self) (Self.Bits.value rhs)) };
+
+    /// The remainder by an integer, of the quotient that is rounded toward zero; None exactly on a
+    /// zero divisor or where it does not fit.
+    fn checked_rem_int(self, rhs: Self::Bits) -> Option<Self>
+        requires { Self.FRACTION ≤ Self.BITS }
+        ensures { option_map Self.number result ≡ checked Self.SIGNED Self.BITS (row_rem_int (Self.number self) (Self.Bits.value rhs) Self.FRACTION) };
+
+    /// The Euclidean remainder by an integer; None exactly on a zero divisor or where it does not
+    /// fit.
+    fn checked_rem_euclid_int(self, rhs: Self::Bits) -> Option<Self>
+        requires { Self.FRACTION ≤ Self.BITS }
+        ensures { option_map Self.number result ≡ checked Self.SIGNED Self.BITS (row_rem_euclid_int (Self.number self) (Self.Bits.value rhs) Self.FRACTION) };
+
+    /// The Euclidean quotient by an integer, a whole number; None exactly on a zero divisor or
+    /// where it does not fit.
+    fn checked_div_euclid_int(self, rhs: Self::Bits) -> Option<Self>
+        requires { Self.FRACTION ≤ Self.BITS }
+        ensures { option_map Self.number result ≡ checked Self.SIGNED Self.BITS (row_div_euclid_int (Self.number self) (Self.Bits.value rhs) Self.FRACTION) };
+
+    /// The square root, rounded down; None exactly on a number below zero or where it does not fit.
+    fn checked_sqrt(self) -> Option<Self>
+        requires { Self.FRACTION ≤ Self.BITS }
+        ensures { option_map Self.number result ≡ checked Self.SIGNED Self.BITS (row_sqrt (Self.number self) Self.FRACTION) };
+
+    /// The bits moved up by `rhs` places, without what lies past the width; None exactly where
+    /// `rhs` is the width or more.
+    fn checked_shl(self, rhs: u32) -> Option<Self>
+        ensures some { rhs < Self.BITS → option_map Self.number result ≡ Some (wrap Self.SIGNED Self.BITS (Self.number self *ℤ pos (2 ^ rhs))) }
+        ensures none { IsNone result ↔ (Self.BITS ≤ rhs) };
+
+    /// The bits moved down by `rhs` places, rounded down; None exactly where `rhs` is the width or
+    /// more.
+    fn checked_shr(self, rhs: u32) -> Option<Self>
+        ensures some { rhs < Self.BITS → option_map Self.number result ≡ Some (floor_quotient (Self.number self) (2 ^ rhs)) }
+        ensures none { IsNone result ↔ (Self.BITS ≤ rhs) };
+}
+
+impl<T: Word, const F: u32> Checked for Fixed<T, F> {
+    fn checked_neg(self) -> Option<Self> {
+        checked_number(neg_of(self.bits))
+    }
+
+    fn checked_add(self, rhs: Self) -> Option<Self> {
+        checked_number(add_of(self.bits, rhs.bits))
+    }
+
+    fn checked_sub(self, rhs: Self) -> Option<Self> {
+        checked_number(sub_of(self.bits, rhs.bits))
+    }
+
+    fn checked_mul(self, rhs: Self) -> Option<Self> {
+        checked_number(mul_of(self.bits, rhs.bits, F))
+    }
+
+    fn checked_div(self, rhs: Self) -> Option<Self> {
+        if rhs.bits == T::ZERO {
+            return None;
+        }
+        checked_number(div_of(self.bits, rhs.bits, F))
+    }
+
+    fn checked_recip(self) -> Option<Self> {
+        if self.bits == T::ZERO {
+            return None;
+        }
+        checked_number(recip_of(self.bits, F))
+    }
+
+    fn checked_rem(self, rhs: Self) -> Option<Self> {
+        if rhs.bits == T::ZERO {
+            return None;
+        }
+        checked_number(rem_of(self.bits, rhs.bits))
+    }
+
+    fn checked_rem_euclid(self, rhs: Self) -> Option<Self> {
+        if rhs.bits == T::ZERO {
+            return None;
+        }
+        checked_number(rem_euclid_of(self.bits, rhs.bits))
+    }
+
+    fn checked_div_euclid(self, rhs: Self) -> Option<Self> {
+        if rhs.bits == T::ZERO {
+            return None;
+        }
+        checked_number(div_euclid_of(self.bits, rhs.bits, F))
+    }
+
+    fn checked_dist(self, other: Self) -> Option<Self> {
+        checked_number(dist_of(self.bits, other.bits))
+    }
+
+    fn checked_next_multiple_of(self, other: Self) -> Option<Self> {
+        if other.bits == T::ZERO {
+            return None;
+        }
+        checked_number(next_multiple_of_of(self.bits, other.bits))
+    }
+
+    fn checked_mul_int(self, rhs: T) -> Option<Self> {
+        checked_number(mul_int_of(self.bits, rhs))
+    }
+
+    fn checked_div_int(self, rhs: T) -> Option<Self> {
+        if rhs == T::ZERO {
+            return None;
+        }
+        checked_number(div_int_of(self.bits, rhs))
+    }
+
+    fn checked_rem_int(self, rhs: T) -> Option<Self> {
+        if rhs == T::ZERO {
+            return None;
+        }
+        checked_number(rem_int_of(self.bits, rhs, F))
+    }
+
+    fn checked_rem_euclid_int(self, rhs: T) -> Option<Self> {
+        if rhs == T::ZERO {
+            return None;
+        }
+        checked_number(rem_euclid_int_of(self.bits, rhs, F))
+    }
+
+    fn checked_div_euclid_int(self, rhs: T) -> Option<Self> {
+        if rhs == T::ZERO {
+            return None;
+        }
+        checked_number(div_euclid_int_of(self.bits, rhs, F))
+    }
+
+    fn checked_sqrt(self) -> Option<Self> {
+        if self.bits.is_below_zero() {
+            return None;
+        }
+        checked_number(sqrt_of(self.bits, F))
+    }
+
+    fn checked_shl(self, rhs: u32) -> Option<Self> {
+        if rhs < T::BITS {
+            Some(self.unbounded_shl(rhs))
+        } else {
+            None
+        }
+    }
+
+    fn checked_shr(self, rhs: u32) -> Option<Self> {
+        if rhs < T::BITS {
+            Some(self.unbounded_shr(rhs))
+        } else {
+            None
+        }
+    }
+}
+
+/// The `checked_` forms of signed numbers (the crate's).
+pub trait CheckedSigned: Checked {
+    /// The magnitude; None exactly where it does not fit.
+    fn checked_abs(self) -> Option<Self>
+        ensures { option_map Self.number result ≡ checked Self.SIGNED Self.BITS (Some (exact_abs (Self.number self))) };
+
+    /// One by the sign of the number: 1, 0 or -1; None exactly where it does not fit.
+    fn checked_signum(self) -> Option<Self>
+        requires { Self.FRACTION ≤ Self.BITS }
+        ensures { option_map Self.number result ≡ checked Self.SIGNED Self.BITS (Some (exact_signum (Self.number self) Self.FRACTION)) };
+
+    /// The sum with an unsigned number; None exactly where it does not fit.
+    fn checked_add_unsigned(self, rhs: Self::Unsigned) -> Option<Self>
+        ensures { option_map Self.number result ≡ checked Self.SIGNED Self.BITS (Some (exact_add (Self.number self) (Self.Unsigned.number rhs))) };
+
+    /// The difference from an unsigned number; None exactly where it does not fit.
+    fn checked_sub_unsigned(self, rhs: Self::Unsigned) -> Option<Self>
+        ensures { option_map Self.number result ≡ checked Self.SIGNED Self.BITS (Some (exact_sub (Self.number self) (Self.Unsigned.number rhs))) };
+}
+
+impl<T: SignedWord, const F: u32> CheckedSigned for Fixed<T, F> {
+    fn checked_abs(self) -> Option<Self> {
+        checked_number(abs_of(self.bits))
+    }
+
+    fn checked_signum(self) -> Option<Self> {
+        checked_number(signum_of(self.bits, F))
+    }
+
+    fn checked_add_unsigned(self, rhs: Fixed<T::Unsigned, F>) -> Option<Self> {
+        checked_number(mixed_add_of(self.bits, rhs.bits))
+    }
+
+    fn checked_sub_unsigned(self, rhs: Fixed<T::Unsigned, F>) -> Option<Self> {
+        checked_number(mixed_sub_of(self.bits, rhs.bits))
+    }
+}
+
+/// The `checked_` forms of unsigned numbers (the crate's).
+pub trait CheckedUnsigned: Checked {
+    /// The least power of two, in units, that is at least the number; None exactly where it does
+    /// not fit.
+    fn checked_next_power_of_two(self) -> Option<Self>
+        ensures { option_map Self.number result ≡ checked Self.SIGNED Self.BITS (Some (exact_next_power_of_two (Self.number self))) };
+
+    /// The sum with a signed number; None exactly where it does not fit.
+    fn checked_add_signed(self, rhs: Self::Signed) -> Option<Self>
+        ensures { option_map Self.number result ≡ checked Self.SIGNED Self.BITS (Some (exact_add (Self.number self) (Self.Signed.number rhs))) };
+
+    /// The difference from a signed number; None exactly where it does not fit.
+    fn checked_sub_signed(self, rhs: Self::Signed) -> Option<Self>
+        ensures { option_map Self.number result ≡ checked Self.SIGNED Self.BITS (Some (exact_sub (Self.number self) (Self.Signed.number rhs))) };
+}
+
+impl<T: UnsignedWord, const F: u32> CheckedUnsigned for Fixed<T, F> {
+    fn checked_next_power_of_two(self) -> Option<Self> {
+        checked_number(next_power_of_two_of(self.bits))
+    }
+
+    fn checked_add_signed(self, rhs: Fixed<T::Signed, F>) -> Option<Self> {
+        checked_number(mixed_add_of(self.bits, rhs.bits))
+    }
+
+    fn checked_sub_signed(self, rhs: Fixed<T::Signed, F>) -> Option<Self> {
+        checked_number(mixed_sub_of(self.bits, rhs.bits))
+    }
+}

@@ -1,0 +1,213 @@
+//! Operations answered with the nearest number that fits.
+
+ghost use Rattle.std.specs.Prelude.{◌≡◌, ◌≤◌, ◌≢◌, ◌≤ℤ◌, pos, Some};
+ghost use Rattle.fixed_word.specs.Policies.{saturating};
+ghost use Rattle.fixed_kernel.specs.Rows.{exact_abs, exact_add, exact_dist, exact_div, exact_div_euclid, exact_div_euclid_int, exact_div_int, exact_mul, exact_mul_int, exact_neg, exact_next_multiple_of, exact_recip, exact_rem_euclid_int, exact_signum, exact_sqrt, exact_sub};
+
+use crate::numbers::saturating_number;
+use fixed_kernel::{
+    abs_of, add_of, dist_of, div_euclid_int_of, div_euclid_of, div_int_of, div_of, mixed_add_of,
+    mixed_sub_of, mul_int_of, mul_of, neg_of, next_multiple_of_of, recip_of, rem_euclid_int_of,
+    signum_of, sqrt_of, sub_of,
+};
+use fixed_num::{Fixed, Held, Number};
+use fixed_word::{RawWord, SignedWord, UnsignedWord, Word};
+
+/// The `saturating_` forms of all numbers. Integers and numbers are bits, in units of `2^-F` (the
+/// crate's).
+pub trait Saturating: Number {
+    /// The negated number, held at the ends.
+    fn saturating_neg(self) -> Self
+        ensures { Some (Self.number result) ≡ saturating Self.SIGNED Self.BITS (Some (exact_neg (Self.number self))) };
+
+    /// The sum, held at the ends.
+    fn saturating_add(self, rhs: Self) -> Self
+        ensures { Some (Self.number result) ≡ saturating Self.SIGNED Self.BITS (Some (exact_add (Self.number self) (Self.number rhs))) };
+
+    /// The difference, held at the ends.
+    fn saturating_sub(self, rhs: Self) -> Self
+        ensures { Some (Self.number result) ≡ saturating Self.SIGNED Self.BITS (Some (exact_sub (Self.number self) (Self.number rhs))) };
+
+    /// The product, rounded down, held at the ends.
+    fn saturating_mul(self, rhs: Self) -> Self
+        requires { Self.FRACTION ≤ Self.BITS }
+        ensures { Some (Self.number result) ≡ saturating Self.SIGNED Self.BITS (Some (exact_mul (Self.number self) (Self.number rhs) Self.FRACTION)) };
+
+    /// The quotient, rounded toward zero, held at the ends; condition that the divisor is not zero.
+    fn saturating_div(self, rhs: Self) -> Self
+        requires fraction { Self.FRACTION ≤ Self.BITS }
+        requires divisor { Self.number rhs ≢ pos 0 }
+        ensures { Some (Self.number result) ≡ saturating Self.SIGNED Self.BITS (Some (exact_div (Self.number self) (Self.number rhs) Self.FRACTION)) };
+
+    /// One over the number, rounded toward zero, held at the ends; condition that the number is not
+    /// zero.
+    fn saturating_recip(self) -> Self
+        requires fraction { Self.FRACTION ≤ Self.BITS }
+        requires divisor { Self.number self ≢ pos 0 }
+        ensures { Some (Self.number result) ≡ saturating Self.SIGNED Self.BITS (Some (exact_recip (Self.number self) Self.FRACTION)) };
+
+    /// The Euclidean quotient, a whole number, held at the ends; condition that the divisor is not
+    /// zero.
+    fn saturating_div_euclid(self, rhs: Self) -> Self
+        requires fraction { Self.FRACTION ≤ Self.BITS }
+        requires divisor { Self.number rhs ≢ pos 0 }
+        ensures { Some (Self.number result) ≡ saturating Self.SIGNED Self.BITS (Some (exact_div_euclid (Self.number self) (Self.number rhs) Self.FRACTION)) };
+
+    /// The distance of both numbers, held at the ends.
+    fn saturating_dist(self, other: Self) -> Self
+        ensures { Some (Self.number result) ≡ saturating Self.SIGNED Self.BITS (Some (exact_dist (Self.number self) (Self.number other))) };
+
+    /// The next multiple of `other`, upward where it is above zero and downward where it is below,
+    /// held at the ends; condition that `other` is not zero.
+    fn saturating_next_multiple_of(self, other: Self) -> Self
+        requires { Self.number other ≢ pos 0 }
+        ensures { Some (Self.number result) ≡ saturating Self.SIGNED Self.BITS (Some (exact_next_multiple_of (Self.number self) (Self.number other))) };
+
+    /// The product by an integer, held at the ends.
+    fn saturating_mul_int(self, rhs: Self::Bits) -> Self
+        ensures { Some (Self.number result) ≡ saturating Self.SIGNED Self.BITS (Some (exact_mul_int (Self.number self) (Self.Bits.value rhs))) };
+
+    /// The quotient by an integer, rounded toward zero, held at the ends; condition that the
+    /// divisor is not zero.
+    fn saturating_div_int(self, rhs: Self::Bits) -> Self
+        requires { Self.Bits.value rhs ≢ pos 0 }
+        ensures { Some (Self.number result) ≡ saturating Self.SIGNED Self.BITS (Some (exact_div_int (Self.number self) (Self.Bits.value rhs))) };
+
+    /// The Euclidean remainder by an integer, held at the ends; condition that the divisor is not
+    /// zero.
+    fn saturating_rem_euclid_int(self, rhs: Self::Bits) -> Self
+        requires fraction { Self.FRACTION ≤ Self.BITS }
+        requires divisor { Self.Bits.value rhs ≢ pos 0 }
+        ensures { Some (Self.number result) ≡ saturating Self.SIGNED Self.BITS (Some (exact_rem_euclid_int (Self.number self) (Self.Bits.value rhs) Self.FRACTION)) };
+
+    /// The Euclidean quotient by an integer, a whole number, held at the ends; condition that the
+    /// divisor is not zero.
+    fn saturating_div_euclid_int(self, rhs: Self::Bits) -> Self
+        requires fraction { Self.FRACTION ≤ Self.BITS }
+        requires divisor { Self.Bits.value rhs ≢ pos 0 }
+        ensures { Some (Self.number result) ≡ saturating Self.SIGNED Self.BITS (Some (exact_div_euclid_int (Self.number self) (Self.Bits.value rhs) Self.FRACTION)) };
+
+    /// The square root, rounded down, held at the ends; condition that the number is not below
+    /// zero.
+    fn saturating_sqrt(self) -> Self
+        requires fraction { Self.FRACTION ≤ Self.BITS }
+        requires sign { pos 0 ≤ℤ Self.number self }
+        ensures { Some (Self.number result) ≡ saturating Self.SIGNED Self.BITS (Some (exact_sqrt (Self.number self) Self.FRACTION)) };
+}
+
+impl<T: Word, const F: u32> Saturating for Fixed<T, F> {
+    fn saturating_neg(self) -> Self {
+        saturating_number(neg_of(self.bits))
+    }
+
+    fn saturating_add(self, rhs: Self) -> Self {
+        saturating_number(add_of(self.bits, rhs.bits))
+    }
+
+    fn saturating_sub(self, rhs: Self) -> Self {
+        saturating_number(sub_of(self.bits, rhs.bits))
+    }
+
+    fn saturating_mul(self, rhs: Self) -> Self {
+        saturating_number(mul_of(self.bits, rhs.bits, F))
+    }
+
+    fn saturating_div(self, rhs: Self) -> Self {
+        saturating_number(div_of(self.bits, rhs.bits, F))
+    }
+
+    fn saturating_recip(self) -> Self {
+        saturating_number(recip_of(self.bits, F))
+    }
+
+    fn saturating_div_euclid(self, rhs: Self) -> Self {
+        saturating_number(div_euclid_of(self.bits, rhs.bits, F))
+    }
+
+    fn saturating_dist(self, other: Self) -> Self {
+        saturating_number(dist_of(self.bits, other.bits))
+    }
+
+    fn saturating_next_multiple_of(self, other: Self) -> Self {
+        saturating_number(next_multiple_of_of(self.bits, other.bits))
+    }
+
+    fn saturating_mul_int(self, rhs: T) -> Self {
+        saturating_number(mul_int_of(self.bits, rhs))
+    }
+
+    fn saturating_div_int(self, rhs: T) -> Self {
+        saturating_number(div_int_of(self.bits, rhs))
+    }
+
+    fn saturating_rem_euclid_int(self, rhs: T) -> Self {
+        saturating_number(rem_euclid_int_of(self.bits, rhs, F))
+    }
+
+    fn saturating_div_euclid_int(self, rhs: T) -> Self {
+        saturating_number(div_euclid_int_of(self.bits, rhs, F))
+    }
+
+    fn saturating_sqrt(self) -> Self {
+        saturating_number(sqrt_of(self.bits, F))
+    }
+}
+
+/// The `saturating_` forms of signed numbers (the crate's).
+pub trait SaturatingSigned: Saturating {
+    /// The magnitude, held at the ends.
+    fn saturating_abs(self) -> Self
+        ensures { Some (Self.number result) ≡ saturating Self.SIGNED Self.BITS (Some (exact_abs (Self.number self))) };
+
+    /// One by the sign of the number: 1, 0 or -1, held at the ends.
+    fn saturating_signum(self) -> Self
+        requires { Self.FRACTION ≤ Self.BITS }
+        ensures { Some (Self.number result) ≡ saturating Self.SIGNED Self.BITS (Some (exact_signum (Self.number self) Self.FRACTION)) };
+
+    /// The sum with an unsigned number, held at the ends.
+    fn saturating_add_unsigned(self, rhs: Self::Unsigned) -> Self
+        ensures { Some (Self.number result) ≡ saturating Self.SIGNED Self.BITS (Some (exact_add (Self.number self) (Self.Unsigned.number rhs))) };
+
+    /// The difference from an unsigned number, held at the ends.
+    fn saturating_sub_unsigned(self, rhs: Self::Unsigned) -> Self
+        ensures { Some (Self.number result) ≡ saturating Self.SIGNED Self.BITS (Some (exact_sub (Self.number self) (Self.Unsigned.number rhs))) };
+}
+
+impl<T: SignedWord, const F: u32> SaturatingSigned for Fixed<T, F> {
+    fn saturating_abs(self) -> Self {
+        saturating_number(abs_of(self.bits))
+    }
+
+    fn saturating_signum(self) -> Self {
+        saturating_number(signum_of(self.bits, F))
+    }
+
+    fn saturating_add_unsigned(self, rhs: Fixed<T::Unsigned, F>) -> Self {
+        saturating_number(mixed_add_of(self.bits, rhs.bits))
+    }
+
+    fn saturating_sub_unsigned(self, rhs: Fixed<T::Unsigned, F>) -> Self {
+        saturating_number(mixed_sub_of(self.bits, rhs.bits))
+    }
+}
+
+/// The `saturating_` forms of unsigned numbers (the crate's).
+pub trait SaturatingUnsigned: Saturating {
+    /// The sum with a signed number, held at the ends.
+    fn saturating_add_signed(self, rhs: Self::Signed) -> Self
+        ensures { Some (Self.number result) ≡ saturating Self.SIGNED Self.BITS (Some (exact_add (Self.number self) (Self.Signed.number rhs))) };
+
+    /// The difference from a signed number, held at the ends.
+    fn saturating_sub_signed(self, rhs: Self::Signed) -> Self
+        ensures { Some (Self.number result) ≡ saturating Self.SIGNED Self.BITS (Some (exact_sub (Self.number self) (Self.Signed.number rhs))) };
+}
+
+impl<T: UnsignedWord, const F: u32> SaturatingUnsigned for Fixed<T, F> {
+    fn saturating_add_signed(self, rhs: Fixed<T::Signed, F>) -> Self {
+        saturating_number(mixed_add_of(self.bits, rhs.bits))
+    }
+
+    fn saturating_sub_signed(self, rhs: Fixed<T::Signed, F>) -> Self {
+        saturating_number(mixed_sub_of(self.bits, rhs.bits))
+    }
+}

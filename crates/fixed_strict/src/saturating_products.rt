@@ -1,0 +1,66 @@
+//! The `saturating_` forms of multiply-add and of sums of products, of factors of other fractions.
+
+ghost use Rattle.std.specs.Prelude.{◌≡◌, ◌≤◌, Some};
+ghost use Rattle.fixed_word.specs.Policies.{saturating};
+ghost use Rattle.fixed_kernel.specs.Rows.{exact_add_prod, exact_mul_add};
+
+use crate::numbers::saturating_number;
+use fixed_kernel::{add_prod_of, mul_add_of};
+use fixed_num::{Fixed, Held, Number};
+use fixed_word::{RawWord, Word};
+
+/// Multiply-add by a factor of G fraction bits (the crate's).
+pub trait SaturatingMulAdd<const G: u32>: Number {
+    /// The product by `mul`, rounded down, plus `add`, held at the ends. The product alone may lie
+    /// outside. Condition: G is at most the width.
+    fn saturating_mul_add(self, mul: Fixed<Self::Bits, G>, add: Self) -> Self
+        requires { G ≤ Self.BITS }
+        ensures { Some (Self.number result) ≡ saturating Self.SIGNED Self.BITS (Some (exact_mul_add (Self.number self) (Self.Bits.value mul.bits) (Self.number add) G)) };
+}
+
+impl<T: Word, const F: u32, const G: u32> SaturatingMulAdd<G> for Fixed<T, F> {
+    fn saturating_mul_add(self, mul: Fixed<T, G>, add: Self) -> Self
+        requires { G ≤ T.BITS }
+        ensures { Some (T.value result.bits) ≡ saturating T.SIGNED T.BITS (Some (exact_mul_add (T.value self.bits) (T.value mul.bits) (T.value add.bits) G)) }
+    {
+        saturating_number(mul_add_of(self.bits, mul.bits, add.bits, G))
+    }
+}
+
+/// Sums with a product of factors of A and B fraction bits (the crate's).
+pub trait SaturatingProducts<const A: u32, const B: u32>: Number {
+    /// The number plus the product of `a` and `b`, which is brought to the number's fraction and
+    /// rounded down, held at the ends. Condition: every fraction is at most the width.
+    fn saturating_add_prod(self, a: Fixed<Self::Bits, A>, b: Fixed<Self::Bits, B>) -> Self
+        requires fraction { Self.FRACTION ≤ Self.BITS }
+        requires a { A ≤ Self.BITS }
+        requires b { B ≤ Self.BITS }
+        ensures { Some (Self.number result) ≡ saturating Self.SIGNED Self.BITS (Some (exact_add_prod (Self.number self) (Self.Bits.value a.bits) (Self.Bits.value b.bits) Self.FRACTION A B)) };
+
+    /// Stores what `saturating_add_prod` answers.
+    fn saturating_mul_acc(&mut self, a: Fixed<Self::Bits, A>, b: Fixed<Self::Bits, B>)
+        requires fraction { Self.FRACTION ≤ Self.BITS }
+        requires a { A ≤ Self.BITS }
+        requires b { B ≤ Self.BITS }
+        ensures { Some (Self.number self.new) ≡ saturating Self.SIGNED Self.BITS (Some (exact_add_prod (Self.number self.old) (Self.Bits.value a.bits) (Self.Bits.value b.bits) Self.FRACTION A B)) };
+}
+
+impl<T: Word, const F: u32, const A: u32, const B: u32> SaturatingProducts<A, B> for Fixed<T, F> {
+    fn saturating_add_prod(self, a: Fixed<T, A>, b: Fixed<T, B>) -> Self
+        requires fraction { F ≤ T.BITS }
+        requires a { A ≤ T.BITS }
+        requires b { B ≤ T.BITS }
+        ensures { Some (T.value result.bits) ≡ saturating T.SIGNED T.BITS (Some (exact_add_prod (T.value self.bits) (T.value a.bits) (T.value b.bits) F A B)) }
+    {
+        saturating_number(add_prod_of(self.bits, a.bits, b.bits, F, A, B))
+    }
+
+    fn saturating_mul_acc(&mut self, a: Fixed<T, A>, b: Fixed<T, B>)
+        requires fraction { F ≤ T.BITS }
+        requires a { A ≤ T.BITS }
+        requires b { B ≤ T.BITS }
+        ensures { Some (T.value self.new.bits) ≡ saturating T.SIGNED T.BITS (Some (exact_add_prod (T.value self.old.bits) (T.value a.bits) (T.value b.bits) F A B)) }
+    {
+        *self = self.saturating_add_prod(a, b);
+    }
+}

@@ -1,0 +1,296 @@
+//! Operations for numbers that fit.
+
+ghost use Rattle.std.specs.Prelude.{◌<◌, ◌%◌, ◌^◌, ◌*ℤ◌, ◌≡◌, ◌≤◌, ◌≢◌, ◌≤ℤ◌, pos};
+ghost use Rattle.fixed_word.specs.Format.{InRange, wrap};
+ghost use Rattle.fixed_word.specs.Quotient.{floor_quotient};
+ghost use Rattle.fixed_kernel.specs.Rows.{exact_abs, exact_add, exact_dist, exact_div, exact_div_euclid, exact_div_euclid_int, exact_div_int, exact_mul, exact_mul_int, exact_neg, exact_next_multiple_of, exact_next_power_of_two, exact_recip, exact_rem, exact_rem_euclid, exact_rem_euclid_int, exact_rem_int, exact_signum, exact_sqrt, exact_sub};
+
+use fixed_kernel::{
+    abs_of, add_of, dist_of, div_euclid_int_of, div_euclid_of, div_int_of, div_of, mixed_add_of,
+    mixed_sub_of, mul_int_of, mul_of, neg_of, next_multiple_of_of, next_power_of_two_of, recip_of,
+    rem_euclid_int_of, rem_euclid_of, rem_int_of, rem_of, signum_of, sqrt_of, sub_of,
+};
+use fixed_num::{Fixed, Held, Number, exact_number};
+use fixed_word::{RawWord, SignedWord, UnsignedWord, Word};
+
+/// The `strict_` forms of all numbers. Integers and numbers are bits, in units of `2^-F` (the
+/// crate's).
+pub trait Strict: Number {
+    /// The negated number; condition that the answer fits.
+    fn strict_neg(self) -> Self
+        requires { InRange Self.SIGNED Self.BITS (exact_neg (Self.number self)) }
+        ensures { Self.number result ≡ exact_neg (Self.number self) };
+
+    /// The sum; condition that the answer fits.
+    fn strict_add(self, rhs: Self) -> Self
+        requires { InRange Self.SIGNED Self.BITS (exact_add (Self.number self) (Self.number rhs)) }
+        ensures { Self.number result ≡ exact_add (Self.number self) (Self.number rhs) };
+
+    /// The difference; condition that the answer fits.
+    fn strict_sub(self, rhs: Self) -> Self
+        requires { InRange Self.SIGNED Self.BITS (exact_sub (Self.number self) (Self.number rhs)) }
+        ensures { Self.number result ≡ exact_sub (Self.number self) (Self.number rhs) };
+
+    /// The product, rounded down; condition that the answer fits.
+    fn strict_mul(self, rhs: Self) -> Self
+        requires fraction { Self.FRACTION ≤ Self.BITS }
+        requires fits { InRange Self.SIGNED Self.BITS (exact_mul (Self.number self) (Self.number rhs) Self.FRACTION) }
+        ensures { Self.number result ≡ exact_mul (Self.number self) (Self.number rhs) Self.FRACTION };
+
+    /// The quotient, rounded toward zero; condition that the divisor is not zero and the answer
+    /// fits.
+    fn strict_div(self, rhs: Self) -> Self
+        requires fraction { Self.FRACTION ≤ Self.BITS }
+        requires divisor { Self.number rhs ≢ pos 0 }
+        requires fits { InRange Self.SIGNED Self.BITS (exact_div (Self.number self) (Self.number rhs) Self.FRACTION) }
+        ensures { Self.number result ≡ exact_div (Self.number self) (Self.number rhs) Self.FRACTION };
+
+    /// One over the number, rounded toward zero; condition that the number is not zero and the
+    /// answer fits.
+    fn strict_recip(self) -> Self
+        requires fraction { Self.FRACTION ≤ Self.BITS }
+        requires divisor { Self.number self ≢ pos 0 }
+        requires fits { InRange Self.SIGNED Self.BITS (exact_recip (Self.number self) Self.FRACTION) }
+        ensures { Self.number result ≡ exact_recip (Self.number self) Self.FRACTION };
+
+    /// The remainder of the quotient that is rounded toward zero; condition that the divisor is not
+    /// zero and the answer fits.
+    fn strict_rem(self, rhs: Self) -> Self
+        requires divisor { Self.number rhs ≢ pos 0 }
+        requires fits { InRange Self.SIGNED Self.BITS (exact_rem (Self.number self) (Self.number rhs)) }
+        ensures { Self.number result ≡ exact_rem (Self.number self) (Self.number rhs) };
+
+    /// The Euclidean remainder; condition that the divisor is not zero and the answer fits.
+    fn strict_rem_euclid(self, rhs: Self) -> Self
+        requires divisor { Self.number rhs ≢ pos 0 }
+        requires fits { InRange Self.SIGNED Self.BITS (exact_rem_euclid (Self.number self) (Self.number rhs)) }
+        ensures { Self.number result ≡ exact_rem_euclid (Self.number self) (Self.number rhs) };
+
+    /// The Euclidean quotient, a whole number; condition that the divisor is not zero and the
+    /// answer fits.
+    fn strict_div_euclid(self, rhs: Self) -> Self
+        requires fraction { Self.FRACTION ≤ Self.BITS }
+        requires divisor { Self.number rhs ≢ pos 0 }
+        requires fits { InRange Self.SIGNED Self.BITS (exact_div_euclid (Self.number self) (Self.number rhs) Self.FRACTION) }
+        ensures { Self.number result ≡ exact_div_euclid (Self.number self) (Self.number rhs) Self.FRACTION };
+
+    /// The distance of both numbers; condition that the answer fits.
+    fn strict_dist(self, other: Self) -> Self
+        requires { InRange Self.SIGNED Self.BITS (exact_dist (Self.number self) (Self.number other)) }
+        ensures { Self.number result ≡ exact_dist (Self.number self) (Self.number other) };
+
+    /// The next multiple of `other`, upward where it is above zero and downward where it is below;
+    /// condition that `other` is not zero and the answer fits.
+    fn strict_next_multiple_of(self, other: Self) -> Self
+        requires divisor { Self.number other ≢ pos 0 }
+        requires fits { InRange Self.SIGNED Self.BITS (exact_next_multiple_of (Self.number self) (Self.number other)) }
+        ensures { Self.number result ≡ exact_next_multiple_of (Self.number self) (Self.number other) };
+
+    /// The product by an integer; condition that the answer fits.
+    fn strict_mul_int(self, rhs: Self::Bits) -> Self
+        requires { InRange Self.SIGNED Self.BITS (exact_mul_int (Self.number self) (Self.Bits.value rhs)) }
+        ensures { Self.number result ≡ exact_mul_int (Self.number self) (Self.Bits.value rhs) };
+
+    /// The quotient by an integer, rounded toward zero; condition that the divisor is not zero and
+    /// the answer fits.
+    fn strict_div_int(self, rhs: Self::Bits) -> Self
+        requires divisor { Self.Bits.value rhs ≢ pos 0 }
+        requires fits { InRange Self.SIGNED Self.BITS (exact_div_int (Self.number self) (Self.Bits.value rhs)) }
+        ensures { Self.number result ≡ exact_div_int (Self.number self) (Self.Bits.value rhs) };
+
+    /// The remainder by an integer, of the quotient that is rounded toward zero; condition that the
+    /// divisor is not zero and the answer fits.
+    fn strict_rem_int(self, rhs: Self::Bits) -> Self
+        requires fraction { Self.FRACTION ≤ Self.BITS }
+        requires divisor { Self.Bits.value rhs ≢ pos 0 }
+        requires fits { InRange Self.SIGNED Self.BITS (exact_rem_int (Self.number self) (Self.Bits.value rhs) Self.FRACTION) }
+        ensures { Self.number result ≡ exact_rem_int (Self.number self) (Self.Bits.value rhs) Self.FRACTION };
+
+    /// The Euclidean remainder by an integer; condition that the divisor is not zero and the answer
+    /// fits.
+    fn strict_rem_euclid_int(self, rhs: Self::Bits) -> Self
+        requires fraction { Self.FRACTION ≤ Self.BITS }
+        requires divisor { Self.Bits.value rhs ≢ pos 0 }
+        requires fits { InRange Self.SIGNED Self.BITS (exact_rem_euclid_int (Self.number self) (Self.Bits.value rhs) Self.FRACTION) }
+        ensures { Self.number result ≡ exact_rem_euclid_int (Self.number self) (Self.Bits.value rhs) Self.FRACTION };
+
+    /// The Euclidean quotient by an integer, a whole number; condition that the divisor is not zero
+    /// and the answer fits.
+    fn strict_div_euclid_int(self, rhs: Self::Bits) -> Self
+        requires fraction { Self.FRACTION ≤ Self.BITS }
+        requires divisor { Self.Bits.value rhs ≢ pos 0 }
+        requires fits { InRange Self.SIGNED Self.BITS (exact_div_euclid_int (Self.number self) (Self.Bits.value rhs) Self.FRACTION) }
+        ensures { Self.number result ≡ exact_div_euclid_int (Self.number self) (Self.Bits.value rhs) Self.FRACTION };
+
+    /// The square root, rounded down; condition that the number is not below zero and the answer
+    /// fits.
+    fn strict_sqrt(self) -> Self
+        requires fraction { Self.FRACTION ≤ Self.BITS }
+        requires sign { pos 0 ≤ℤ Self.number self }
+        requires fits { InRange Self.SIGNED Self.BITS (exact_sqrt (Self.number self) Self.FRACTION) }
+        ensures { Self.number result ≡ exact_sqrt (Self.number self) Self.FRACTION };
+
+    /// The bits moved up by `rhs` places, without what lies past the width; condition that `rhs` is
+    /// below the width.
+    fn strict_shl(self, rhs: u32) -> Self
+        requires { rhs < Self.BITS }
+        ensures { Self.number result ≡ wrap Self.SIGNED Self.BITS (Self.number self *ℤ pos (2 ^ rhs)) };
+
+    /// The bits moved down by `rhs` places, rounded down; condition that `rhs` is below the width.
+    fn strict_shr(self, rhs: u32) -> Self
+        requires { rhs < Self.BITS }
+        ensures { Self.number result ≡ floor_quotient (Self.number self) (2 ^ rhs) };
+}
+
+impl<T: Word, const F: u32> Strict for Fixed<T, F> {
+    fn strict_neg(self) -> Self {
+        exact_number(neg_of(self.bits))
+    }
+
+    fn strict_add(self, rhs: Self) -> Self {
+        exact_number(add_of(self.bits, rhs.bits))
+    }
+
+    fn strict_sub(self, rhs: Self) -> Self {
+        exact_number(sub_of(self.bits, rhs.bits))
+    }
+
+    fn strict_mul(self, rhs: Self) -> Self {
+        exact_number(mul_of(self.bits, rhs.bits, F))
+    }
+
+    fn strict_div(self, rhs: Self) -> Self {
+        exact_number(div_of(self.bits, rhs.bits, F))
+    }
+
+    fn strict_recip(self) -> Self {
+        exact_number(recip_of(self.bits, F))
+    }
+
+    fn strict_rem(self, rhs: Self) -> Self {
+        exact_number(rem_of(self.bits, rhs.bits))
+    }
+
+    fn strict_rem_euclid(self, rhs: Self) -> Self {
+        exact_number(rem_euclid_of(self.bits, rhs.bits))
+    }
+
+    fn strict_div_euclid(self, rhs: Self) -> Self {
+        exact_number(div_euclid_of(self.bits, rhs.bits, F))
+    }
+
+    fn strict_dist(self, other: Self) -> Self {
+        exact_number(dist_of(self.bits, other.bits))
+    }
+
+    fn strict_next_multiple_of(self, other: Self) -> Self {
+        exact_number(next_multiple_of_of(self.bits, other.bits))
+    }
+
+    fn strict_mul_int(self, rhs: T) -> Self {
+        exact_number(mul_int_of(self.bits, rhs))
+    }
+
+    fn strict_div_int(self, rhs: T) -> Self {
+        exact_number(div_int_of(self.bits, rhs))
+    }
+
+    fn strict_rem_int(self, rhs: T) -> Self {
+        exact_number(rem_int_of(self.bits, rhs, F))
+    }
+
+    fn strict_rem_euclid_int(self, rhs: T) -> Self {
+        exact_number(rem_euclid_int_of(self.bits, rhs, F))
+    }
+
+    fn strict_div_euclid_int(self, rhs: T) -> Self {
+        exact_number(div_euclid_int_of(self.bits, rhs, F))
+    }
+
+    fn strict_sqrt(self) -> Self {
+        exact_number(sqrt_of(self.bits, F))
+    }
+
+    fn strict_shl(self, rhs: u32) -> Self {
+        self.unbounded_shl(rhs)
+    }
+
+    fn strict_shr(self, rhs: u32) -> Self {
+        self.unbounded_shr(rhs)
+    }
+}
+
+/// The `strict_` forms of signed numbers (the crate's).
+pub trait StrictSigned: Strict {
+    /// The magnitude; condition that the answer fits.
+    fn strict_abs(self) -> Self
+        requires { InRange Self.SIGNED Self.BITS (exact_abs (Self.number self)) }
+        ensures { Self.number result ≡ exact_abs (Self.number self) };
+
+    /// One by the sign of the number: 1, 0 or -1; condition that the answer fits.
+    fn strict_signum(self) -> Self
+        requires fraction { Self.FRACTION ≤ Self.BITS }
+        requires fits { InRange Self.SIGNED Self.BITS (exact_signum (Self.number self) Self.FRACTION) }
+        ensures { Self.number result ≡ exact_signum (Self.number self) Self.FRACTION };
+
+    /// The sum with an unsigned number; condition that the answer fits.
+    fn strict_add_unsigned(self, rhs: Self::Unsigned) -> Self
+        requires { InRange Self.SIGNED Self.BITS (exact_add (Self.number self) (Self.Unsigned.number rhs)) }
+        ensures { Self.number result ≡ exact_add (Self.number self) (Self.Unsigned.number rhs) };
+
+    /// The difference from an unsigned number; condition that the answer fits.
+    fn strict_sub_unsigned(self, rhs: Self::Unsigned) -> Self
+        requires { InRange Self.SIGNED Self.BITS (exact_sub (Self.number self) (Self.Unsigned.number rhs)) }
+        ensures { Self.number result ≡ exact_sub (Self.number self) (Self.Unsigned.number rhs) };
+}
+
+impl<T: SignedWord, const F: u32> StrictSigned for Fixed<T, F> {
+    fn strict_abs(self) -> Self {
+        exact_number(abs_of(self.bits))
+    }
+
+    fn strict_signum(self) -> Self {
+        exact_number(signum_of(self.bits, F))
+    }
+
+    fn strict_add_unsigned(self, rhs: Fixed<T::Unsigned, F>) -> Self {
+        exact_number(mixed_add_of(self.bits, rhs.bits))
+    }
+
+    fn strict_sub_unsigned(self, rhs: Fixed<T::Unsigned, F>) -> Self {
+        exact_number(mixed_sub_of(self.bits, rhs.bits))
+    }
+}
+
+/// The `strict_` forms of unsigned numbers (the crate's).
+pub trait StrictUnsigned: Strict {
+    /// The least power of two, in units, that is at least the number; condition that the answer
+    /// fits.
+    fn strict_next_power_of_two(self) -> Self
+        requires { InRange Self.SIGNED Self.BITS (exact_next_power_of_two (Self.number self)) }
+        ensures { Self.number result ≡ exact_next_power_of_two (Self.number self) };
+
+    /// The sum with a signed number; condition that the answer fits.
+    fn strict_add_signed(self, rhs: Self::Signed) -> Self
+        requires { InRange Self.SIGNED Self.BITS (exact_add (Self.number self) (Self.Signed.number rhs)) }
+        ensures { Self.number result ≡ exact_add (Self.number self) (Self.Signed.number rhs) };
+
+    /// The difference from a signed number; condition that the answer fits.
+    fn strict_sub_signed(self, rhs: Self::Signed) -> Self
+        requires { InRange Self.SIGNED Self.BITS (exact_sub (Self.number self) (Self.Signed.number rhs)) }
+        ensures { Self.number result ≡ exact_sub (Self.number self) (Self.Signed.number rhs) };
+}
+
+impl<T: UnsignedWord, const F: u32> StrictUnsigned for Fixed<T, F> {
+    fn strict_next_power_of_two(self) -> Self {
+        exact_number(next_power_of_two_of(self.bits))
+    }
+
+    fn strict_add_signed(self, rhs: Fixed<T::Signed, F>) -> Self {
+        exact_number(mixed_add_of(self.bits, rhs.bits))
+    }
+
+    fn strict_sub_signed(self, rhs: Fixed<T::Signed, F>) -> Self {
+        exact_number(mixed_sub_of(self.bits, rhs.bits))
+    }
+}
