@@ -32,13 +32,13 @@ reverse_complement xs =
     let e = length-map (reverse xs) (λ d. 1 - d) in
     same_number_lists (reverse (complement xs)) (complement (reverse xs)) (omega arith)
     (λ i l.
-      let t : i < length xs = omega arith in
-      let u : i < length (complement xs) = omega arith in
-      let v : i < length (reverse xs) = omega arith in
-      let s : length xs - 1 - i < length xs = omega arith in
-      let p : length (complement xs) - 1 - i ≡ length xs - 1 - i = omega arith in
-      get_or-reverse (complement xs) i 0 u ∙ rw p (get_or-map (λ d. 1 - d) xs (length xs - 1 - i) 0 0 s)
-      ∙ sym (get_or-map (λ d. 1 - d) (reverse xs) i 0 0 v ∙ ap (λ (d : ℕ). 1 - d) (get_or-reverse xs i 0 t)))
+    let t : i < length xs = omega arith in
+    let u : i < length (complement xs) = omega arith in
+    let v : i < length (reverse xs) = omega arith in
+    let s : length xs - 1 - i < length xs = omega arith in
+    let p : length (complement xs) - 1 - i ≡ length xs - 1 - i = omega arith in
+    get_or-reverse (complement xs) i 0 u ∙ rw p (get_or-map (λ d. 1 - d) xs (length xs - 1 - i) 0 0 s)
+    ∙ sym (get_or-map (λ d. 1 - d) (reverse xs) i 0 0 v ∙ ap (λ (d : ℕ). 1 - d) (get_or-reverse xs i 0 t)))
 
 all_bits : (n : ℕ) (a : ℤ) → All (λ d. d < 2) (bit_list n a)
 unfolding bit_list

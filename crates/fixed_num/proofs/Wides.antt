@@ -185,6 +185,7 @@ full_size p x b z h y t =
           absurd (omega arith)
       | inr above ↦ omega arith
     ]
+
     divisor : (p b : ℕ) → 0 < p → 0 < b → 2 * (p * p) ≤ p * (2 * p) / b → b ≡ 1
     divisor p b z y t = elim (cases_lt 1 b) [
       | inl large ↦
@@ -221,11 +222,14 @@ whole_quotient n a b w z i f =
     not_zero (pos zero) z = absurd (z refl)
     not_zero (pos (suc b)) z = omega arith
     not_zero (negsuc b) z = omega arith
+
     only_one : (b : ℤ) → nat_abs b ≡ 1 → b ≢ negsuc 0 → b ≡ pos 1
     only_one (pos b) e f = omega (arith, ints)
     only_one (negsuc b) e f = absurd (f (omega (arith, ints)))
+
     twice : (p : ℕ) → p * (2 * p) ≡ 2 * (p * p)
     twice p = grind arith
+
     least_fits : (n : ℕ) (a b : ℤ) → 2 ^ n ≡ 2 * 2 ^ (n - 1) → 2 ^ (2 * n - 1) ≡ 2 * (2 ^ (n - 1) * 2 ^ (n - 1)) → a ≡ lowest true n → b ≡ pos 1 → InRange true (2 * n) (truncated_quotient (a *ℤ pos (2 ^ n)) b)
     least_fits n a b d e l o =
         let p = 2 ^ (n - 1) in
