@@ -1,10 +1,10 @@
 -- Digits 1 of a list are digits 0 of its complement.
-use Rattle.std.proofs.Common.{◌≡◌, ◌+◌, ◌-◌, ◌<◌, ◌≤◌, ◌^◌, ℕ, ℤ, zero, suc, Bool, true, false, cond, List, [], ◌∷◌, length, map, get_or, reverse, refl, ap, sym, subst, ◌∙◌, arith}
+use Rattle.std.proofs.Common.{◌≡◌, ◌-◌, ◌<◌, ◌^◌, ℕ, ℤ, zero, suc, List, [], ◌∷◌, length, reverse, refl, ap, sym, ◌∙◌, arith}
 use Rattle.std.proofs.lemmas.List.{get_or-map, get_or-reverse}
 use Rattle.std.proofs.Math.ListN.{length-map, length-reverse}
 use Rattle.std.proofs.lemmas.Grind.{same_number_lists}
 use Rattle.std.specs.List.{All, prefix_len, suffix_len}
-use Rattle.fixed_word.specs.Format.{IsWidth, modulo}
+use Rattle.fixed_word.specs.Format.{modulo}
 use Rattle.fixed_bits.specs.Digits.{bit_list, complement, is_one, is_zero}
 use Rattle.fixed_bits.proofs.Lists.{all_lowest}
 

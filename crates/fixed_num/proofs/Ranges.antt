@@ -1,9 +1,9 @@
 -- Numbers that fit a word.
-use Rattle.std.proofs.Common.{◌≡◌, ◌+◌, ◌-◌, ◌*◌, ◌/◌, ◌%◌, ◌^◌, ◌<◌, ◌≤◌, ◌+ℤ◌, ◌-ℤ◌, ◌*ℤ◌, ◌<ℤ◌, ◌≤ℤ◌, ℕ, ℤ, zero, suc, Bool, true, false, pos, negsuc, neg_ℤ, nat_abs, min, refl, ap, sym, ◌∙◌, arith, inl, inr}
+use Rattle.std.proofs.Common.{◌≡◌, ◌+◌, ◌-◌, ◌*◌, ◌/◌, ◌%◌, ◌^◌, ◌<◌, ◌≤◌, ◌+ℤ◌, ◌-ℤ◌, ◌*ℤ◌, ◌<ℤ◌, ◌≤ℤ◌, ℕ, ℤ, suc, Bool, true, false, pos, negsuc, neg_ℤ, nat_abs, min, refl, ap, sym, ◌∙◌, arith, inl, inr}
 use Rattle.std.specs.Prelude.{◌↔◌, IsTrue}
 use Rattle.std.proofs.lemmas.Int.{ints}
 use Rattle.std.proofs.lemmas.Bool.{cases_lt}
-use Rattle.std.proofs.lemmas.Nat.{pow_pos, pow-add, one_shl, mul-mod_first}
+use Rattle.std.proofs.lemmas.Nat.{pow_pos, pow-add, one_shl}
 use Rattle.std.proofs.Math.Nat.{pow-le-pow_right, div-eq_of_lt, mul_assoc}
 use Rattle.fixed_word.specs.Format.{IsWidth, InRange, lowest, highest, wrap, with_sign, modulo}
 use Rattle.fixed_word.specs.Quotient.{floor_quotient}

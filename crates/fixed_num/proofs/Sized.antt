@@ -1,5 +1,5 @@
 -- How many binary digits a number has.
-use Rattle.std.proofs.Common.{◌≡◌, ◌+◌, ◌-◌, ◌*◌, ◌/◌, ◌%◌, ◌^◌, ◌<◌, ◌≤◌, ◌+ℤ◌, ◌-ℤ◌, ◌*ℤ◌, ◌<ℤ◌, ◌≤ℤ◌, ℕ, ℤ, zero, suc, Bool, true, false, pos, negsuc, neg_ℤ, nat_abs, refl, ap, sym, subst, ◌∙◌, arith, inl, inr}
+use Rattle.std.proofs.Common.{◌≡◌, ◌+◌, ◌-◌, ◌*◌, ◌%◌, ◌^◌, ◌<◌, ◌≤◌, ◌<ℤ◌, ◌≤ℤ◌, ℕ, ℤ, zero, suc, Bool, true, false, pos, nat_abs, refl, ap, sym, ◌∙◌, arith, inl, inr}
 use Rattle.std.specs.Prelude.{◌↔◌, IsTrue}
 use Rattle.std.proofs.lemmas.Int.{ints}
 use Rattle.std.proofs.lemmas.Bool.{cases_lt}
@@ -9,7 +9,7 @@ use lib.Count.{count_leading_zeros}
 use Rattle.fixed_bits.proofs.Words.{sign_is}
 use Rattle.std.proofs.lemmas.Bool.Decides.{Decides-eqb}
 use Rattle.std.specs.Prelude.{◌==◌}
-use Rattle.fixed_word.specs.Format.{IsWidth, InRange, highest, with_sign, wrap}
+use Rattle.fixed_word.specs.Format.{IsWidth, InRange, with_sign, wrap}
 use Rattle.fixed_word.specs.Wraps.{width_pos, wrap_same}
 use Rattle.fixed_num.proofs.Ranges.{from_zero}
 use Rattle.fixed_num.specs.Sizes.{HasSignedSize, HasSize, IsHighestOne, IsHighestPower, IsLeast, IsPower}

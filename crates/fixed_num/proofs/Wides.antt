@@ -1,5 +1,5 @@
 -- Products and quotients in a word of twice the width.
-use Rattle.std.proofs.Common.{◌≡◌, ◌≢◌, ◌⊎◌, ◌+◌, ◌-◌, ◌*◌, ◌/◌, ◌%◌, ◌^◌, ◌<◌, ◌≤◌, ◌+ℤ◌, ◌-ℤ◌, ◌*ℤ◌, ◌<ℤ◌, ◌≤ℤ◌, ℕ, ℤ, zero, suc, Bool, true, false, pos, negsuc, neg_ℤ, nat_abs, refl, ap, sym, subst, ◌∙◌, arith, inl, inr}
+use Rattle.std.proofs.Common.{◌≡◌, ◌≢◌, ◌+◌, ◌-◌, ◌*◌, ◌/◌, ◌%◌, ◌^◌, ◌<◌, ◌≤◌, ◌*ℤ◌, ◌<ℤ◌, ℕ, ℤ, zero, suc, Bool, true, false, pos, negsuc, neg_ℤ, nat_abs, refl, ap, sym, ◌∙◌, arith, inl, inr}
 use Rattle.std.proofs.lemmas.Int.{ints}
 use Rattle.std.specs.Prelude.{◌↔◌, IsTrue, not}
 use mathlib.Core.Bool.{beq}
@@ -7,9 +7,9 @@ use Rattle.fixed_bits.proofs.Words.{moved_up, sign_is}
 use Rattle.std.proofs.lemmas.Bool.{cases_lt}
 use Rattle.std.proofs.lemmas.Nat.{pow_pos, pow-add, mul-le, mul-lt, shl_whole}
 use Rattle.std.proofs.Math.IntN.{*ℤ_comm}
-use Rattle.std.proofs.Math.Nat.{pow-suc, mul_comm, div-le_self, mul-div-le}
-use Rattle.fixed_word.specs.Format.{IsWidth, InRange, lowest, highest, wrap, with_sign}
-use Rattle.fixed_word.specs.Quotient.{IsTruncated, floor_quotient, truncated_quotient}
+use Rattle.std.proofs.Math.Nat.{mul_comm, div-le_self, mul-div-le}
+use Rattle.fixed_word.specs.Format.{IsWidth, InRange, lowest, wrap, with_sign}
+use Rattle.fixed_word.specs.Quotient.{truncated_quotient}
 use Rattle.fixed_word.specs.Wraps.{double, neg-times, width_pos, wrap_same}
 use Rattle.fixed_word.proofs.QuotientLaws.{truncated_quotient_is}
 

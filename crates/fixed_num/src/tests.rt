@@ -1,1 +1,289 @@
-//! Calls of numbers.
+//! The calls of numbers, against known answers and computations in wider types.
+
+use super::*;
+use fixed_bits::BitWord;
+use fixed_word::{Count, RawWord, SignedWord, Steps, UnsignedWord, Word};
+use std::mem::size_of;
+
+/// The answers of the calls of one operand that are the same for both signs, as numbers of bits.
+fn bit_answers<T: BitWord, const F: u32>(x: Fixed<T, F>) -> [u64; 12] {
+    [
+        pattern(x.const_not()),
+        pattern(x.swap_bytes()),
+        pattern(x.reverse_bits()),
+        pattern(x.rotate_left(3)),
+        pattern(x.rotate_right(5)),
+        x.count_ones() as u64,
+        x.count_zeros() as u64,
+        x.leading_ones() as u64,
+        x.leading_zeros() as u64,
+        x.trailing_ones() as u64,
+        x.trailing_zeros() as u64,
+        pattern(Fixed::<T, F>::from_be_bytes(x.to_be_bytes())),
+    ]
+}
+
+/// The bits as a number of at least 0.
+fn pattern<T: Word, const F: u32>(x: Fixed<T, F>) -> u64 {
+    x.bits.to_unsigned().magnitude()
+}
+
+/// The same answers by std's calls on the byte.
+fn std_answers(byte: u8) -> [u64; 12] {
+    [
+        (255 - byte) as u64,
+        byte as u64,
+        byte.reverse_bits() as u64,
+        byte.rotate_left(3) as u64,
+        byte.rotate_right(5) as u64,
+        byte.count_ones() as u64,
+        byte.count_zeros() as u64,
+        byte.leading_ones() as u64,
+        byte.leading_zeros() as u64,
+        byte.trailing_ones() as u64,
+        byte.trailing_zeros() as u64,
+        byte as u64,
+    ]
+}
+
+#[test]
+fn bits_of_every_byte(rt: HostRuntime) {
+    for byte in 0..=255_u8 {
+        let want = std_answers(byte);
+        let x = FixedU8::<4>::from_bits(byte);
+        assert_eq!(rt; bit_answers(x), want, "of {byte}");
+        assert_eq!(rt; bit_answers(x.cast_signed()), want, "of {byte} with a sign");
+        assert_eq!(rt; x.cast_signed().cast_unsigned(), x, "of {byte} and back");
+        assert_eq!(rt; Fixed::from_le_bytes(x.to_le_bytes()), x, "bytes of {byte}");
+    }
+}
+
+/// The answers of the calls on the size of a signed number.
+fn signed_answers<T: SignedWord, const F: u32>(x: Fixed<T, F>) -> (bool, bool, bool, u32) {
+    (
+        x.is_zero(),
+        x.is_positive(),
+        x.is_negative(),
+        x.signed_bits(),
+    )
+}
+
+/// The least m of at least 1 with `-2^(m-1) <= x < 2^(m-1)`, from the top down.
+fn least_signed_bits(x: i32) -> u32 {
+    for m in [1_u32, 2, 3, 4, 5, 6, 7] {
+        let end = 1_i32 << (m - 1);
+        if -end <= x && x < end {
+            return m;
+        }
+    }
+    8
+}
+
+/// The same by comparisons in a wider type.
+fn plain_signed(x: i32) -> (bool, bool, bool, u32) {
+    (x == 0, x > 0, x < 0, least_signed_bits(x))
+}
+
+/// The answers of the calls on the size of an unsigned number.
+fn unsigned_answers<T: UnsignedWord, const F: u32>(x: Fixed<T, F>) -> (bool, u32, bool, u64) {
+    (
+        x.is_zero(),
+        x.significant_bits(),
+        x.is_power_of_two(),
+        x.highest_one().bits.magnitude(),
+    )
+}
+
+/// The same by comparisons with each power of 2.
+fn plain_unsigned(x: u32) -> (bool, u32, bool, u64) {
+    for (place, power) in [
+        (7, 128),
+        (6, 64),
+        (5, 32),
+        (4, 16),
+        (3, 8),
+        (2, 4),
+        (1, 2),
+        (0, 1),
+    ] {
+        if power <= x {
+            return (false, place + 1, x == power, power as u64);
+        }
+    }
+    (true, 0, false, 0)
+}
+
+/// `round_to_zero` of eight bits, four of them behind the point.
+fn rounded(bits: i8) -> i32 {
+    FixedI8::<4>::from_bits(bits).round_to_zero().bits as i32
+}
+
+#[test]
+fn sizes_of_every_byte(rt: HostRuntime) {
+    for byte in 0..=255_u8 {
+        let signed = byte.cast_signed();
+        let wide = signed as i32;
+        assert_eq!(rt;
+            signed_answers(FixedI8::<4>::from_bits(signed)),
+            plain_signed(wide),
+            "of {signed}"
+        );
+        assert_eq!(rt;
+            unsigned_answers(FixedU8::<4>::from_bits(byte)),
+            plain_unsigned(byte as u32),
+            "of {byte}"
+        );
+        assert_eq!(rt; rounded(signed), wide / 16 * 16, "of {signed}");
+        let whole = FixedU8::<4>::from_bits(byte).round_to_zero().bits;
+        assert_eq!(rt; whole as u32, byte as u32 / 16 * 16, "of {byte}");
+    }
+}
+
+/// Shifts and means of two numbers, by their bits.
+fn moved<T: BitWord, const F: u32>(x: Fixed<T, F>, y: Fixed<T, F>, by: u32) -> (T, T, T) {
+    (
+        x.unbounded_shl(by).bits,
+        x.unbounded_shr(by).bits,
+        x.mean(y).bits,
+    )
+}
+
+#[test]
+fn shifts_and_means(rt: HostRuntime) {
+    for (a, b, by, want) in [
+        (-128, 127, 8, (0, -1, -1)),
+        (-48, 64, 1, (-96, -24, 8)),
+        (127, 126, 9, (0, 0, 126)),
+    ] {
+        let x = FixedI8::<4>::from_bits(a);
+        assert_eq!(rt; moved(x, FixedI8::from_bits(b), by), want, "of {a} and {b}");
+    }
+    for (a, b, by, want) in [(255, 254, 2, (252, 63, 254)), (3, 200, 8, (0, 0, 101))] {
+        let x = FixedU8::<4>::from_bits(a);
+        assert_eq!(rt; moved(x, FixedU8::from_bits(b), by), want, "of {a} and {b}");
+    }
+    let longest = FixedI64::<1>::MIN.mean(FixedI64::<1>::MAX);
+    assert_eq!(rt; longest.bits, -1);
+}
+
+#[test]
+fn distances(rt: HostRuntime) {
+    for (a, b, want) in [(-128, 127, 255), (-48, 64, 112), (127, 126, 1), (5, 5, 0)] {
+        let x = FixedI8::<4>::from_bits(a);
+        let y = FixedI8::<4>::from_bits(b);
+        assert_eq!(rt; x.abs_diff(y).bits, want, "of {a} and {b}");
+        assert_eq!(rt; y.unsigned_dist(x).bits, want, "of {b} and {a}");
+    }
+    assert_eq!(rt;
+        FixedU8::<4>::from_bits(3)
+            .abs_diff(FixedU8::from_bits(200))
+            .bits,
+        197
+    );
+    assert_eq!(rt; FixedI8::<4>::MIN.unsigned_abs().bits, 128);
+    assert_eq!(rt; FixedI8::<4>::from_bits(-1).unsigned_abs().bits, 1);
+}
+
+#[test]
+fn signed_and_significant_bits(rt: HostRuntime) {
+    for (bits, want) in [(-48, 7), (-1, 1), (0, 1), (1, 2)] {
+        assert_eq!(rt;
+            FixedI8::<4>::from_bits(bits).signed_bits(),
+            want,
+            "of {bits}"
+        );
+    }
+    for (bits, want) in [(48, 6), (1, 1), (0, 0)] {
+        assert_eq!(rt;
+            FixedU8::<4>::from_bits(bits).significant_bits(),
+            want,
+            "of {bits}"
+        );
+    }
+    let fifty = FixedU8::<4>::from_bits(50);
+    assert_eq!(rt; fifty.highest_one().bits, 32);
+    assert_eq!(rt;
+        (
+            fifty.count_ones(),
+            fifty.trailing_zeros(),
+            fifty.leading_zeros()
+        ),
+        (3, 1, 2)
+    );
+    assert_eq!(rt; FixedI8::<4>::from_bits(-120).round_to_zero().bits, -112);
+}
+
+#[test]
+fn wide_results(rt: HostRuntime) {
+    let product: FixedI16<6> = FixedI8::<2>::from_bits(5).wide_mul(FixedI8::<4>::from_bits(17));
+    assert_eq!(rt; product.bits, 85);
+    let product: FixedI16<6> = FixedU8::<2>::from_bits(5).wide_mul_signed(FixedI8::<4>::from_bits(
+        -17,
+    ));
+    assert_eq!(rt; product.bits, -85);
+    let product: FixedI16<6> = FixedI8::<2>::from_bits(-128).wide_mul_unsigned(FixedU8::<
+        4,
+    >::from_bits(255));
+    assert_eq!(rt; product.bits, -32640);
+    let quotient: FixedI16<6> = FixedI8::<3>::from_bits(37).wide_div(FixedI8::<5>::from_bits(1));
+    assert_eq!(rt; quotient.bits, 9472);
+    let quotient: FixedI16<6> = FixedI8::<3>::from_bits(-37).wide_div_unsigned(FixedU8::<
+        5,
+    >::from_bits(1));
+    assert_eq!(rt; quotient.bits, -9472);
+    let quotient: FixedI16<7> = FixedI8::<4>::from_bits(-128).wide_sdiv(FixedI8::<4>::from_bits(
+        -1,
+    ));
+    assert_eq!(rt; quotient.bits, 16384);
+    let quotient: FixedI16<7> = FixedU8::<4>::from_bits(255).wide_sdiv_signed(FixedI8::<
+        4,
+    >::from_bits(-2));
+    assert_eq!(rt; quotient.bits, -16320);
+    let square: FixedU64<20> = FixedU32::<10>::MAX.wide_mul(FixedU32::<10>::MAX);
+    assert_eq!(rt; square.bits, 0xffff_fffe_0000_0001);
+}
+
+#[test]
+fn bytes_and_constants(rt: HostRuntime) {
+    let x = FixedI16::<4>::from_bits(4660);
+    assert_eq!(rt; x.to_be_bytes(), [0x12, 0x34]);
+    assert_eq!(rt; x.to_le_bytes(), [0x34, 0x12]);
+    assert_eq!(rt; FixedI8::<4>::one().bits, 16);
+    assert_eq!(rt; FixedI8::<4>::neg_one().bits, -16);
+    assert_eq!(rt; FixedI8::<7>::neg_one(), FixedI8::<7>::MIN);
+    assert_eq!(rt; FixedU16::<3>::int_nbits(), 13);
+    assert_eq!(rt; FixedU8::<2>::default(), FixedU8::<2>::ZERO);
+    assert_eq!(rt; FixedI32::<2>::DELTA.to_bits(), 1);
+    assert_eq!(rt; FixedU64::<2>::MAX.bits, u64::MAX);
+    assert_eq!(rt;
+        (FixedI32::<5>::IS_SIGNED, FixedI32::<5>::FRAC_NBITS),
+        (true, 5)
+    );
+    assert!(rt; FixedI8::<4>::from_bits(-1) < FixedI8::<4>::from_bits(0));
+    let mask = FixedU8::<4>::from_bits(12);
+    let other = FixedU8::<4>::from_bits(10);
+    assert_eq!(rt; mask.const_bitand(other).bits, 8);
+    assert_eq!(rt; mask.const_bitor(other).bits, 14);
+    assert_eq!(rt; mask.const_bitxor(other).bits, 6);
+    assert_eq!(rt; size_of::<FixedI64<7>>(), 8);
+    assert_eq!(rt; size_of::<FixedU8<7>>(), 1);
+}
+
+#[tactic(auto, unfolding(fixed_root::specs::Root::root_of, fixed_root::specs::Root::root_below))]
+fn unsigned_root(steps: &mut Steps<Count>) -> FixedU8<4> {
+    FixedU8::<4>::from_bits(32).sqrt_counted(steps)
+}
+
+#[tactic(auto, unfolding(fixed_root::specs::Root::root_of, fixed_root::specs::Root::root_below))]
+fn signed_root(steps: &mut Steps<Count>) -> FixedI8<4> {
+    FixedI8::<4>::from_bits(32).sqrt_counted(steps)
+}
+
+#[test]
+fn counted_roots(rt: HostRuntime) {
+    let mut steps = Steps::new(Count::new());
+    assert_eq!(rt; unsigned_root(&mut steps).bits, 22);
+    assert!(rt; steps.ledger().count() <= 160);
+    assert_eq!(rt; signed_root(&mut steps).bits, 22);
+    assert!(rt; steps.ledger().count() <= 320);
+}

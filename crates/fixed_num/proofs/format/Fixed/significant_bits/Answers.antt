@@ -1,5 +1,3 @@
-use Rattle.std.proofs.Common.{◌≤ℤ◌, arith, pos}
-use Rattle.std.proofs.lemmas.Int.{ints}
 use Rattle.fixed_num.proofs.Ranges.{from_zero}
 use Rattle.fixed_num.proofs.Sized.{size_least}
 use Rattle.fixed_num.proofs.format.Fixed.significant_bits.Goals as goal
