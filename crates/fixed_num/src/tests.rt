@@ -2,7 +2,7 @@
 
 use super::*;
 use fixed_bits::BitWord;
-use fixed_word::{Count, RawWord, SignedWord, Steps, UnsignedWord, Word};
+use fixed_word::{Count, Narrow, RawWord, SignedWord, Steps, UnsignedWord, Word, outcome_of};
 use std::mem::size_of;
 
 /// The answers of the calls of one operand that are the same for both signs, as numbers of bits.
@@ -286,4 +286,27 @@ fn counted_roots(rt: HostRuntime) {
     assert!(rt; steps.ledger().count() <= 160);
     assert_eq!(rt; signed_root(&mut steps).bits, 22);
     assert!(rt; steps.ledger().count() <= 320);
+}
+
+/// The number with the bits of another, and its fraction.
+fn held_again<N: Number>(x: N) -> (N, u32) {
+    (N::from_bits(x.to_bits()), N::FRACTION)
+}
+
+fn widened<T: Narrow>(x: T) -> T::Double {
+    x.widen()
+}
+
+/// The number that an outcome stands for.
+fn exact<T: Word>(magnitude: u128) -> Fixed<T, 4> {
+    exact_number(outcome_of(false, magnitude))
+}
+
+#[test]
+fn through_bounds(rt: HostRuntime) {
+    let x = FixedI8::<4> { bits: -5 };
+    assert_eq!(rt; held_again(x), (x, 4));
+    assert_eq!(rt; widened(-128_i8), -128_i16);
+    assert_eq!(rt; widened(4294967295_u32), 4294967295_u64);
+    assert_eq!(rt; exact::<u8>(200), FixedU8::<4> { bits: 200 });
 }

@@ -1,5 +1,7 @@
 //! The answers on both sides of each end, through the bound.
 
+mod typed;
+
 use super::*;
 use fixed_word::{Side, Word, outcome_of};
 
