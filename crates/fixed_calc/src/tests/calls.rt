@@ -16,6 +16,10 @@ fn whole(below_zero: bool, magnitude: u128) -> Literal {
     }
 }
 
+fn set(dest: u128, literal: Literal) -> Line {
+    Line::Set { dest, literal }
+}
+
 /// A header gives its word and its fractions, those of `2^64` or more as `2^64`.
 #[test]
 fn headers(rt: HostRuntime) -> Result<(), Fail> {
@@ -64,19 +68,10 @@ fn headers(rt: HostRuntime) -> Result<(), Fail> {
 #[test]
 fn lines(rt: HostRuntime) -> Result<(), Fail> {
     for (text, line) in [
-        (
-            "r3 set -129",
-            Some(Line::Set {
-                dest: 3,
-                literal: whole(true, 129),
-            }),
-        ),
+        ("r3 set -129", Some(set(3, whole(true, 129)))),
         (
             "r18446744073709551617 set 0",
-            Some(Line::Set {
-                dest: 18_446_744_073_709_551_616,
-                literal: whole(false, 0),
-            }),
+            Some(set(18_446_744_073_709_551_616, whole(false, 0))),
         ),
         (
             "r0 strict sqrt r12",
@@ -214,28 +209,11 @@ fn steps(rt: &impl Abort, room: &mut Room, text: &str, expected: Result<Answer, 
     }
 }
 
-/// Each line after a header answers, stores and leaves the rest.
-fn step_each(rt: &impl Abort, room: &mut Room)
+/// Each cause leaves the registers.
+fn step_to_causes(rt: &impl Abort, room: &mut Room)
     requires { IsSome room.old.word }
+    ensures { IsSome room.new.word }
 {
-    steps(rt, room, "r0 set 100", Ok(Answer::Bits(100)), 100);
-    steps(rt, room, "r1 set -128", Ok(Answer::Bits(-128)), 100);
-    steps(rt, room, "r0 checked mul_int r0 2", Ok(Answer::Absent), 100);
-    steps(
-        rt,
-        room,
-        "r0 overflowing neg r1",
-        Ok(Answer::Flagged(-128, true)),
-        -128,
-    );
-    steps(
-        rt,
-        room,
-        "r0 overflowing neg r0",
-        Ok(Answer::Flagged(-128, true)),
-        -128,
-    );
-    steps(rt, room, "r0 saturating neg r1", Ok(Answer::Bits(127)), 127);
     steps(
         rt,
         room,
@@ -278,6 +256,31 @@ fn step_each(rt: &impl Abort, room: &mut Room)
         Err(Cause::Syntax(9)),
         127,
     );
+}
+
+/// Each line after a header answers, stores and leaves the rest.
+fn step_each(rt: &impl Abort, room: &mut Room)
+    requires { IsSome room.old.word }
+{
+    steps(rt, room, "r0 set 100", Ok(Answer::Bits(100)), 100);
+    steps(rt, room, "r1 set -128", Ok(Answer::Bits(-128)), 100);
+    steps(rt, room, "r0 checked mul_int r0 2", Ok(Answer::Absent), 100);
+    steps(
+        rt,
+        room,
+        "r0 overflowing neg r1",
+        Ok(Answer::Flagged(-128, true)),
+        -128,
+    );
+    steps(
+        rt,
+        room,
+        "r0 overflowing neg r0",
+        Ok(Answer::Flagged(-128, true)),
+        -128,
+    );
+    steps(rt, room, "r0 saturating neg r1", Ok(Answer::Bits(127)), 127);
+    step_to_causes(rt, room);
     let misshapen = Line::Two {
         dest: 0,
         policy: Policy::Checked,
