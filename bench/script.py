@@ -12,7 +12,11 @@ SHAPES = {
     "int": ["mul_int", "div_int", "div_euclid_int", "rem_int", "rem_euclid_int"],
     "three": ["mul_add", "add_prod"],
 }
-ONLY_CHECKED = {"rem", "rem_int", "rem_euclid"}
+# operations that a zero or a negative operand may leave without a number, or that few policies have
+PARTIAL = {
+    "recip", "sqrt", "next_power_of_two", "div", "div_euclid", "next_multiple_of", "rem", "rem_euclid",
+    "div_int", "div_euclid_int", "rem_int", "rem_euclid_int",
+}
 REGISTERS = 4
 
 
@@ -20,19 +24,27 @@ def number(state):
     return (state * 6364136223846793005 + 1442695040888963407) % 2**64
 
 
-def line(operation, state):
+def value(word, state):
+    """A value of the word: numbers of many sizes, and of both signs where it is signed."""
+    width = int(word[1:]) - (word[0] == "i")
+    size = (state >> 13) % width + 1
+    magnitude = ((state >> 20) + (number(state) >> 20) * 2**32) % 2**size
+    return -magnitude if word[0] == "i" and state >> 63 else magnitude
+
+
+def line(operation, state, word):
     d, a, b, c = ((state >> s) % REGISTERS for s in (33, 35, 37, 39))
     if operation == "set":
-        return f"r{d} set {(state >> 40) - 2**23 if state >> 63 else state >> 33}"
-    policy = "checked" if operation in ONLY_CHECKED else ("checked", "saturating", "wrapping", "overflowing")[(state >> 41) % 4]
-    if operation in ("recip", "sqrt", "next_power_of_two") or operation in SHAPES["int"] or operation.startswith("div") or operation.startswith("next"):
+        return f"r{d} set {value(word, state)}"
+    policy = ("checked", "saturating", "wrapping", "overflowing")[(state >> 41) % 4]
+    if operation in PARTIAL:
         policy = "checked"
     if operation in SHAPES["one"] or operation == "next_power_of_two":
         return f"r{d} {policy} {operation} r{a}"
     if operation in SHAPES["two"]:
         return f"r{d} {policy} {operation} r{a} r{b}"
     if operation in SHAPES["int"]:
-        return f"r{d} {policy} {operation} r{a} {(state >> 43) % 100 - 20}"
+        return f"r{d} {policy} {operation} r{a} {value(word, number(state))}"
     return f"r{d} {policy} {operation} r{a} r{b} r{c}"
 
 
@@ -47,10 +59,9 @@ def main():
     for i in range(lines):
         state = number(state)
         # every fourth line sets a register again, so that operands stay of many sizes
-        if operation != "set" and i % 4 == 0:
-            out.append(line("set", state) if word[0] == "i" else f"r{(state >> 33) % REGISTERS} set {state >> 34}")
-        else:
-            out.append(line(names[(state >> 45) % len(names)] if operation == "mix" else operation, state))
+        is_set = operation != "set" and i % 4 == 0
+        chosen = names[(state >> 45) % len(names)] if operation == "mix" else operation
+        out.append(line("set" if is_set else chosen, state, word))
     sys.stdout.write("\n".join(out) + "\n")
 
 

@@ -18,3 +18,5 @@ pub mod Caps
 pub mod TextsRead
 pub mod Runs
 pub mod Short
+pub mod Twice
+pub mod OneNumber

@@ -19,3 +19,4 @@ pub mod Reading
 pub mod Headline
 pub mod Laws
 pub mod Caps
+pub mod OneNumber

@@ -1,8 +1,12 @@
 //! Laws of the definitions. These functions do nothing: each contract is the law.
 
+ghost use Rattle.std.specs.Prelude.{◌≡◌, ◌*◌, ◌≤◌, Bool, List, ℕ, ℤ, false, length, true};
+ghost use Rattle.fixed_word.specs.Format.{IsWidth, fits};
 ghost use Rattle.fixed_calc.specs.Caps.{CapsAlike};
 ghost use Rattle.fixed_calc.specs.Laws.{OneHeader, OneLine, OneWholeNumber, PiecesJoin};
 ghost use Rattle.fixed_calc.specs.Lines.{ReadsHeaders, ReadsLines};
+ghost use Rattle.fixed_calc.specs.Meaning.{Output, meaning};
+ghost use Rattle.fixed_calc.specs.OneNumber.{AllSame, OnlyWrapped};
 
 /// Two lines with one text are equal, and so are two headers and two whole numbers. The pieces of a
 /// script, one after another, are the script.
@@ -22,4 +26,17 @@ pub fn reading_law()
 /// Numbers of `2^64` or more, held as `2^64`, change neither the cause of a line nor its move.
 pub fn cap_law()
     ensures { CapsAlike }
+{}
+
+/// The output of a script is at most twice as long as the script; so the room that is made for it
+/// suffices.
+pub fn output_law()
+    ensures { (script bytes : List ℕ) → meaning script ≡ Output bytes → length bytes ≤ 2 * length script }
+{}
+
+/// Where a number fits, checked, saturating, wrapping and overflowing all answer it, as strict does.
+/// Where it does not, checked answers nothing and overflowing the wrapped number with its verdict.
+pub fn policy_law()
+    ensures fits { (s : Bool) (n : ℕ) (x : ℤ) → IsWidth n → fits s n x ≡ true → AllSame s n x }
+    ensures misses { (s : Bool) (n : ℕ) (x : ℤ) → fits s n x ≡ false → OnlyWrapped s n x }
 {}
