@@ -297,16 +297,12 @@ fn widened<T: Narrow>(x: T) -> T::Double {
     x.widen()
 }
 
-/// The number that an outcome stands for.
-fn exact<T: Word>(magnitude: u128) -> Fixed<T, 4> {
-    exact_number(outcome_of(false, magnitude))
-}
-
 #[test]
 fn through_bounds(rt: HostRuntime) {
     let x = FixedI8::<4> { bits: -5 };
     assert_eq!(rt; held_again(x), (x, 4));
     assert_eq!(rt; widened(-128_i8), -128_i16);
     assert_eq!(rt; widened(4294967295_u32), 4294967295_u64);
-    assert_eq!(rt; exact::<u8>(200), FixedU8::<4> { bits: 200 });
+    let exact: FixedU8<4> = exact_number(outcome_of(false, 200));
+    assert_eq!(rt; exact, FixedU8::<4> { bits: 200 });
 }
