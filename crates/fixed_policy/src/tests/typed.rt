@@ -1,18 +1,26 @@
 //! The typed calls by name: vectors of the crate, and each trait through its bound.
 
+ghost use Rattle.std.specs.Prelude.{◌≡◌};
+
 use crate::*;
 use fixed_num::Fixed;
 use std::test::Fail;
 
-fn i8_of<const F: u32>(bits: i8) -> Fixed<i8, F> {
+fn i8_of<const F: u32>(bits: i8) -> Fixed<i8, F>
+    ensures { result.bits ≡ bits }
+{
     Fixed { bits }
 }
 
-fn u8_of<const F: u32>(bits: u8) -> Fixed<u8, F> {
+fn u8_of<const F: u32>(bits: u8) -> Fixed<u8, F>
+    ensures { result.bits ≡ bits }
+{
     Fixed { bits }
 }
 
-fn i32_of<const F: u32>(bits: i32) -> Fixed<i32, F> {
+fn i32_of<const F: u32>(bits: i32) -> Fixed<i32, F>
+    ensures { result.bits ≡ bits }
+{
     Fixed { bits }
 }
 
