@@ -38,7 +38,7 @@ pub fn fits_law()
     ensures { (s : Bool) (n : ℕ) (x : ℤ) → IsTrue (fits s n x) ↔ InRange s n x }
 {}
 
-/// The quotients meet the equations that define them, and nothing else does.
+/// The quotients meet the equations that define them. Nothing else meets those of the floor.
 pub fn quotient_law()
     ensures floor { (x : ℤ) (d : ℕ) → 0 < d → IsFloor x d (floor_quotient x d) }
     ensures floor_unique { (x q : ℤ) (d : ℕ) → 0 < d → IsFloor x d q → floor_quotient x d ≡ q }
