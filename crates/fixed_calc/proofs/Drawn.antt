@@ -187,31 +187,17 @@ all_drawn (l ∷ ls) each = All-cons IsDrawn l ls each.0 (all_drawn ls each.1)
 
 choices_drawn : (t d a b : ℕ) → t < 2 ^ 31 → d < 8 → a < 8 → b < 8 → AreDrawn (choices t d a b)
 unfolding is_offered
-choices_drawn t d a b small there first second = (
-  set_drawn d t there small,
-  (
-    apply_drawn d Wrapping Add (TwoRegisters a b) refl refl refl there (λ s ready. two_tests s d a b Wrapping Add refl ready there first second) (λ s k. add_total s d a b k),
-    (
-      apply_drawn d Overflowing Sub (TwoRegisters a b) refl refl refl there (λ s ready. two_tests s d a b Overflowing Sub refl ready there first second) (λ s k. sub_total s d a b k),
-      (
-        apply_drawn d Saturating Mul (TwoRegisters a b) refl refl refl there (λ s ready. two_tests s d a b Saturating Mul refl ready there first second) (λ s k. mul_total s d a b k),
-        (
-          apply_drawn d Checked Div (TwoRegisters a b) refl refl refl there (λ s ready. two_tests s d a b Checked Div refl ready there first second) (λ s k. checked_total s d Div (TwoRegisters a b) k),
-          (
-            apply_drawn d Wrapping MulAdd (ThreeRegisters a b d) refl refl refl there (λ s ready. mul_add_tests s d a b d ready there first second there) (λ s k. mul_add_total s d a b d k),
-            (
-              apply_drawn d Overflowing AddProd (ThreeRegisters d a b) refl refl refl there (λ s ready. add_prod_tests s d d a b ready there there first second) (λ s k. add_prod_total s d d a b k),
-              (
-                apply_drawn d Checked Sqrt (OneRegister a) refl refl refl there (λ s ready. one_tests s d a Checked Sqrt refl ready there first) (λ s k. checked_total s d Sqrt (OneRegister a) k),
-                tt,
-              ),
-            ),
-          ),
-        ),
-      ),
-    ),
-  ),
-)
+choices_drawn t d a b small there first second =
+    let two = TwoRegisters a b in
+    let set = set_drawn d t there small in
+    let add = apply_drawn d Wrapping Add two refl refl refl there (λ s ready. two_tests s d a b Wrapping Add refl ready there first second) (λ s k. add_total s d a b k) in
+    let sub = apply_drawn d Overflowing Sub two refl refl refl there (λ s ready. two_tests s d a b Overflowing Sub refl ready there first second) (λ s k. sub_total s d a b k) in
+    let mul = apply_drawn d Saturating Mul two refl refl refl there (λ s ready. two_tests s d a b Saturating Mul refl ready there first second) (λ s k. mul_total s d a b k) in
+    let div = apply_drawn d Checked Div two refl refl refl there (λ s ready. two_tests s d a b Checked Div refl ready there first second) (λ s k. checked_total s d Div two k) in
+    let mul_add = apply_drawn d Wrapping MulAdd (ThreeRegisters a b d) refl refl refl there (λ s ready. mul_add_tests s d a b d ready there first second there) (λ s k. mul_add_total s d a b d k) in
+    let add_prod = apply_drawn d Overflowing AddProd (ThreeRegisters d a b) refl refl refl there (λ s ready. add_prod_tests s d d a b ready there there first second) (λ s k. add_prod_total s d d a b k) in
+    let sqrt = apply_drawn d Checked Sqrt (OneRegister a) refl refl refl there (λ s ready. one_tests s d a Checked Sqrt refl ready there first) (λ s k. checked_total s d Sqrt (OneRegister a) k) in
+    (set, (add, (sub, (mul, (div, (mul_add, (add_prod, (sqrt, tt))))))))
 
 drawn : (t : ℕ) → t < 2 ^ 31 → IsDrawn (drawn_line t)
 unfolding drawn_line

@@ -7,7 +7,7 @@ use Rattle.fixed_word.specs.Decimal.{whole_text}
 use Rattle.fixed_calc.specs.declared.answer.Answer.{Answer}
 use Rattle.fixed_calc.specs.declared.answer.Answer.TheVariants.{Absent, Bits, Flagged}
 use Rattle.fixed_calc.specs.Answers.{answer_text, verdict_text}
-use Rattle.fixed_calc.specs.Demo.{is_absent, is_flagged}
+use Rattle.fixed_calc.specs.Demo.{is_absent, has_true_verdict}
 use Rattle.fixed_calc.proofs.Plain.{whole_lacks, count_lacks}
 
 abbrev letter : ℕ → ℕ → ℕ
@@ -28,11 +28,11 @@ absent_letters (Bits x) = after_whole 111 x (10 ∷ []) refl refl
 absent_letters (Flagged x true) = after_verdict 111 x true refl refl
 absent_letters (Flagged x false) = after_verdict 111 x false refl refl
 
-flagged_letters : (a : Answer) → count_by (λ b. eqb b 116) (answer_text a) ≡ cond (is_flagged a) 1 0
-flagged_letters Absent = refl
-flagged_letters (Bits x) = after_whole 116 x (10 ∷ []) refl refl
-flagged_letters (Flagged x true) = after_verdict 116 x true refl refl
-flagged_letters (Flagged x false) = after_verdict 116 x false refl refl
+verdict_letters : (a : Answer) → count_by (λ b. eqb b 116) (answer_text a) ≡ cond (has_true_verdict a) 1 0
+verdict_letters Absent = refl
+verdict_letters (Bits x) = after_whole 116 x (10 ∷ []) refl refl
+verdict_letters (Flagged x true) = after_verdict 116 x true refl refl
+verdict_letters (Flagged x false) = after_verdict 116 x false refl refl
 
 -- a letter that stands once in the texts that pass a test, and in no others
 counted : (c : ℕ) (test : Answer → Bool) (given : List Answer) → ((a : Answer) → count_by (λ b. eqb b c) (answer_text a) ≡ cond (test a) 1 0) → count_by (λ b. eqb b c) (flat_map answer_text given) ≡ count_by test given
@@ -46,5 +46,5 @@ counted c test (a ∷ given) each =
 pub absent_count : (given : List Answer) → count_by (λ b. eqb b 111) (flat_map answer_text given) ≡ count_by is_absent given
 absent_count given = counted 111 is_absent given absent_letters
 
-pub flagged_count : (given : List Answer) → count_by (λ b. eqb b 116) (flat_map answer_text given) ≡ count_by is_flagged given
-flagged_count given = counted 116 is_flagged given flagged_letters
+pub verdict_count : (given : List Answer) → count_by (λ b. eqb b 116) (flat_map answer_text given) ≡ count_by has_true_verdict given
+verdict_count given = counted 116 has_true_verdict given verdict_letters

@@ -81,15 +81,15 @@ is_absent (Bits x) = false
 is_absent (Flagged x verdict) = false
 
 -- the answer has a verdict, which is true
-abbrev pub is_flagged : Answer → Bool
-is_flagged Absent = false
-is_flagged (Bits x) = false
-is_flagged (Flagged x verdict) = verdict
+abbrev pub has_true_verdict : Answer → Bool
+has_true_verdict Absent = false
+has_true_verdict (Bits x) = false
+has_true_verdict (Flagged x verdict) = verdict
 
 abbrev pub summary_text : ℕ → ℕ → ℕ → List ℕ
-summary_text lines absent flagged =
-    codes "lines " ++ natural_text lines ++ codes "\nnone " ++ natural_text absent ++ codes "\ntrue " ++ natural_text flagged ++ codes "\n"
+summary_text lines absent verdicts =
+    codes "lines " ++ natural_text lines ++ codes "\nnone " ++ natural_text absent ++ codes "\ntrue " ++ natural_text verdicts ++ codes "\n"
 
 -- how many lines were drawn, how many answers have no value, and how many a verdict that is true
 unfoldable pub summary : ℕ → List ℕ
-summary n = summary_text n (count_by is_absent (demo_answers n)) (count_by is_flagged (demo_answers n))
+summary n = summary_text n (count_by is_absent (demo_answers n)) (count_by has_true_verdict (demo_answers n))

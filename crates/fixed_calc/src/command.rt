@@ -1,10 +1,16 @@
 //! What the words of the command line ask for.
 
-ghost use Rattle.std.specs.Prelude.{◌≡◌, ◌≤◌, ℕ, IfNone, IfSome};
+ghost use Rattle.std.specs.Prelude.{◌≡◌, ◌≤◌, ◌↔◌, ℕ, IfNone, IfSome, IsTrue};
 ghost use Rattle.fixed_word.specs.Decimal.{natural_text};
 ghost use Rattle.fixed_calc.specs.Words.{CommandTells, most_lines};
 
 use crate::number::natural_of;
+
+/// How many lines a demonstration has at least.
+const FEWEST: u128 = 1;
+
+/// How many lines a demonstration has at most.
+const MOST: u128 = 1_000_000;
 
 /// What the words ask for.
 #[derive(Clone, Copy, Debug, PartialEq, Eq)]
@@ -15,6 +21,13 @@ pub(crate) enum Command {
     Demo(u32),
 }
 
+/// Whether a demonstration may have so many lines.
+fn is_line_count(number: u128) -> bool
+    ensures { IsTrue result ↔ ((1 ≤ number) × (number ≤ most_lines)) }
+{
+    FEWEST <= number && number <= MOST
+}
+
 /// The number of lines that a word asks for.
 fn lines_of(word: &[u8]) -> Option<u32>
     ensures some { IfSome result (λ n. (natural_text n ≡ word.now) × (1 ≤ n) × (n ≤ most_lines)) }
@@ -23,9 +36,10 @@ fn lines_of(word: &[u8]) -> Option<u32>
     let Some(number) = natural_of(word) else {
         return None;
     };
-    match number {
-        1..=1_000_000 => Some(number as u32),
-        _ => None,
+    if is_line_count(number) {
+        Some(number as u32)
+    } else {
+        None
     }
 }
 

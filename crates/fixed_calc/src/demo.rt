@@ -60,10 +60,10 @@ fn push_register(script: &mut Vec<u8>, register: u64) -> Result<(), AllocError>
 }
 
 /// Adds a line that sets a register.
-fn push_set(script: &mut Vec<u8>, destination: u64, number: u64) -> Result<(), AllocError>
-    ensures { OnOk result (script.new.items ≡ script.old.items ++ line_text (SetTo destination (pos number))) }
+fn push_set(script: &mut Vec<u8>, dest: u64, number: u64) -> Result<(), AllocError>
+    ensures { OnOk result (script.new.items ≡ script.old.items ++ line_text (SetTo dest (pos number))) }
 {
-    push_register(script, destination)?;
+    push_register(script, dest)?;
     script.extend_from_slice(b" set ")?;
     push_number(script, number)
 }
@@ -72,14 +72,14 @@ fn push_set(script: &mut Vec<u8>, destination: u64, number: u64) -> Result<(), A
 /// with a space before all but the first.
 fn push_applied(
     script: &mut Vec<u8>,
-    destination: u64,
+    dest: u64,
     names: &[u8],
     operands: &[u64],
 ) -> Result<(), AllocError>
     ensures { OnOk result (script.new.items ≡ script.old.items
-        ++ register_text destination ++ names.now ++ flat_map (λ operand. 32 ∷ register_text operand) operands.now) }
+        ++ register_text dest ++ names.now ++ flat_map (λ operand. 32 ∷ register_text operand) operands.now) }
 {
-    push_register(script, destination)?;
+    push_register(script, dest)?;
     script.extend_from_slice(names)?;
     for operand in operands {
         script.extend_from_slice(b" ")?;
@@ -92,18 +92,18 @@ fn push_applied(
 fn push_line(script: &mut Vec<u8>, draw: u64) -> Result<(), AllocError>
     ensures { OnOk result (script.new.items ≡ script.old.items ++ line_text (drawn_line draw)) }
 {
-    let d = draw % 8;
+    let dest = draw % 8;
     let a = draw / 8 % 8;
     let b = draw / 64 % 8;
     match draw / 512 % 8 {
-        0 => push_set(script, d, draw),
-        1 => push_applied(script, d, b" wrapping add", &[a, b]),
-        2 => push_applied(script, d, b" overflowing sub", &[a, b]),
-        3 => push_applied(script, d, b" saturating mul", &[a, b]),
-        4 => push_applied(script, d, b" checked div", &[a, b]),
-        5 => push_applied(script, d, b" wrapping mul_add", &[a, b, d]),
-        6 => push_applied(script, d, b" overflowing add_prod", &[d, a, b]),
-        _ => push_applied(script, d, b" checked sqrt", &[a]),
+        0 => push_set(script, dest, draw),
+        1 => push_applied(script, dest, b" wrapping add", &[a, b]),
+        2 => push_applied(script, dest, b" overflowing sub", &[a, b]),
+        3 => push_applied(script, dest, b" saturating mul", &[a, b]),
+        4 => push_applied(script, dest, b" checked div", &[a, b]),
+        5 => push_applied(script, dest, b" wrapping mul_add", &[a, b, dest]),
+        6 => push_applied(script, dest, b" overflowing add_prod", &[dest, a, b]),
+        _ => push_applied(script, dest, b" checked sqrt", &[a]),
     }
 }
 

@@ -3,7 +3,7 @@
 ghost use Rattle.std.specs.Prelude.{◌≡◌, ◌==◌, ◌≤◌, List, count_by, flat_map, IfOk};
 ghost use Rattle.fixed_calc.specs.declared.answer.Answer.{Answer};
 ghost use Rattle.fixed_calc.specs.Answers.{answer_text};
-ghost use Rattle.fixed_calc.specs.Demo.{is_absent, is_flagged, summary, summary_text as text_of};
+ghost use Rattle.fixed_calc.specs.Demo.{is_absent, has_true_verdict, summary, summary_text as text_of};
 ghost use Rattle.fixed_calc.specs.Words.{most_lines};
 
 use crate::cause::RunFault;
@@ -20,8 +20,8 @@ fn count_of(text: &[u8], byte: u8) -> usize
 }
 
 /// The three lines of a summary.
-fn summary_text(lines: u32, absent: usize, flagged: usize) -> ShortText
-    ensures { result ≡ text_of lines absent flagged }
+fn summary_text(lines: u32, absent: usize, verdicts: usize) -> ShortText
+    ensures { result ≡ text_of lines absent verdicts }
 {
     let mut text = ShortText::new();
     text.push(b"lines ");
@@ -29,7 +29,7 @@ fn summary_text(lines: u32, absent: usize, flagged: usize) -> ShortText
     text.push(b"\nnone ");
     text.push_number(absent as u64);
     text.push(b"\ntrue ");
-    text.push_number(flagged as u64);
+    text.push_number(verdicts as u64);
     text.push(b"\n");
     text
 }
@@ -38,11 +38,11 @@ fn summary_text(lines: u32, absent: usize, flagged: usize) -> ShortText
 /// a verdict that is true alone a `t`.
 fn summary_of(lines: u32, answers: &[u8]) -> ShortText
     ensures { (given : List Answer) → answers.now ≡ flat_map answer_text given
-        → result ≡ text_of lines (count_by is_absent given) (count_by is_flagged given) }
+        → result ≡ text_of lines (count_by is_absent given) (count_by has_true_verdict given) }
 {
     let absent = count_of(answers, b'o');
-    let flagged = count_of(answers, b't');
-    summary_text(lines, absent, flagged)
+    let verdicts = count_of(answers, b't');
+    summary_text(lines, absent, verdicts)
 }
 
 /// Makes the script of so many lines, runs it and sums up its answers; or want of memory.

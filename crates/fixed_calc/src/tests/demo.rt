@@ -18,7 +18,7 @@ struct Called {
 }
 
 /// A call with these words, on a source of a header.
-fn called(alloc: Global, texts: &[&str]) -> Result<Called, Fail> {
+fn call(alloc: Global, texts: &[&str]) -> Result<Called, Fail> {
     let mut words = Vec::new(alloc);
     for text in texts {
         words.push(String::from_str(alloc, text)?)?;
@@ -45,7 +45,7 @@ fn is_unread(rt: &impl Abort, source: &mut SureSource, texts: &[&str]) {
 /// Asserts that the words `demo N` write this summary and read nothing.
 fn sums_up(rt: &impl Abort, alloc: Global, lines: &str, summary: &str) -> Result<(), Fail> {
     let texts = ["demo", lines];
-    let mut seen = called(alloc, &texts)?;
+    let mut seen = call(alloc, &texts)?;
     assert_eq!(rt; seen.status, Status::Done, "{texts:?}");
     assert_eq!(rt; seen.sink.taken(), summary.as_bytes(), "{texts:?}");
     assert_eq!(rt; seen.errors.taken(), b"".as_slice(), "{texts:?}");
@@ -69,7 +69,7 @@ fn faulty_words(rt: HostRuntime) -> Result<(), Fail> {
         &["demo", ""],
         &["Demo", "1"],
     ] {
-        let mut seen = called(alloc, texts)?;
+        let mut seen = call(alloc, texts)?;
         assert_eq!(rt; seen.status, Status::Usage, "{texts:?}");
         assert_eq!(rt; seen.status.code(), 2, "{texts:?}");
         assert_eq!(rt; seen.sink.taken(), b"".as_slice(), "{texts:?}");

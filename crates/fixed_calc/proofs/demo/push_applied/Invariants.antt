@@ -6,4 +6,4 @@ use Rattle.fixed_calc.proofs.demo.push_applied.Given as goal
 
 abbrev pub invariant-loop-operand : goal.invariant-loop-operand
 invariant-loop-operand l =
-    l.script.items ≡ l.fn.script.items ++ register_text l.destination ++ l.names ++ flat_map (λ operand. 32 ∷ register_text operand) (take l.operand-index l.operands)
+    l.script.items ≡ l.fn.script.items ++ register_text l.dest ++ l.names ++ flat_map (λ operand. 32 ∷ register_text operand) (take l.operand-index l.operands)
