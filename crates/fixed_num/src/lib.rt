@@ -5,11 +5,14 @@
 #![tactic(auto)]
 
 mod bit_calls;
+mod bit_operators;
 mod counted;
 mod exact;
 mod format;
+mod integer_operators;
 pub mod laws;
 mod magnitudes;
+mod operators;
 mod sides;
 #[cfg(test)]
 mod tests;
