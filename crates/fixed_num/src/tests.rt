@@ -1,5 +1,7 @@
 //! The calls of numbers, against known answers and computations in wider types.
 
+mod operators;
+
 use super::*;
 use fixed_bits::BitWord;
 use fixed_word::{Count, Narrow, RawWord, SignedWord, Steps, UnsignedWord, Word, outcome_of};

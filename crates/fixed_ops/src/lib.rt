@@ -4,6 +4,7 @@
 //! The operators between numbers stand with the number type. No call takes memory.
 #![tactic(auto)]
 
+pub mod laws;
 mod plain;
 mod plain_products;
 mod sums;
