@@ -9,7 +9,9 @@ mod counted;
 mod exact;
 mod format;
 pub mod laws;
+mod logarithms;
 mod magnitudes;
+mod part;
 mod sides;
 #[cfg(test)]
 mod tests;

@@ -5,6 +5,8 @@ use fixed_bits::BitWord;
 use fixed_word::{Count, Narrow, RawWord, SignedWord, Steps, UnsignedWord, Word, outcome_of};
 use std::mem::size_of;
 
+mod logarithms;
+
 /// The answers of the calls of one operand that are the same for both signs, as numbers of bits.
 fn bit_answers<T: BitWord, const F: u32>(x: Fixed<T, F>) -> [u64; 12] {
     [
@@ -279,6 +281,10 @@ fn signed_root(steps: &mut Steps<Count>) -> FixedI8<4> {
     FixedI8::<4>::from_bits(32).sqrt_counted(steps)
 }
 
+fn greatest_root(steps: &mut Steps<Count>) -> FixedU8<8> {
+    FixedU8::<8>::from_bits(255).sqrt_counted(steps)
+}
+
 #[test]
 fn counted_roots(rt: HostRuntime) {
     let mut steps = Steps::new(Count::new());
@@ -286,6 +292,9 @@ fn counted_roots(rt: HostRuntime) {
     assert!(rt; steps.ledger().count() <= 160);
     assert_eq!(rt; signed_root(&mut steps).bits, 22);
     assert!(rt; steps.ledger().count() <= 320);
+    let mut steps = Steps::new(Count::new());
+    assert_eq!(rt; greatest_root(&mut steps).bits, 255);
+    assert!(rt; steps.ledger().count() <= 160);
 }
 
 /// The number with the bits of another, and its fraction.
