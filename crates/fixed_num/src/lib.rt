@@ -11,8 +11,10 @@ mod exact;
 mod format;
 mod integer_operators;
 pub mod laws;
+mod logarithms;
 mod magnitudes;
 mod operators;
+mod part;
 mod sides;
 #[cfg(test)]
 mod tests;
