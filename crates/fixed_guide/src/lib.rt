@@ -6,3 +6,5 @@ pub mod controller;
 pub mod filter;
 pub mod invoice;
 pub mod ledger;
+#[cfg(test)]
+mod tests;
