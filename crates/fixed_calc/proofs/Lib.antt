@@ -1,4 +1,5 @@
 pub mod Numbers
+pub mod Free
 pub mod Cuts
 pub mod Decimals
 pub mod Steps

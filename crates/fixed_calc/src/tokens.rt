@@ -1,7 +1,8 @@
 //! The tokens of a line: the parts between its spaces.
 
-ghost use Rattle.std.specs.Prelude.{◌≡◌, [], ◌∷◌, ◌==◌, MatchOption, IfSome, IfNone, Some, None, length, ◌<◌};
+ghost use Rattle.std.specs.Prelude.{◌≡◌, [], ◌∷◌, ◌==◌, MatchOption, IfSome, IfNone, Some, None, true, false, length, ◌+◌, ◌<◌, ◌≤◌};
 ghost use Rattle.std.specs.List.{position};
+ghost use Rattle.fixed_calc.specs.Free.{IsFreeUntil};
 ghost use Rattle.fixed_calc.specs.Names.{op_named};
 ghost use Rattle.fixed_calc.specs.Parser.{tokens_of, tokens_left, next_by, register_at, literal_at};
 
@@ -9,11 +10,46 @@ use crate::names::{Op, op_of};
 use crate::number::{Literal, literal_of, register_of};
 use std::marker::Model;
 
+/// Whether the byte stands among the eight from a place on. All eight are looked at, so that they are
+/// compared at once.
+fn stands_in_eight(bytes: &[u8], at: usize, byte: u8) -> bool
+    requires { at + 8 ≤ length bytes.now }
+    ensures { result ≡ false → IsFreeUntil bytes.now byte at → IsFreeUntil bytes.now byte (at + 8) }
+{
+    let mut stands = false;
+    for b in &bytes[at..at + 8] {
+        stands |= *b == byte;
+    }
+    stands
+}
+
+/// A place before which the byte does not stand, by eights.
+fn free_eights(bytes: &[u8], byte: u8) -> usize
+    ensures within { result ≤ length bytes.now }
+    ensures free { IsFreeUntil bytes.now byte result }
+{
+    let mut at = 0;
+    while bytes.len() - at >= 8 {
+        if stands_in_eight(bytes, at, byte) {
+            return at;
+        }
+        at += 8;
+    }
+    at
+}
+
 /// Where the byte stands first.
 pub(crate) fn first_place(bytes: &[u8], byte: u8) -> Option<usize>
     ensures { result ≡ position (λ b. b == byte) bytes.now }
 {
-    bytes.iter().position(|b| *b == byte)
+    let mut at = free_eights(bytes, byte);
+    while at < bytes.len() {
+        if bytes[at] == byte {
+            return Some(at);
+        }
+        at += 1;
+    }
+    None
 }
 
 /// The first token of a piece, and what comes after its space, if it has one.
