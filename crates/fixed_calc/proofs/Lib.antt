@@ -4,6 +4,7 @@ pub mod Cuts
 pub mod Decimals
 pub mod Steps
 pub mod Readers
+pub mod Fronts
 pub mod Joined
 pub mod Lines
 pub mod HeaderLaws

@@ -7,7 +7,7 @@ ghost use Rattle.fixed_calc.specs.Names.{op_named};
 ghost use Rattle.fixed_calc.specs.Parser.{tokens_of, tokens_left, next_by, register_at, literal_at};
 
 use crate::names::{Op, op_of};
-use crate::number::{Literal, literal_of, register_of};
+use crate::number::{Literal, front_literal, front_register, literal_of, register_of};
 use std::marker::Model;
 
 /// Whether the byte stands among the eight from a place on. All eight are looked at, so that they are
@@ -99,7 +99,14 @@ impl<'a> Tokens<'a> {
         ensures some { IfSome result (λ n. next_by register_at self.old ≡ Some (n, self.new)) }
         ensures none { IfNone result (next_by register_at self.old ≡ None) }
     {
-        register_of(self.take()?)
+        let piece = self.rest?;
+        match front_register(piece) {
+            Some((number, rest)) => {
+                self.rest = rest;
+                Some(u128::from(number))
+            }
+            None => register_of(self.take()?),
+        }
     }
 
     /// Takes the next token, a whole number.
@@ -107,7 +114,14 @@ impl<'a> Tokens<'a> {
         ensures some { IfSome result (λ n. next_by literal_at self.old ≡ Some (n, self.new)) }
         ensures none { IfNone result (next_by literal_at self.old ≡ None) }
     {
-        literal_of(self.take()?)
+        let piece = self.rest?;
+        match front_literal(piece) {
+            Some((literal, rest)) => {
+                self.rest = rest;
+                Some(literal)
+            }
+            None => literal_of(self.take()?),
+        }
     }
 
     /// Takes the next token, an operation.
