@@ -8,7 +8,7 @@ use Rattle.std.proofs.lemmas.Int.Digits.{digits_value_more}
 use Rattle.std.proofs.lemmas.List.Folds.{list_all_more}
 use Rattle.std.proofs.lemmas.List.Sums.{AllPass-from_list_all}
 use Rattle.std.proofs.lemmas.Option.{cond_some, same_Some}
-use Rattle.std.proofs.lemmas.Bool.{eqb-true}
+use Rattle.std.proofs.lemmas.Bool.{eqb-true, ne_eqb}
 use Rattle.std.proofs.lemmas.Grind.{common_steps}
 use Rattle.fixed_calc.specs.declared.number.Literal.{Literal}
 use Rattle.fixed_calc.specs.Capped.{cap}
@@ -79,6 +79,37 @@ register_begins [] found some is e = absurd (omega arith)
 register_begins (b ∷ bs) found some is e =
     let rest : take (length (b ∷ bs) - 1) bs ≡ bs = grind (arith, common_steps) in
     ap (λ k. next_by register_at (tokens_of (k ∷ bs))) is ∙ register_front (tokens_of bs) found (ap (λ ys. next_by natural_at (tokens_of ys)) (sym rest) ∙ e)
+
+-- a register of one digit
+one_digit_read : (b : ℕ) → is_ascii_digit b ≡ true → register_at (114 ∷ b ∷ []) ≡ Some (b - 48)
+unfolding register_at
+one_digit_read b digit =
+    let d = digit_value_is b digit in
+    natural_is (b ∷ []) (b - 48) (omega arith) (λ more. absurd (omega arith)) (both_true digit refl) (sym d.0 ∙ omega arith) (omega (arith, d.1, d.2))
+
+no_space_test : (b : ℕ) → is_ascii_digit b ≡ true → eqb b 32 ≡ false
+no_space_test b digit = ne_eqb b 32 (no_space b digit)
+
+pub short_register_whole : (bytes : List ℕ) → length bytes ≡ 2 → get_or bytes 0 0 ≡ 114 → is_ascii_digit (get_or bytes 1 0) ≡ true → next_by register_at (tokens_of bytes) ≡ Some (get_or bytes 1 0 - 48, [])
+short_register_whole [] two first digit = absurd (omega arith)
+short_register_whole (a ∷ []) two first digit = absurd (omega arith)
+short_register_whole (a ∷ b ∷ []) two first digit =
+    ap (λ k. next_by register_at (tokens_of (k ∷ b ∷ []))) first
+    ∙ ap (λ t. next_by register_at (onto_first 114 (cond t ([] ∷ [] ∷ []) ((b ∷ []) ∷ [])))) (no_space_test b digit)
+    ∙ ap (λ r. took r []) (one_digit_read b digit)
+short_register_whole (a ∷ b ∷ c ∷ rest) two first digit = absurd (omega arith)
+
+pub short_register_cut : (bytes : List ℕ) → 2 < length bytes → get_or bytes 0 0 ≡ 114 → is_ascii_digit (get_or bytes 1 0) ≡ true → get_or bytes 2 0 ≡ 32 → next_by register_at (tokens_of bytes) ≡ Some (get_or bytes 1 0 - 48, tokens_of (take (length bytes - 3) (drop 3 bytes)))
+short_register_cut [] more first digit space = absurd (omega arith)
+short_register_cut (a ∷ []) more first digit space = absurd (omega arith)
+short_register_cut (a ∷ b ∷ []) more first digit space = absurd (omega arith)
+short_register_cut (a ∷ b ∷ c ∷ rest) more first digit space =
+    let whole : take (length (a ∷ b ∷ c ∷ rest) - 3) rest ≡ rest = grind (arith, common_steps) in
+    ap (λ k. next_by register_at (tokens_of (k ∷ b ∷ c ∷ rest))) first
+    ∙ ap (λ k. next_by register_at (tokens_of (114 ∷ b ∷ k ∷ rest))) space
+    ∙ ap (λ t. next_by register_at (onto_first 114 (cond t ([] ∷ [] ∷ tokens_of rest) (onto_first b ([] ∷ tokens_of rest))))) (no_space_test b digit)
+    ∙ ap (λ r. took r (tokens_of rest)) (one_digit_read b digit)
+    ∙ ap (λ ys. Some (b - 48, tokens_of ys)) (sym whole)
 
 took_some : {A : Type 0} (r : Option A) (ts rest : List (List ℕ)) (x : A) → took r ts ≡ Some (x, rest) → (r ≡ Some x) × (ts ≡ rest)
 took_some None ts rest x e = cc

@@ -117,6 +117,24 @@ pub(crate) fn front_register(bytes: &[u8]) -> Option<(u64, Option<&[u8]>)>
     }
 }
 
+/// The same of a register of one digit.
+#[inline(always)]
+pub(crate) fn front_short_register(bytes: &[u8]) -> Option<(u8, Option<&[u8]>)>
+    ensures { IfSome result (λ found. next_by register_at (tokens_of bytes.now) ≡ Some (found.0, tokens_left found.1)) }
+{
+    if bytes.len() < 2 || bytes[0] != b'r' || !bytes[1].is_ascii_digit() {
+        return None;
+    }
+    let number = bytes[1] - b'0';
+    if bytes.len() == 2 {
+        return Some((number, None));
+    }
+    if bytes[2] == b' ' {
+        return Some((number, Some(&bytes[3..])));
+    }
+    None
+}
+
 /// Whether a minus stands in front, and what stands after it.
 fn sign_of(token: &[u8]) -> (bool, &[u8])
     ensures minus { result.0 ≡ has_minus token.now }

@@ -7,7 +7,9 @@ ghost use Rattle.fixed_calc.specs.Names.{op_named};
 ghost use Rattle.fixed_calc.specs.Parser.{tokens_of, tokens_left, next_by, register_at, literal_at};
 
 use crate::names::{Op, op_of};
-use crate::number::{Literal, front_literal, front_register, literal_of, register_of};
+use crate::number::{
+    Literal, front_literal, front_register, front_short_register, literal_of, register_of,
+};
 use std::marker::Model;
 
 /// Whether the byte stands among the eight from a place on. All eight are looked at, so that they are
@@ -94,8 +96,9 @@ impl<'a> Tokens<'a> {
         Some(token)
     }
 
-    /// Takes the next token, a register.
-    pub(crate) fn register(&mut self) -> Option<u128>
+    /// As `register`, however long the token is.
+    #[inline(never)]
+    fn long_register(&mut self) -> Option<u128>
         ensures some { IfSome result (λ n. next_by register_at self.old ≡ Some (n, self.new)) }
         ensures none { IfNone result (next_by register_at self.old ≡ None) }
     {
@@ -106,6 +109,22 @@ impl<'a> Tokens<'a> {
                 Some(u128::from(number))
             }
             None => register_of(self.take()?),
+        }
+    }
+
+    /// Takes the next token, a register.
+    #[inline(always)]
+    pub(crate) fn register(&mut self) -> Option<u128>
+        ensures some { IfSome result (λ n. next_by register_at self.old ≡ Some (n, self.new)) }
+        ensures none { IfNone result (next_by register_at self.old ≡ None) }
+    {
+        let piece = self.rest?;
+        match front_short_register(piece) {
+            Some((number, rest)) => {
+                self.rest = rest;
+                Some(u128::from(number))
+            }
+            None => self.long_register(),
         }
     }
 
