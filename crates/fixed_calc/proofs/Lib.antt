@@ -11,6 +11,7 @@ pub mod HeaderLaws
 pub mod Cutting
 pub mod Shown
 pub mod Placed
+pub mod Pairs
 pub mod OneText
 pub mod Lengths
 pub mod Cells
