@@ -1,8 +1,8 @@
 -- Tokens that are read from the front of a line, digit by digit.
 use Rattle.std.proofs.Common.{◌≡◌, ℕ, ◌+◌, ◌*◌, ◌-◌, ◌<◌, ◌≤◌, ◌^◌, List, [], ◌∷◌, take, drop, length, get_or, arith, Bool, true, false, eqb, not, cond, ◌||◌, ◌&&◌, sym, ◌∙◌, ap, refl, Option, Some, None}
 use Rattle.std.specs.Cmp.Derive.{both_true}
-use Rattle.std.specs.Char.{is_ascii_digit, digit_value}
-use Rattle.std.specs.List.{list_all, slice_split, onto_first, position}
+use Rattle.std.specs.Char.{is_ascii_digit}
+use Rattle.std.specs.List.{list_all, onto_first}
 use Rattle.std.specs.Str.Parse.{digits_value}
 use Rattle.std.proofs.lemmas.Int.Digits.{digits_value_more}
 use Rattle.std.proofs.lemmas.List.Folds.{list_all_more}

@@ -12,6 +12,7 @@ pub mod Cutting
 pub mod Shown
 pub mod Placed
 pub mod Pairs
+pub mod NamesFirst
 pub mod OneText
 pub mod Lengths
 pub mod Cells

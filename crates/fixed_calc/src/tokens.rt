@@ -3,10 +3,10 @@
 ghost use Rattle.std.specs.Prelude.{◌≡◌, [], ◌∷◌, ◌==◌, MatchOption, IfSome, IfNone, Some, None, true, false, length, ◌+◌, ◌<◌, ◌≤◌};
 ghost use Rattle.std.specs.List.{position};
 ghost use Rattle.fixed_calc.specs.Free.{IsFreeUntil};
-ghost use Rattle.fixed_calc.specs.Names.{op_named};
+ghost use Rattle.fixed_calc.specs.Names.{op_named, policy_name};
 ghost use Rattle.fixed_calc.specs.Parser.{tokens_of, tokens_left, next_by, register_at, literal_at};
 
-use crate::names::{Op, op_of};
+use crate::names::{Op, Policy, front_op, front_policy, op_of};
 use crate::number::{
     Literal, front_literal, front_register, front_short_register, literal_of, register_of,
 };
@@ -64,6 +64,34 @@ pub(crate) fn cut(piece: &[u8]) -> (&[u8], Option<&[u8]>)
     }
 }
 
+/// The register that is the first token, and what comes after its space.
+#[inline(never)]
+fn register_in(piece: &[u8]) -> Option<(u128, Option<&[u8]>)>
+    ensures some { IfSome result (λ found. next_by register_at (tokens_of piece.now) ≡ Some (found.0, tokens_left found.1)) }
+    ensures none { IfNone result (next_by register_at (tokens_of piece.now) ≡ None) }
+{
+    if let Some((number, rest)) = front_register(piece) {
+        return Some((u128::from(number), rest));
+    }
+    let (token, rest) = cut(piece);
+    let number = register_of(token)?;
+    Some((number, rest))
+}
+
+/// The whole number that is the first token, and what comes after its space.
+#[inline(never)]
+fn literal_in(piece: &[u8]) -> Option<(Literal, Option<&[u8]>)>
+    ensures some { IfSome result (λ found. next_by literal_at (tokens_of piece.now) ≡ Some (found.0, tokens_left found.1)) }
+    ensures none { IfNone result (next_by literal_at (tokens_of piece.now) ≡ None) }
+{
+    if let Some(found) = front_literal(piece) {
+        return Some(found);
+    }
+    let (token, rest) = cut(piece);
+    let literal = literal_of(token)?;
+    Some((literal, rest))
+}
+
 /// The tokens of a piece that are still to come. Contracts see them as a list.
 #[derive(Drop)]
 pub(crate) struct Tokens<'a> {
@@ -96,22 +124,6 @@ impl<'a> Tokens<'a> {
         Some(token)
     }
 
-    /// As `register`, however long the token is.
-    #[inline(never)]
-    fn long_register(&mut self) -> Option<u128>
-        ensures some { IfSome result (λ n. next_by register_at self.old ≡ Some (n, self.new)) }
-        ensures none { IfNone result (next_by register_at self.old ≡ None) }
-    {
-        let piece = self.rest?;
-        match front_register(piece) {
-            Some((number, rest)) => {
-                self.rest = rest;
-                Some(u128::from(number))
-            }
-            None => register_of(self.take()?),
-        }
-    }
-
     /// Takes the next token, a register.
     #[inline(always)]
     pub(crate) fn register(&mut self) -> Option<u128>
@@ -119,35 +131,50 @@ impl<'a> Tokens<'a> {
         ensures none { IfNone result (next_by register_at self.old ≡ None) }
     {
         let piece = self.rest?;
-        match front_short_register(piece) {
-            Some((number, rest)) => {
-                self.rest = rest;
-                Some(u128::from(number))
-            }
-            None => self.long_register(),
+        if let Some((number, rest)) = front_short_register(piece) {
+            self.rest = rest;
+            return Some(u128::from(number));
         }
+        let (number, rest) = register_in(piece)?;
+        self.rest = rest;
+        Some(number)
     }
 
     /// Takes the next token, a whole number.
+    #[inline(always)]
     pub(crate) fn literal(&mut self) -> Option<Literal>
         ensures some { IfSome result (λ n. next_by literal_at self.old ≡ Some (n, self.new)) }
         ensures none { IfNone result (next_by literal_at self.old ≡ None) }
     {
         let piece = self.rest?;
-        match front_literal(piece) {
-            Some((literal, rest)) => {
-                self.rest = rest;
-                Some(literal)
-            }
-            None => literal_of(self.take()?),
-        }
+        let (literal, rest) = literal_in(piece)?;
+        self.rest = rest;
+        Some(literal)
+    }
+
+    /// Takes the next token, if it is a policy.
+    #[inline(always)]
+    pub(crate) fn front_policy(&mut self) -> Option<Policy>
+        ensures some { IfSome result (λ policy. self.old ≡ policy_name policy ∷ self.new) }
+        ensures none { IfNone result (self.new ≡ self.old) }
+    {
+        let piece = self.rest?;
+        let (policy, rest) = front_policy(piece)?;
+        self.rest = Some(rest);
+        Some(policy)
     }
 
     /// Takes the next token, an operation.
+    #[inline(always)]
     pub(crate) fn op(&mut self) -> Option<Op>
         ensures some { IfSome result (λ n. next_by op_named self.old ≡ Some (n, self.new)) }
         ensures none { IfNone result (next_by op_named self.old ≡ None) }
     {
+        let piece = self.rest?;
+        if let Some((op, rest)) = front_op(piece) {
+            self.rest = Some(rest);
+            return Some(op);
+        }
         op_of(self.take()?)
     }
 

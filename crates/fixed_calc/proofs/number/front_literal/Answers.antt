@@ -1,5 +1,5 @@
-use Rattle.std.proofs.Common.{◌≡◌, ◌&&◌, ◌∙◌, ℕ, List, Bool, drop, cond, Some, false, eqb, sym, ap, subst, arith}
-use Rattle.fixed_calc.specs.Parser.{natural_at, literal_at, has_minus, next_by, tokens_of, tokens_left}
+use Rattle.std.proofs.Common.{◌≡◌, ◌&&◌, ◌∙◌, ℕ, List, Bool, drop, cond, Some, false, eqb, sym, ap, arith}
+use Rattle.fixed_calc.specs.Parser.{natural_at, next_by, tokens_of, tokens_left}
 use Rattle.fixed_calc.proofs.Fronts.{literal_front}
 use Rattle.fixed_calc.proofs.number.front_literal.Goals as goal
 use Rattle.fixed_calc.proofs.number.front_literal.Goals.{else-below_zero-via-then-below_zero+else-value-eq0, else-below_zero-via-else-below_zero}

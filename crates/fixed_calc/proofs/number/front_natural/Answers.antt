@@ -1,4 +1,4 @@
-use Rattle.std.proofs.Common.{◌≡◌, ◌<◌, ◌^◌, get_or, arith, sym}
+use Rattle.std.proofs.Common.{◌≡◌, ◌<◌, get_or, arith}
 use Rattle.fixed_calc.proofs.Fronts.{natural_whole, natural_cut}
 use Rattle.fixed_calc.proofs.number.front_natural.Goals as goal
 use Rattle.fixed_calc.proofs.number.front_natural.Goals.{then-end-gt1, else-end-gt1}

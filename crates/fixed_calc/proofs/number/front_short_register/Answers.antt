@@ -1,6 +1,5 @@
 use Rattle.std.proofs.Common.{◌≡◌, ◌∙◌, true, get_or, sym, arith}
 use Rattle.std.specs.Char.{is_ascii_digit}
-use Rattle.std.proofs.lemmas.Grind.{common_steps}
 use Rattle.fixed_calc.proofs.Fronts.{short_register_whole, short_register_cut}
 use Rattle.fixed_calc.proofs.number.front_short_register.Goals as goal
 

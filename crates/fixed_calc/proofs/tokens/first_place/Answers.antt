@@ -1,4 +1,4 @@
-use Rattle.std.proofs.Common.{◌≡◌, length, sym, subst, arith, ℕ}
+use Rattle.std.proofs.Common.{◌≡◌, length, sym, subst, arith}
 use Rattle.fixed_calc.specs.Free.{IsFreeUntil}
 use Rattle.fixed_calc.proofs.Free.{stands_at, stands_nowhere}
 use Rattle.fixed_calc.proofs.tokens.first_place.Goals as goal
