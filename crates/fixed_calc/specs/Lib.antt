@@ -1,5 +1,6 @@
 pub mod Names
 pub mod Text
+pub mod Free
 pub mod Parser
 pub mod Capped
 pub mod Headers

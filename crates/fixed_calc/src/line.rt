@@ -163,13 +163,17 @@ fn read_line(mut tokens: Tokens<'_>) -> Option<Line>
     ensures { result ≡ line_at tokens.entry }
 {
     let dest = tokens.register()?;
-    let name = tokens.take()?;
-    if name == b"set".as_slice() {
-        set_of(dest, &mut tokens)
-    } else {
-        let policy = policy_of(name)?;
-        apply_of(dest, policy, &mut tokens)
-    }
+    let policy = match tokens.front_policy() {
+        Some(policy) => policy,
+        None => {
+            let name = tokens.take()?;
+            if name == b"set".as_slice() {
+                return set_of(dest, &mut tokens);
+            }
+            policy_of(name)?
+        }
+    };
+    apply_of(dest, policy, &mut tokens)
 }
 
 /// The line whose text the piece is, without its newline; None exactly where no line has that text (this

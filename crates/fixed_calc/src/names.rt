@@ -1,7 +1,8 @@
 //! The names that a script gives to words, policies and operations.
 
-ghost use Rattle.std.specs.Prelude.{◌≡◌};
-ghost use Rattle.fixed_calc.specs.Names.{word_named, policy_named, op_named};
+ghost use Rattle.std.specs.Prelude.{◌≡◌, ◌∷◌, ◌++◌, IfSome, Some, length, true};
+ghost use Rattle.fixed_calc.specs.Names.{word_named, policy_named, policy_name, op_named, op_name};
+ghost use Rattle.fixed_calc.specs.Parser.{tokens_of, next_by};
 
 /// The word of a script, by its name: `i8 i16 i32 i64 u8 u16 u32 u64`.
 #[derive(Clone, Copy, Debug, PartialEq, Eq)]
@@ -97,6 +98,52 @@ pub(crate) fn policy_of(token: &[u8]) -> Option<Policy>
     }
 }
 
+/// Whether the bytes are those of the name. All are looked at, so that they are compared at once.
+#[inline(always)]
+fn is_name(bytes: &[u8], name: &[u8]) -> bool
+    requires { length bytes.now ≡ length name.now }
+    ensures { result ≡ true → bytes.now ≡ name.now }
+{
+    let mut same = true;
+    for (at, byte) in name.iter().enumerate() {
+        same &= bytes[at] == *byte;
+    }
+    same
+}
+
+/// What comes after a name that stands in front.
+#[inline(always)]
+fn after<'a>(bytes: &'a [u8], name: &[u8]) -> Option<&'a [u8]>
+    ensures { IfSome result (λ rest. bytes.now ≡ name.now ++ rest.now) }
+{
+    if bytes.len() >= name.len() && is_name(&bytes[..name.len()], name) {
+        Some(&bytes[name.len()..])
+    } else {
+        None
+    }
+}
+
+/// The policy that is the first token, and what comes after its space. None also where no space comes
+/// after it.
+#[inline(always)]
+pub(crate) fn front_policy(bytes: &[u8]) -> Option<(Policy, &[u8])>
+    ensures { IfSome result (λ found. tokens_of bytes.now ≡ policy_name found.0 ∷ tokens_of found.1.now) }
+{
+    if let Some(rest) = after(bytes, b"checked ") {
+        Some((Policy::Checked, rest))
+    } else if let Some(rest) = after(bytes, b"wrapping ") {
+        Some((Policy::Wrapping, rest))
+    } else if let Some(rest) = after(bytes, b"overflowing ") {
+        Some((Policy::Overflowing, rest))
+    } else if let Some(rest) = after(bytes, b"saturating ") {
+        Some((Policy::Saturating, rest))
+    } else if let Some(rest) = after(bytes, b"strict ") {
+        Some((Policy::Strict, rest))
+    } else {
+        None
+    }
+}
+
 /// The operation of that name.
 pub(crate) fn op_of(token: &[u8]) -> Option<Op>
     ensures { result ≡ op_named token.now }
@@ -147,5 +194,34 @@ pub(crate) fn op_of(token: &[u8]) -> Option<Op>
         Some(Op::NextPowerOfTwo)
     } else {
         None
+    }
+}
+
+/// The operation that is the first token, if its name has so many bytes, and what comes after its space.
+#[inline(always)]
+fn front_op_of(bytes: &[u8], length: usize) -> Option<(Op, &[u8])>
+    ensures { IfSome result (λ found. next_by op_named (tokens_of bytes.now) ≡ Some (found.0, tokens_of found.1.now)) }
+{
+    if bytes.len() <= length || bytes[length] != b' ' {
+        return None;
+    }
+    let op = op_of(&bytes[..length])?;
+    Some((op, &bytes[length + 1..]))
+}
+
+/// The operation that is the first token, and what comes after its space. None also where the name has
+/// another length than the most common ones.
+#[inline(always)]
+pub(crate) fn front_op(bytes: &[u8]) -> Option<(Op, &[u8])>
+    ensures { IfSome result (λ found. next_by op_named (tokens_of bytes.now) ≡ Some (found.0, tokens_of found.1.now)) }
+{
+    if let Some(found) = front_op_of(bytes, 3) {
+        Some(found)
+    } else if let Some(found) = front_op_of(bytes, 4) {
+        Some(found)
+    } else if let Some(found) = front_op_of(bytes, 7) {
+        Some(found)
+    } else {
+        front_op_of(bytes, 8)
     }
 }

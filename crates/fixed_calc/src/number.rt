@@ -1,14 +1,17 @@
 //! The decimals of a script, held capped.
 
-ghost use Rattle.std.specs.Prelude.{◌≡◌, IsTrue, IfSome, ◌≤◌, ◌^◌};
+ghost use Rattle.std.specs.Prelude.{◌≡◌, IsTrue, IfSome, Some, true, ◌≤◌, ◌^◌, length, take};
 ghost use Rattle.std.specs.List.{list_all};
 ghost use Rattle.std.specs.Char.{is_ascii_digit};
 ghost use Rattle.std.specs.Str.Parse.{digits_value};
-ghost use Rattle.fixed_calc.specs.Parser.{is_decimal, natural_at, register_at, literal_at, has_minus, without_minus};
+ghost use Rattle.fixed_calc.specs.Parser.{is_decimal, natural_at, register_at, literal_at, has_minus, without_minus, next_by, tokens_of, tokens_left};
 ghost use Rattle.fixed_calc.specs.Capped.{cap};
 
 /// What stands for each number that is as large or larger.
 pub(crate) const CAP: u128 = 18_446_744_073_709_551_616;
+
+/// A number below it has room for one more digit in 64 bits.
+const ROOM: u64 = 1_844_674_407_370_955_161;
 
 /// A whole number of a script: its sign, and its magnitude. A magnitude of `2^64` or more is held as
 /// `2^64`, which is no value of any word.
@@ -46,6 +49,40 @@ pub(crate) fn value_of(digits: &[u8]) -> u128
     value
 }
 
+/// The digits in front, as a number, and how many they are. Digits are left where the number might pass
+/// 64 bits.
+fn front_digits(bytes: &[u8]) -> (u64, usize)
+    ensures within { result.1 ≤ length bytes.now }
+    ensures digits { list_all is_ascii_digit (take result.1 bytes.now) ≡ true }
+    ensures value { result.0 ≡ digits_value 10 (take result.1 bytes.now) }
+{
+    let mut value = 0;
+    let mut at = 0;
+    while at < bytes.len() && bytes[at].is_ascii_digit() && value < ROOM {
+        value = value * 10 + u64::from(bytes[at] - b'0');
+        at += 1;
+    }
+    (value, at)
+}
+
+/// The first token, a natural number of 64 bits, and what comes after its space. None also where the
+/// token is another.
+pub(crate) fn front_natural(bytes: &[u8]) -> Option<(u64, Option<&[u8]>)>
+    ensures { IfSome result (λ found. next_by natural_at (tokens_of bytes.now) ≡ Some (found.0, tokens_left found.1)) }
+{
+    let (value, end) = front_digits(bytes);
+    if end == 0 || (end > 1 && bytes[0] == b'0') {
+        return None;
+    }
+    if end == bytes.len() {
+        return Some((value, None));
+    }
+    if bytes[end] == b' ' {
+        return Some((value, Some(&bytes[end + 1..])));
+    }
+    None
+}
+
 /// A natural number.
 #[tactic(auto, unfolding(crate::specs::Parser::natural_at))]
 pub(crate) fn natural_of(token: &[u8]) -> Option<u128>
@@ -67,6 +104,35 @@ pub(crate) fn register_of(token: &[u8]) -> Option<u128>
         [b'r', number @ ..] => natural_of(number),
         _ => None,
     }
+}
+
+/// As `front_natural`, of a register.
+pub(crate) fn front_register(bytes: &[u8]) -> Option<(u64, Option<&[u8]>)>
+    ensures { IfSome result (λ found. next_by register_at (tokens_of bytes.now) ≡ Some (found.0, tokens_left found.1)) }
+{
+    if bytes.len() > 0 && bytes[0] == b'r' {
+        front_natural(&bytes[1..])
+    } else {
+        None
+    }
+}
+
+/// The same of a register of one digit.
+#[inline(always)]
+pub(crate) fn front_short_register(bytes: &[u8]) -> Option<(u8, Option<&[u8]>)>
+    ensures { IfSome result (λ found. next_by register_at (tokens_of bytes.now) ≡ Some (found.0, tokens_left found.1)) }
+{
+    if bytes.len() < 2 || bytes[0] != b'r' || !bytes[1].is_ascii_digit() {
+        return None;
+    }
+    let number = bytes[1] - b'0';
+    if bytes.len() == 2 {
+        return Some((number, None));
+    }
+    if bytes[2] == b' ' {
+        return Some((number, Some(&bytes[3..])));
+    }
+    None
 }
 
 /// Whether a minus stands in front, and what stands after it.
@@ -95,4 +161,23 @@ pub(crate) fn literal_of(token: &[u8]) -> Option<Literal>
             magnitude,
         })
     }
+}
+
+/// As `front_natural`, of a whole number.
+pub(crate) fn front_literal(bytes: &[u8]) -> Option<(Literal, Option<&[u8]>)>
+    ensures { IfSome result (λ found. next_by literal_at (tokens_of bytes.now) ≡ Some (found.0, tokens_left found.1)) }
+{
+    let (below_zero, number) = sign_of(bytes);
+    let (value, rest) = front_natural(number)?;
+    if below_zero && value == 0 {
+        return None;
+    }
+    let magnitude = u128::from(value);
+    Some((
+        Literal {
+            below_zero,
+            magnitude,
+        },
+        rest,
+    ))
 }

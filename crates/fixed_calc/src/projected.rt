@@ -105,6 +105,7 @@ fn answer_as<T: Word>(policy: Policy, op: Op, taken: &Taken, number: u64) -> Res
 }
 
 /// The same in the word of a name.
+#[inline(never)]
 pub(crate) fn answer_in(
     word: WordName,
     policy: Policy,

@@ -186,6 +186,7 @@ fn integer_of(literal: Literal) -> Register
 }
 
 /// The operands of a line.
+#[inline(always)]
 fn taken_by(word: WordName, registers: &[Register], line: &Line) -> Taken
     requires { out_of_range (state_in word (cells_of registers.now)) (seen line.now) ≡ false }
     ensures { TakenTells (cells_of registers.now) (seen line.now) result }
@@ -233,6 +234,7 @@ fn whole_of(literal: Literal) -> i128
 }
 
 /// The answer of a line of an operation whose first three tests fail.
+#[inline(always)]
 fn applied(
     word: WordName,
     registers: &[Register],

@@ -127,6 +127,42 @@ fn decimal_logarithms(rt: HostRuntime) -> Result<(), Fail> {
     Ok(())
 }
 
+/// Whether `base^k <= val / one < base^(k+1)`, by powers in a wider type.
+fn is_logarithm(val: u64, one: u64, base: u32, k: i32) -> bool {
+    let step = u128::from(base);
+    let mut low = u128::from(one);
+    let mut high = u128::from(val);
+    for _ in 0..k.unsigned_abs().min(8) {
+        if k < 0 {
+            high = high.saturating_mul(step);
+        } else {
+            low = low.saturating_mul(step);
+        }
+    }
+    low <= high && high < low.saturating_mul(step)
+}
+
+#[test]
+fn every_byte(rt: HostRuntime) -> Result<(), Fail> {
+    for number in [
+        2_u32, 3, 4, 5, 6, 7, 8, 9, 10, 11, 12, 13, 14, 15, 16, 17, 255, 256, 1000,
+    ] {
+        let base = Base::new(number).ok_or("a base")?;
+        for val in 1..=255_u64 {
+            let found = logs_in(8, val, base).ok_or("a word")?;
+            assert!(rt;
+                is_logarithm(val, 1, number, found.int),
+                "{val} to {number}"
+            );
+            assert!(rt;
+                is_logarithm(val, 256, number, found.frac),
+                "{val} over 256 to {number}"
+            );
+        }
+    }
+    Ok(())
+}
+
 #[test]
 fn worked_values(rt: HostRuntime) -> Result<(), Fail> {
     let thousand = Base::new(1000).ok_or("a base")?;

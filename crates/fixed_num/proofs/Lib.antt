@@ -1,4 +1,5 @@
 pub mod Counts
+pub mod Logs
 pub mod Ranges
 pub mod Roots
 pub mod Sized

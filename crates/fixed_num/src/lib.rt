@@ -5,11 +5,16 @@
 #![tactic(auto)]
 
 mod bit_calls;
+mod bit_operators;
 mod counted;
 mod exact;
 mod format;
+mod integer_operators;
 pub mod laws;
+mod logarithms;
 mod magnitudes;
+mod operators;
+mod part;
 mod sides;
 #[cfg(test)]
 mod tests;

@@ -1,5 +1,8 @@
 //! The calls of numbers, against known answers and computations in wider types.
 
+mod logarithms;
+mod operators;
+
 use super::*;
 use fixed_bits::BitWord;
 use fixed_word::{Count, Narrow, RawWord, SignedWord, Steps, UnsignedWord, Word, outcome_of};
@@ -279,6 +282,10 @@ fn signed_root(steps: &mut Steps<Count>) -> FixedI8<4> {
     FixedI8::<4>::from_bits(32).sqrt_counted(steps)
 }
 
+fn greatest_root(steps: &mut Steps<Count>) -> FixedU8<8> {
+    FixedU8::<8>::from_bits(255).sqrt_counted(steps)
+}
+
 #[test]
 fn counted_roots(rt: HostRuntime) {
     let mut steps = Steps::new(Count::new());
@@ -286,6 +293,9 @@ fn counted_roots(rt: HostRuntime) {
     assert!(rt; steps.ledger().count() <= 160);
     assert_eq!(rt; signed_root(&mut steps).bits, 22);
     assert!(rt; steps.ledger().count() <= 320);
+    let mut steps = Steps::new(Count::new());
+    assert_eq!(rt; greatest_root(&mut steps).bits, 255);
+    assert!(rt; steps.ledger().count() <= 160);
 }
 
 /// The number with the bits of another, and its fraction.

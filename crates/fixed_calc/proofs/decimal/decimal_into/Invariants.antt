@@ -9,7 +9,6 @@ invariant-loop-rest l =
       digits : natural_text l.number ≡ natural_text l.rest ++ drop l.at l.buffer;
       room : length (natural_text l.rest) ≤ l.at;
       within : l.at ≤ 20;
-      size : length l.buffer ≡ 20;
     }
 
 abbrev pub decreases-loop-rest : goal.decreases-loop-rest

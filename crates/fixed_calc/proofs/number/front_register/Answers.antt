@@ -1,0 +1,9 @@
+use Rattle.std.proofs.lemmas.Option.{IfSome_then}
+use Rattle.fixed_calc.specs.Parser.{tokens_left}
+use Rattle.fixed_calc.proofs.Fronts.{register_begins}
+use Rattle.fixed_calc.proofs.number.front_register.Goals as goal
+
+pub returns-then-bytes-eq114 : goal.returns-then-bytes-eq114
+returns-then-bytes-eq114 c =
+    IfSome_then c.front_natural.result c.front_natural.ensures
+    (λ found e. register_begins c.args.bytes.now (found.0, tokens_left found.1) c.if-bytes-gt0.true c.if-bytes-eq114.true e)

@@ -1,0 +1,36 @@
+//! A controller's step: held at the ends, never wrapped.
+
+ghost use Rattle.std.specs.Prelude.{◌≡◌, Some, true};
+ghost use Rattle.fixed_word.specs.Policies.{saturating};
+ghost use Rattle.fixed_kernel.specs.Rows.{exact_mul_add};
+
+use fixed_num::FixedI16;
+use fixed_strict::SaturatingMulAdd;
+
+/// An error, a bias or an output, in units of `2^-8`.
+pub type Signal = FixedI16<8>;
+
+/// A gain, in units of `2^-12`: more places behind the point than the signals have.
+pub type Gain = FixedI16<12>;
+
+/// The output for an error: the gain's multiple of it, rounded down, plus the bias, and held at the ends of the
+/// format. The product alone may lie far outside.
+pub fn output(error: Signal, gain: Gain, bias: Signal) -> Signal
+    ensures { Some result.bits ≡ saturating true 16 (Some (exact_mul_add error.bits gain.bits bias.bits 12)) }
+{
+    error.saturating_mul_add(gain, bias)
+}
+
+#[cfg(test)]
+mod tests {
+    use super::*;
+
+    #[test]
+    fn held_at_the_ends(rt: HostRuntime) {
+        let gain = Gain { bits: 14336 };
+        let bias = Signal { bits: 1280 };
+        for (error, want) in [(2560, 10240), (12800, 32767), (-12800, -32768)] {
+            assert_eq!(rt; output(Signal { bits: error }, gain, bias).bits, want);
+        }
+    }
+}

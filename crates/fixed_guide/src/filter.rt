@@ -1,0 +1,40 @@
+//! A low-pass filter that never overshoots.
+
+ghost use Rattle.std.specs.Prelude.{◌^◌, ◌≤ℤ◌, pos};
+ghost use Rattle.fixed_guide.specs.Between.{IsBetween};
+
+use fixed_num::FixedI32;
+use fixed_strict::{Saturating, SaturatingProducts};
+
+/// A level or a sample, in units of `2^-16`.
+pub type Level = FixedI32<16>;
+
+/// A gain from 0 to 1, in units of `2^-30`: a fraction of its own.
+pub type Gain = FixedI32<30>;
+
+/// Moves the level toward the sample by the gain's part of their distance, with one rounding. Condition: the
+/// gain is from 0 to 1. The new level lies between the old one and the sample.
+pub fn low_pass(level: Level, sample: Level, gain: Gain) -> Level
+    requires from_zero { pos 0 ≤ℤ gain.bits }
+    requires to_one { gain.bits ≤ℤ pos (2 ^ 30) }
+    ensures { IsBetween level.bits sample.bits result.bits }
+{
+    let distance = sample.saturating_sub(level);
+    level.saturating_add_prod(distance, gain)
+}
+
+#[cfg(test)]
+mod tests {
+    use super::*;
+
+    #[test]
+    fn three_steps(rt: HostRuntime) {
+        let sample = Level { bits: 65536 };
+        let gain = Gain { bits: 134217728 };
+        let mut level = Level { bits: 0 };
+        for want in [8192, 15360, 21632] {
+            level = low_pass(level, sample, gain);
+            assert_eq!(rt; level.bits, want);
+        }
+    }
+}

@@ -1,0 +1,46 @@
+//! A ledger in which money is neither made nor lost.
+
+ghost use Rattle.std.specs.Prelude.{◌≡◌, ◌⊎◌, ◌↔◌, ◌+ℤ◌, ◌-ℤ◌, false, IsNone, IsSome, true};
+ghost use Rattle.fixed_word.specs.Format.{fits};
+
+use fixed_num::FixedI64;
+use fixed_policy::Checked;
+
+/// An amount, in units of 1/256.
+pub type Money = FixedI64<8>;
+
+/// Moves an amount from one account to the other, exactly; None exactly where a balance would not fit, and then
+/// both are as before.
+pub fn transfer(from: &mut Money, to: &mut Money, amount: Money) -> Option<()>
+    ensures kept { from.new.bits +ℤ to.new.bits ≡ from.old.bits +ℤ to.old.bits }
+    ensures moved { IsSome result → to.new.bits ≡ to.old.bits +ℤ amount.bits }
+    ensures refused { IsNone result → (from.new ≡ from.old) × (to.new ≡ to.old) }
+    ensures none { IsNone result
+        ↔ ((fits true 64 (from.old.bits -ℤ amount.bits) ≡ false) ⊎ (fits true 64 (to.old.bits +ℤ amount.bits) ≡ false)) }
+{
+    let less = from.checked_sub(amount)?;
+    let more = to.checked_add(amount)?;
+    *from = less;
+    *to = more;
+    Some(())
+}
+
+#[cfg(test)]
+mod tests {
+    use super::*;
+
+    #[test]
+    fn a_payment_and_one_too_large(rt: HostRuntime) {
+        let mut payer = Money { bits: 256000 };
+        let mut payee = Money {
+            bits: i64::MAX - 25600,
+        };
+        assert_eq!(rt;
+            transfer(&mut payer, &mut payee, Money { bits: 25600 }),
+            Some(())
+        );
+        assert_eq!(rt; (payer.bits, payee.bits), (230400, i64::MAX));
+        assert_eq!(rt; transfer(&mut payer, &mut payee, Money { bits: 1 }), None);
+        assert_eq!(rt; (payer.bits, payee.bits), (230400, i64::MAX));
+    }
+}

@@ -1,0 +1,10 @@
+//! The examples of the guide for users: a filter, a controller, a ledger and an invoice, each in a few lines over
+//! the typed calls and the operators, with the property that it was written for as its contract.
+#![tactic(auto)]
+
+pub mod controller;
+pub mod filter;
+pub mod invoice;
+pub mod ledger;
+#[cfg(test)]
+mod tests;

@@ -1,0 +1,158 @@
+//! The operators between numbers of one format.
+//!
+//! Each gives the number of its row under the condition that the row is defined and its number fits.
+//! The assigning forms store the same answer.
+
+ghost use Rattle.std.specs.Prelude.{◌≡◌, ◌≢◌, ◌≤◌, pos};
+ghost use Rattle.fixed_word.specs.Format.{InRange};
+ghost use Rattle.fixed_kernel.specs.Rows.{exact_add, exact_div, exact_mul, exact_neg, exact_rem, exact_sub};
+
+use crate::exact::exact_number;
+use crate::format::Fixed;
+use fixed_kernel::{add_of, div_of, mul_of, neg_of, rem_of, sub_of};
+use fixed_word::{RawWord, SignedWord, Word};
+use std::ops::{
+    Add, AddAssign, Div, DivAssign, Mul, MulAssign, Neg, Rem, RemAssign, Sub, SubAssign,
+};
+
+impl<T: SignedWord, const F: u32> Neg for Fixed<T, F> {
+    type Output = Self;
+
+    ghost can_neg = { λ a. InRange T.SIGNED T.BITS (exact_neg (T.value a.bits)) };
+
+    ghost neg_gives = { λ a r. T.value r.bits ≡ exact_neg (T.value a.bits) };
+
+    /// The negated number; condition that it fits.
+    fn neg(self) -> Self {
+        exact_number(neg_of(self.bits))
+    }
+}
+
+impl<T: Word, const F: u32> Add for Fixed<T, F> {
+    type Output = Self;
+
+    ghost can_add = { λ a b. InRange T.SIGNED T.BITS (exact_add (T.value a.bits) (T.value b.bits)) };
+
+    ghost add_gives = { λ a b r. T.value r.bits ≡ exact_add (T.value a.bits) (T.value b.bits) };
+
+    /// The sum; condition that it fits.
+    fn add(self, rhs: Self) -> Self {
+        exact_number(add_of(self.bits, rhs.bits))
+    }
+}
+
+impl<T: Word, const F: u32> AddAssign for Fixed<T, F> {
+    ghost can_add_assign = { λ a b. InRange T.SIGNED T.BITS (exact_add (T.value a.bits) (T.value b.bits)) };
+
+    ghost add_assign_gives = { λ a b r. T.value r.bits ≡ exact_add (T.value a.bits) (T.value b.bits) };
+
+    /// Stores the sum; condition that it fits.
+    fn add_assign(&mut self, rhs: Self) {
+        *self = *self + rhs;
+    }
+}
+
+impl<T: Word, const F: u32> Sub for Fixed<T, F> {
+    type Output = Self;
+
+    ghost can_sub = { λ a b. InRange T.SIGNED T.BITS (exact_sub (T.value a.bits) (T.value b.bits)) };
+
+    ghost sub_gives = { λ a b r. T.value r.bits ≡ exact_sub (T.value a.bits) (T.value b.bits) };
+
+    /// The difference; condition that it fits.
+    fn sub(self, rhs: Self) -> Self {
+        exact_number(sub_of(self.bits, rhs.bits))
+    }
+}
+
+impl<T: Word, const F: u32> SubAssign for Fixed<T, F> {
+    ghost can_sub_assign = { λ a b. InRange T.SIGNED T.BITS (exact_sub (T.value a.bits) (T.value b.bits)) };
+
+    ghost sub_assign_gives = { λ a b r. T.value r.bits ≡ exact_sub (T.value a.bits) (T.value b.bits) };
+
+    /// Stores the difference; condition that it fits.
+    fn sub_assign(&mut self, rhs: Self) {
+        *self = *self - rhs;
+    }
+}
+
+impl<T: Word, const F: u32> Mul for Fixed<T, F> {
+    type Output = Self;
+
+    ghost can_mul = { λ a b. (F ≤ T.BITS)
+        × InRange T.SIGNED T.BITS (exact_mul (T.value a.bits) (T.value b.bits) F) };
+
+    ghost mul_gives = { λ a b r. T.value r.bits ≡ exact_mul (T.value a.bits) (T.value b.bits) F };
+
+    /// The product, rounded down; conditions that `F` is at most n and that the product fits.
+    fn mul(self, rhs: Self) -> Self {
+        exact_number(mul_of(self.bits, rhs.bits, F))
+    }
+}
+
+impl<T: Word, const F: u32, const G: u32> MulAssign<Fixed<T, G>> for Fixed<T, F> {
+    ghost can_mul_assign = { λ a b. (G ≤ T.BITS)
+        × InRange T.SIGNED T.BITS (exact_mul (T.value a.bits) (T.value b.bits) G) };
+
+    ghost mul_assign_gives = { λ a b r. T.value r.bits ≡ exact_mul (T.value a.bits) (T.value b.bits) G };
+
+    /// Stores the product by a factor of any fraction G, rounded down; conditions that G is at most n
+    /// and that the product fits.
+    fn mul_assign(&mut self, rhs: Fixed<T, G>) {
+        *self = exact_number(mul_of(self.bits, rhs.bits, G));
+    }
+}
+
+impl<T: Word, const F: u32> Div for Fixed<T, F> {
+    type Output = Self;
+
+    ghost can_div = { λ a b. (F ≤ T.BITS) × (T.value b.bits ≢ pos 0)
+        × InRange T.SIGNED T.BITS (exact_div (T.value a.bits) (T.value b.bits) F) };
+
+    ghost div_gives = { λ a b r. T.value r.bits ≡ exact_div (T.value a.bits) (T.value b.bits) F };
+
+    /// The quotient, rounded toward zero; conditions that `F` is at most n, that the divisor is not 0
+    /// and that the quotient fits.
+    fn div(self, rhs: Self) -> Self {
+        exact_number(div_of(self.bits, rhs.bits, F))
+    }
+}
+
+impl<T: Word, const F: u32> DivAssign for Fixed<T, F> {
+    ghost can_div_assign = { λ a b. (F ≤ T.BITS) × (T.value b.bits ≢ pos 0)
+        × InRange T.SIGNED T.BITS (exact_div (T.value a.bits) (T.value b.bits) F) };
+
+    ghost div_assign_gives = { λ a b r. T.value r.bits ≡ exact_div (T.value a.bits) (T.value b.bits) F };
+
+    /// Stores the quotient, rounded toward zero; the conditions of `/`.
+    fn div_assign(&mut self, rhs: Self) {
+        *self = *self / rhs;
+    }
+}
+
+impl<T: Word, const F: u32> Rem for Fixed<T, F> {
+    type Output = Self;
+
+    ghost can_rem = { λ a b. (T.value b.bits ≢ pos 0)
+        × InRange T.SIGNED T.BITS (exact_rem (T.value a.bits) (T.value b.bits)) };
+
+    ghost rem_gives = { λ a b r. T.value r.bits ≡ exact_rem (T.value a.bits) (T.value b.bits) };
+
+    /// The remainder of the quotient that is rounded toward zero; conditions that the divisor is not 0
+    /// and that the remainder fits, which it always does.
+    fn rem(self, rhs: Self) -> Self {
+        exact_number(rem_of(self.bits, rhs.bits))
+    }
+}
+
+impl<T: Word, const F: u32> RemAssign for Fixed<T, F> {
+    ghost can_rem_assign = { λ a b. (T.value b.bits ≢ pos 0)
+        × InRange T.SIGNED T.BITS (exact_rem (T.value a.bits) (T.value b.bits)) };
+
+    ghost rem_assign_gives = { λ a b r. T.value r.bits ≡ exact_rem (T.value a.bits) (T.value b.bits) };
+
+    /// Stores the remainder; the conditions of `%`.
+    fn rem_assign(&mut self, rhs: Self) {
+        *self = *self % rhs;
+    }
+}

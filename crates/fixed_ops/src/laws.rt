@@ -1,0 +1,12 @@
+//! Laws of the definitions. These functions do nothing: each contract is the law.
+
+ghost use Rattle.std.specs.Prelude.{◌↔◌, ◌<◌, ◌≤◌, Bool, List, fold, length, take, ℕ, ℤ};
+ghost use Rattle.fixed_word.specs.Format.{InRange};
+ghost use Rattle.fixed_ops.specs.Folds.{EachFits};
+
+/// Each result of a walk fits exactly where the fold over each first part of the list fits.
+pub fn fold_law()
+    ensures { (s : Bool) (n : ℕ) (step : ℤ → ℤ → ℤ) (from : ℤ) (xs : List ℤ)
+        → EachFits s n step from xs
+        ↔ ((k : ℕ) → 0 < k → k ≤ length xs → InRange s n (fold step from (take k xs))) }
+{}

@@ -1,0 +1,16 @@
+//! Operations of fixed-point numbers by their plain names, and sums and products of slices.
+//!
+//! Each call gives the number of its row under the condition that the row is defined and its number fits.
+//! The operators between numbers stand with the number type. No call takes memory.
+#![tactic(auto)]
+
+pub mod laws;
+mod plain;
+mod plain_products;
+mod sums;
+#[cfg(test)]
+mod tests;
+
+pub use plain::{Plain, PlainSigned, PlainUnsigned};
+pub use plain_products::{PlainMulAdd, PlainProducts};
+pub use sums::{product, sum};
