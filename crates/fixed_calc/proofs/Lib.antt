@@ -24,3 +24,9 @@ pub mod Runs
 pub mod Short
 pub mod Twice
 pub mod OneNumber
+pub mod Plain
+pub mod Letters
+pub mod Drawn
+pub mod Demonstrated
+pub mod Pushed
+pub mod Asked

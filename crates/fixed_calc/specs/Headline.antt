@@ -3,6 +3,7 @@
 use Rattle.std.specs.Prelude.{codes, ◌≡◌, ℕ, ◌+◌, ◌<◌, ◌≤◌, ◌⊎◌, ◌↔◌, ◌≢◌, ◌++◌, List, [], length, take, Option, Some, None, IfSome, ⊤}
 use Rattle.std.specs.Io.KnownBytes.{Appends, Keeps}
 use Rattle.fixed_word.specs.Decimal.{natural_text}
+use Rattle.fixed_calc.specs.Demo.{summary}
 use Rattle.fixed_calc.specs.Meaning.{Meaning, Output, Fault, meaning}
 use Rattle.fixed_calc.specs.Outside.{SourceState, SinkState, RoseOrLast, last_count}
 use Rattle.fixed_calc.specs.declared.cause.Cause.{Cause}
@@ -106,6 +107,28 @@ CompleteTells source source' sink sink' status =
     HasNoFault source.faults source'.faults → HasNoFault sink.faults sink'.faults
     → IfSome source.left (λ input. length input ≤ limit → IsComplete sink sink' (meaning input) status)
 
+-- ---- the facts of a call with the words `demo N`, where n is N
+-- Done: the sink took the summary whole, and none of its counts rose
+abbrev pub DemoDoneTells : ℕ → SinkState → SinkState → Status → Type 0
+DemoDoneTells n sink sink' status = status ≡ Done →
+    Appends sink.taken sink'.taken (summary n) × (sink'.faults ≡ sink.faults) × (sink'.shortages ≡ sink.shortages)
+
+-- WriteFault: only where the sink's count rose in this call, or stands at its last value; the sink took a prefix of the summary
+abbrev pub DemoWriteFaultTells : ℕ → SinkState → SinkState → Status → Type 0
+DemoWriteFaultTells n sink sink' status = status ≡ WriteFault →
+    RoseOrLast sink.faults sink'.faults × AppendsPrefix sink.taken sink'.taken (summary n)
+
+-- Memory: the sink took a prefix of the summary
+abbrev pub DemoMemoryTells : ℕ → SinkState → SinkState → Status → Type 0
+DemoMemoryTells n sink sink' status = status ≡ Memory → AppendsPrefix sink.taken sink'.taken (summary n)
+
+-- no other status comes
+abbrev pub IsDemoStatus : Status → Type 0
+IsDemoStatus Done = ⊤
+IsDemoStatus WriteFault = ⊤
+IsDemoStatus Memory = ⊤
+IsDemoStatus _ = ⊥
+
 -- ---- the line for the errors
 abbrev pub cause_line : Cause → List ℕ
 cause_line (Syntax k) = codes "line " ++ natural_text k ++ codes ": syntax\n"
@@ -118,7 +141,7 @@ cause_line (Overflow k) = codes "line " ++ natural_text k ++ codes ": overflow\n
 abbrev pub error_line : Status → List ℕ
 error_line Done = []
 error_line (Script cause) = cause_line cause
-error_line Usage = codes "usage: fixed_prog\n"
+error_line Usage = codes "usage: fixed_prog [demo N]\n"
 error_line ReadFault = codes "read fault\n"
 error_line WriteFault = codes "write fault\n"
 error_line TooLong = codes "too long\n"

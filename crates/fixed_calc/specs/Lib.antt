@@ -21,3 +21,5 @@ pub mod Headline
 pub mod Laws
 pub mod Caps
 pub mod OneNumber
+pub mod Demo
+pub mod Words

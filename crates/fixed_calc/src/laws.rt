@@ -1,11 +1,13 @@
 //! Laws of the definitions. These functions do nothing: each contract is the law.
 
-ghost use Rattle.std.specs.Prelude.{◌≡◌, ◌*◌, ◌≤◌, Bool, List, ℕ, ℤ, false, length, true};
+ghost use Rattle.std.specs.Prelude.{◌≡◌, ◌*◌, ◌≤◌, Bool, List, None, ℕ, ℤ, false, flat_map, length, true};
 ghost use Rattle.fixed_word.specs.Format.{IsWidth, fits};
+ghost use Rattle.fixed_calc.specs.Answers.{answer_text};
 ghost use Rattle.fixed_calc.specs.Caps.{CapsAlike};
+ghost use Rattle.fixed_calc.specs.Demo.{demo_answers, demo_text};
 ghost use Rattle.fixed_calc.specs.Laws.{OneHeader, OneLine, OneWholeNumber, PiecesJoin};
 ghost use Rattle.fixed_calc.specs.Lines.{ReadsHeaders, ReadsLines};
-ghost use Rattle.fixed_calc.specs.Meaning.{Output, meaning};
+ghost use Rattle.fixed_calc.specs.Meaning.{Output, meaning, run_of};
 ghost use Rattle.fixed_calc.specs.OneNumber.{AllSame, OnlyWrapped};
 
 /// Two lines with one text are equal, and so are two headers and two whole numbers. The pieces of a
@@ -39,4 +41,12 @@ pub fn output_law()
 pub fn policy_law()
     ensures fits { (s : Bool) (n : ℕ) (x : ℤ) → IsWidth n → fits s n x ≡ true → AllSame s n x }
     ensures misses { (s : Bool) (n : ℕ) (x : ℤ) → fits s n x ≡ false → OnlyWrapped s n x }
+{}
+
+/// The script of a demonstration has no cause, however many lines it has. Its output is the texts of its
+/// answers, one for each line.
+pub fn demo_law()
+    ensures no_cause { (n : ℕ) → (run_of (demo_text n)).fault ≡ None }
+    ensures output { (n : ℕ) → meaning (demo_text n) ≡ Output (flat_map answer_text (demo_answers n)) }
+    ensures one_each { (n : ℕ) → length (demo_answers n) ≡ n }
 {}

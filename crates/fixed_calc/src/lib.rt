@@ -2,14 +2,17 @@
 //! number of its operation and projects it by its policy.
 //!
 //! [`calc_main`] does all that the program does; [`run`] runs a script in memory, and [`run_in`] runs
-//! it in a [`Room`] that was made for it, without asking for memory.
+//! it in a [`Room`] that was made for it, without asking for memory. [`demo_script`] makes a large valid
+//! script.
 #![tactic(auto)]
 
 mod answer;
 mod buffer;
 mod cause;
+mod command;
 mod copy;
 mod decimal;
+mod demo;
 mod error_line;
 mod header;
 pub mod laws;
@@ -25,8 +28,10 @@ mod register;
 mod room;
 mod rows;
 mod running;
+mod short_text;
 mod status;
 mod stepping;
+mod summary;
 mod sure;
 #[cfg(test)]
 mod tests;
@@ -36,6 +41,7 @@ mod writing;
 
 pub use answer::Answer;
 pub use cause::{Cause, RunFault};
+pub use demo::{Script, demo_script};
 pub use header::{Fractions, Header, parse_header};
 pub use line::{Line, parse_line};
 pub use names::{Op, Policy, WordName};

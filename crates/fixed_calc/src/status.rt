@@ -8,7 +8,7 @@ use crate::cause::Cause;
 /// How a call of the program ended.
 #[derive(Clone, Copy, Debug, PartialEq, Eq)]
 pub enum Status {
-    /// The whole output was written.
+    /// The whole output was written, or with `demo N` the whole summary.
     Done,
     /// A line of the script has this cause, the first of all. Nothing was written to the sink.
     Script(Cause),
@@ -16,11 +16,11 @@ pub enum Status {
     Usage,
     /// The source failed.
     ReadFault,
-    /// The sink failed. It took a prefix of the output.
+    /// The sink failed. It took a prefix of the output, or of the summary.
     WriteFault,
     /// More than 67,108,864 bytes were read.
     TooLong,
-    /// Want of memory. The sink took a prefix of the output.
+    /// Want of memory. The sink took a prefix of the output, or of the summary.
     Memory,
 }
 

@@ -1,6 +1,7 @@
 //! What no clause says: worked scripts from bytes to bytes, printed texts, and ample memory.
 
 mod calls;
+mod demo;
 mod faults;
 mod pairs;
 mod refused;

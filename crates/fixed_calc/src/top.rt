@@ -1,14 +1,17 @@
 //! The top call, which does all that the program does.
 
-ghost use Rattle.std.specs.Prelude.{◌≡◌, ◌≢◌, ◌↔◌, []};
-ghost use Rattle.fixed_calc.specs.Headline.{CompleteTells, DoneTells, LineTells, MemoryTells, ReadFaultTells, ScriptTells, TooLongTells, WriteFaultTells, WritesNothing};
+ghost use Rattle.std.specs.Prelude.{◌≡◌, ◌≢◌, ◌≤◌, ◌↔◌, ℕ, []};
+ghost use Rattle.fixed_calc.specs.Headline.{CompleteTells, DemoDoneTells, DemoMemoryTells, DemoWriteFaultTells, DoneTells, IsDemoStatus, LineTells, MemoryTells, ReadFaultTells, ScriptTells, TooLongTells, WriteFaultTells, WritesNothing};
+ghost use Rattle.fixed_calc.specs.Words.{IsDemo, IsNoCommand, most_lines};
 
 use crate::cause::RunFault;
+use crate::command::{Command, command_of};
 use crate::error_line::line_of;
 use crate::outside::{Refusal, Sink, Source};
 use crate::reading::{Stop, read_all};
 use crate::running::run;
 use crate::status::Status;
+use crate::summary::demo_summary;
 use crate::writing::write_all;
 use std::alloc::Global;
 
@@ -42,6 +45,26 @@ fn work<S: Source, K: Sink>(alloc: Global, source: &mut S, sink: &mut K) -> Stat
     }
 }
 
+/// Runs a demonstration and writes its summary.
+fn demonstrate<K: Sink>(alloc: Global, lines: u32, sink: &mut K) -> Status
+    requires some { 1 ≤ lines }
+    requires most { lines ≤ most_lines }
+    ensures done { DemoDoneTells lines (K.state sink.old) (K.state sink.new) result }
+    ensures write_fault { DemoWriteFaultTells lines (K.state sink.old) (K.state sink.new) result }
+    ensures memory { DemoMemoryTells lines (K.state sink.old) (K.state sink.new) result }
+    ensures statuses { IsDemoStatus result }
+{
+    let summary = match demo_summary(alloc, lines) {
+        Ok(summary) => summary,
+        Err(_) => return Status::Memory,
+    };
+    match write_all(summary.as_bytes(), sink) {
+        Ok(()) => Status::Done,
+        Err(Refusal::Failed) => Status::WriteFault,
+        Err(Refusal::Memory) => Status::Memory,
+    }
+}
+
 /// All but the line for the errors.
 fn status_of<S: Source, K: Sink>(
     alloc: Global,
@@ -51,7 +74,7 @@ fn status_of<S: Source, K: Sink>(
 ) -> Status
     ensures done { words.now ≡ [] → DoneTells (S.state source.old) (S.state source.new) (K.state sink.old) (K.state sink.new) result }
     ensures script { words.now ≡ [] → ScriptTells (S.state source.old) (S.state source.new) result }
-    ensures usage { result ≡ Status.Usage ↔ words.now ≢ [] }
+    ensures usage { result ≡ Status.Usage ↔ IsNoCommand words.now }
     ensures nothing_read { words.now ≢ [] → source.new ≡ source.old }
     ensures read_fault { words.now ≡ [] → ReadFaultTells (S.state source.old) (S.state source.new) result }
     ensures too_long { words.now ≡ [] → TooLongTells (S.state source.old) (S.state source.new) result }
@@ -59,16 +82,22 @@ fn status_of<S: Source, K: Sink>(
     ensures memory { words.now ≡ [] → MemoryTells (S.state source.old) (K.state sink.old) (K.state sink.new) result }
     ensures nothing_written { WritesNothing result → sink.new ≡ sink.old }
     ensures complete { words.now ≡ [] → CompleteTells (S.state source.old) (S.state source.new) (K.state sink.old) (K.state sink.new) result }
+    ensures demo_done { (n : ℕ) → IsDemo words.now n → DemoDoneTells n (K.state sink.old) (K.state sink.new) result }
+    ensures demo_write_fault { (n : ℕ) → IsDemo words.now n → DemoWriteFaultTells n (K.state sink.old) (K.state sink.new) result }
+    ensures demo_memory { (n : ℕ) → IsDemo words.now n → DemoMemoryTells n (K.state sink.old) (K.state sink.new) result }
+    ensures demo_statuses { (n : ℕ) → IsDemo words.now n → IsDemoStatus result }
 {
-    if words.is_empty() {
-        work(alloc, source, sink)
-    } else {
-        Status::Usage
+    match command_of(words) {
+        Some(Command::Script) => work(alloc, source, sink),
+        Some(Command::Demo(lines)) => demonstrate(alloc, lines, sink),
+        None => Status::Usage,
     }
 }
 
-/// Reads a script from `source`, runs it, and writes its whole output to `sink`, or the line of what
-/// stopped it to `errors`. `words` are those of the command line: none.
+/// With no words: reads a script from `source`, runs it, and writes its whole output to `sink`, or the
+/// line of what stopped it to `errors`. With the words `demo N`: reads nothing, makes the script of
+/// `demo_script`, runs it, and writes how many lines it has, how many answers have no value and how many a
+/// verdict that is true.
 ///
 /// The clauses say, status by status, what was read and written. What a script means is defined by
 /// the register machine of this crate's definitions, in which each line takes the exact number of its
@@ -82,7 +111,7 @@ pub fn calc_main<S: Source, K: Sink, E: Sink>(
 ) -> Status
     ensures done { words.now ≡ [] → DoneTells (S.state source.old) (S.state source.new) (K.state sink.old) (K.state sink.new) result }
     ensures script { words.now ≡ [] → ScriptTells (S.state source.old) (S.state source.new) result }
-    ensures usage { result ≡ Status.Usage ↔ words.now ≢ [] }
+    ensures usage { result ≡ Status.Usage ↔ IsNoCommand words.now }
     ensures nothing_read { words.now ≢ [] → source.new ≡ source.old }
     ensures read_fault { words.now ≡ [] → ReadFaultTells (S.state source.old) (S.state source.new) result }
     ensures too_long { words.now ≡ [] → TooLongTells (S.state source.old) (S.state source.new) result }
@@ -90,6 +119,10 @@ pub fn calc_main<S: Source, K: Sink, E: Sink>(
     ensures memory { words.now ≡ [] → MemoryTells (S.state source.old) (K.state sink.old) (K.state sink.new) result }
     ensures nothing_written { WritesNothing result → sink.new ≡ sink.old }
     ensures complete { words.now ≡ [] → CompleteTells (S.state source.old) (S.state source.new) (K.state sink.old) (K.state sink.new) result }
+    ensures demo_done { (n : ℕ) → IsDemo words.now n → DemoDoneTells n (K.state sink.old) (K.state sink.new) result }
+    ensures demo_write_fault { (n : ℕ) → IsDemo words.now n → DemoWriteFaultTells n (K.state sink.old) (K.state sink.new) result }
+    ensures demo_memory { (n : ℕ) → IsDemo words.now n → DemoMemoryTells n (K.state sink.old) (K.state sink.new) result }
+    ensures demo_statuses { (n : ℕ) → IsDemo words.now n → IsDemoStatus result }
     ensures line { LineTells (E.state errors.old) (E.state errors.new) result }
 {
     let status = status_of(alloc, words, source, sink);

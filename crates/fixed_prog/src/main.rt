@@ -1,5 +1,8 @@
 //! Runs a script from standard input: its answers go to standard output, and the line of what stopped
-//! it to standard error.
+//! it to standard error. With the words `demo N` it runs a script of N lines of its own making, and
+//! writes a summary.
+//!
+//! usage: fixed_prog [demo N]
 #![tactic(auto)]
 
 mod adapters;

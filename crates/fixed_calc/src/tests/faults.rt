@@ -104,6 +104,30 @@ fn failing_writes(rt: HostRuntime) -> Result<(), Fail> {
     Ok(())
 }
 
+/// A write of a summary that fails ends the work: the sink has taken a part of the summary.
+#[test]
+fn failing_summary(rt: HostRuntime) -> Result<(), Fail> {
+    let alloc = rt.alloc();
+    for calls in [0, 1, 21] {
+        let mut words = Vec::new(alloc);
+        words.push(String::from_str(alloc, "demo")?)?;
+        words.push(String::from_str(alloc, "2")?)?;
+        let mut source = Failing::after(0);
+        let mut sink = Failing::after(calls);
+        let mut errors = SureSink::new(alloc);
+        let status = calc_main(alloc, &words, &mut source, &mut sink, &mut errors);
+        assert_eq!(rt; status, Status::WriteFault, "after {calls} calls");
+        assert_eq!(rt; source.faults, 0, "after {calls} calls");
+        assert_eq!(rt; sink.taken, calls, "after {calls} calls");
+        assert_eq!(rt;
+            errors.taken(),
+            b"write fault\n".as_slice(),
+            "after {calls} calls"
+        );
+    }
+    Ok(())
+}
+
 /// The last byte of the output can be the last that the sink takes.
 #[test]
 fn writes_before_a_fault(rt: HostRuntime) -> Result<(), Fail> {

@@ -1,7 +1,7 @@
 //! Scripts with known answers.
 
 use super::{answers, outcome};
-use crate::{Cause, RunFault, Source, Status, SureSink, SureSource, calc_main, run};
+use crate::{Cause, RunFault, Status, run};
 use std::test::Fail;
 
 /// Scripts and their answers.
@@ -141,28 +141,6 @@ fn runs_in_memory(rt: HostRuntime) -> Result<(), Fail> {
     match run(alloc, script.as_bytes()) {
         Ok(_) => assert!(rt; false, "{script}"),
         Err(fault) => assert_eq!(rt; fault, RunFault::Script(Cause::Overflow(3)), "{script}"),
-    }
-    Ok(())
-}
-
-/// Any word is a faulty command line. Then nothing is read: the source still has all its bytes.
-#[test]
-fn any_word_is_usage(rt: HostRuntime) -> Result<(), Fail> {
-    let alloc = rt.alloc();
-    for word in ["x", "", "demo"] {
-        let mut words = Vec::new(alloc);
-        words.push(String::from_str(alloc, word)?)?;
-        let mut source = SureSource::new(b"i8 4\n".to_vec(alloc)?);
-        let mut sink = SureSink::new(alloc);
-        let mut errors = SureSink::new(alloc);
-        let status = calc_main(alloc, &words, &mut source, &mut sink, &mut errors);
-        assert_eq!(rt; status, Status::Usage, "{word}");
-        assert_eq!(rt; status.code(), 2, "{word}");
-        assert_eq!(rt; sink.taken(), b"".as_slice(), "{word}");
-        assert_eq!(rt; errors.taken(), b"usage: fixed_prog\n".as_slice(), "{word}");
-        let mut left = [0; 8];
-        assert_eq!(rt; source.read(&mut left), Ok(5), "{word}");
-        assert_eq!(rt; left, *b"i8 4\n\0\0\0", "{word}");
     }
     Ok(())
 }

@@ -1,0 +1,95 @@
+-- The script of `demo N`: a header, and N lines that a generator of numbers draws. Its answers, and their summary.
+use Rattle.std.specs.Prelude.{ℕ, zero, suc, ◌+◌, ◌*◌, ◌/◌, ◌%◌, ◌^◌, Bool, true, false, pos, List, [], ◌∷◌, ◌++◌, replicate, slice_index_or, flat_map, count_by, codes}
+use Rattle.fixed_word.specs.Decimal.{natural_text}
+use Rattle.fixed_calc.specs.declared.names.WordName.TheVariants.{I64}
+use Rattle.fixed_calc.specs.declared.names.Policy.TheVariants.{Checked, Saturating, Wrapping, Overflowing}
+use Rattle.fixed_calc.specs.declared.names.Op.TheVariants.{Add, Sub, Mul, Div, MulAdd, AddProd, Sqrt}
+use Rattle.fixed_calc.specs.declared.answer.Answer.{Answer}
+use Rattle.fixed_calc.specs.declared.answer.Answer.TheVariants.{Absent, Bits, Flagged}
+use Rattle.fixed_calc.specs.Text.{ScriptHeader, header_text, ScriptLine, SetTo, Apply, OneRegister, TwoRegisters, ThreeRegisters, line_text}
+use Rattle.fixed_calc.specs.Machine.{State, answer, move}
+use Rattle.fixed_calc.specs.Meaning.{start}
+
+-- ---- the draws
+abbrev pub next_state : ℕ → ℕ
+next_state x = (6364136223846793005 * x + 1442695040888963407) % 2 ^ 64
+
+-- the generator's state at line i
+unfoldable pub state_at : ℕ → ℕ
+state_at zero = 1
+state_at (suc i) = next_state (state_at i)
+
+-- what a state draws: all but its 33 lowest bits
+abbrev pub draw : ℕ → ℕ
+draw x = x / 2 ^ 33
+
+-- ---- the lines
+-- digit i of t in base 8, where digit 0 is the lowest
+abbrev pub octal_digit : ℕ → ℕ → ℕ
+octal_digit t i = t / 8 ^ i % 8
+
+-- the eight lines of a draw t, with destination d and operands a and b
+abbrev pub choices : ℕ → ℕ → ℕ → ℕ → List ScriptLine
+choices t d a b =
+    SetTo d (pos t)
+    ∷ Apply d Wrapping Add (TwoRegisters a b)
+    ∷ Apply d Overflowing Sub (TwoRegisters a b)
+    ∷ Apply d Saturating Mul (TwoRegisters a b)
+    ∷ Apply d Checked Div (TwoRegisters a b)
+    ∷ Apply d Wrapping MulAdd (ThreeRegisters a b d)
+    ∷ Apply d Overflowing AddProd (ThreeRegisters d a b)
+    ∷ Apply d Checked Sqrt (OneRegister a)
+    ∷ []
+
+-- digits 0, 1 and 2 are the destination and the operands, and digit 3 chooses
+unfoldable pub drawn_line : ℕ → ScriptLine
+drawn_line t =
+    let d = octal_digit t 0 in
+    slice_index_or (choices t d (octal_digit t 1) (octal_digit t 2)) (octal_digit t 3) (SetTo d (pos t))
+
+-- ---- the script
+-- eight registers of 64 bits with 32 fraction bits
+abbrev pub demo_header : ScriptHeader
+demo_header = record { word = I64; first = 32; others = replicate 7 32 }
+
+-- lines 1 to n
+unfoldable pub demo_lines : ℕ → List ScriptLine
+demo_lines zero = []
+demo_lines (suc i) = demo_lines i ++ (drawn_line (draw (state_at (suc i))) ∷ [])
+
+-- a text and a newline
+abbrev pub ended : List ℕ → List ℕ
+ended text = text ++ (10 ∷ [])
+
+unfoldable pub demo_text : ℕ → List ℕ
+demo_text n = ended (header_text demo_header) ++ flat_map (λ line. ended (line_text line)) (demo_lines n)
+
+-- ---- its answers
+-- the answers of lines, one after another, from a state on
+abbrev pub answers_from : State → List ScriptLine → List Answer
+answers_from s [] = []
+answers_from s (line ∷ lines) = answer s line ∷ answers_from (move s line) lines
+
+unfoldable pub demo_answers : ℕ → List Answer
+demo_answers n = answers_from (start demo_header) (demo_lines n)
+
+-- ---- the summary
+-- the answer has no value
+abbrev pub is_absent : Answer → Bool
+is_absent Absent = true
+is_absent (Bits x) = false
+is_absent (Flagged x verdict) = false
+
+-- the answer has a verdict, which is true
+abbrev pub has_true_verdict : Answer → Bool
+has_true_verdict Absent = false
+has_true_verdict (Bits x) = false
+has_true_verdict (Flagged x verdict) = verdict
+
+abbrev pub summary_text : ℕ → ℕ → ℕ → List ℕ
+summary_text lines absent verdicts =
+    codes "lines " ++ natural_text lines ++ codes "\nnone " ++ natural_text absent ++ codes "\ntrue " ++ natural_text verdicts ++ codes "\n"
+
+-- how many lines were drawn, how many answers have no value, and how many a verdict that is true
+unfoldable pub summary : ℕ → List ℕ
+summary n = summary_text n (count_by is_absent (demo_answers n)) (count_by has_true_verdict (demo_answers n))

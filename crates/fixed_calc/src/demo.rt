@@ -1,0 +1,126 @@
+//! The script of a demonstration, from a generator of numbers.
+
+ghost use Rattle.std.specs.Prelude.{◌≡◌, ◌≤◌, ◌∷◌, ◌++◌, flat_map, pos, IfOk, OnOk};
+ghost use Rattle.fixed_word.specs.Decimal.{natural_text};
+ghost use Rattle.fixed_calc.specs.Text.{SetTo, line_text, register_text};
+ghost use Rattle.fixed_calc.specs.Demo.{demo_text, drawn_line, next_state};
+ghost use Rattle.fixed_calc.specs.Words.{most_lines};
+
+use crate::decimal::decimal_into;
+use std::alloc::{AllocError, Global};
+use std::marker::Model;
+
+/// The bytes of a script.
+#[derive(Drop)]
+pub struct Script {
+    bytes: Vec<u8>,
+}
+
+impl Model for Script {
+    ghost use Rattle.std.specs.Prelude.{List, ℕ};
+
+    ghost Value = { List ℕ };
+
+    ghost view = { λ s. s.bytes.items };
+}
+
+impl Script {
+    /// The bytes.
+    pub fn as_bytes(&self) -> &[u8]
+        ensures { result.now ≡ self.now }
+    {
+        &self.bytes
+    }
+}
+
+/// The state after a state.
+fn next(state: u64) -> u64
+    ensures { result ≡ next_state state }
+{
+    state
+        .wrapping_mul(6_364_136_223_846_793_005)
+        .wrapping_add(1_442_695_040_888_963_407)
+}
+
+/// Adds the decimal of a number.
+fn push_number(script: &mut Vec<u8>, number: u64) -> Result<(), AllocError>
+    ensures { OnOk result (script.new.items ≡ script.old.items ++ natural_text number) }
+{
+    let mut buffer = [0; 20];
+    let start = decimal_into(number, &mut buffer);
+    script.extend_from_slice(&buffer[start..])
+}
+
+/// Adds the name of a register.
+fn push_register(script: &mut Vec<u8>, register: u64) -> Result<(), AllocError>
+    ensures { OnOk result (script.new.items ≡ script.old.items ++ register_text register) }
+{
+    script.extend_from_slice(b"r")?;
+    push_number(script, register)
+}
+
+/// Adds a line that sets a register.
+fn push_set(script: &mut Vec<u8>, dest: u64, number: u64) -> Result<(), AllocError>
+    ensures { OnOk result (script.new.items ≡ script.old.items ++ line_text (SetTo dest (pos number))) }
+{
+    push_register(script, dest)?;
+    script.extend_from_slice(b" set ")?;
+    push_number(script, number)
+}
+
+/// Adds a line of an operation: its destination, the names of its policy and operation, and its operands,
+/// with a space before all but the first.
+fn push_applied(
+    script: &mut Vec<u8>,
+    dest: u64,
+    names: &[u8],
+    operands: &[u64],
+) -> Result<(), AllocError>
+    ensures { OnOk result (script.new.items ≡ script.old.items
+        ++ register_text dest ++ names.now ++ flat_map (λ operand. 32 ∷ register_text operand) operands.now) }
+{
+    push_register(script, dest)?;
+    script.extend_from_slice(names)?;
+    for operand in operands {
+        script.extend_from_slice(b" ")?;
+        push_register(script, *operand)?;
+    }
+    Ok(())
+}
+
+/// Adds the line of a draw.
+fn push_line(script: &mut Vec<u8>, draw: u64) -> Result<(), AllocError>
+    ensures { OnOk result (script.new.items ≡ script.old.items ++ line_text (drawn_line draw)) }
+{
+    let dest = draw % 8;
+    let a = draw / 8 % 8;
+    let b = draw / 64 % 8;
+    match draw / 512 % 8 {
+        0 => push_set(script, dest, draw),
+        1 => push_applied(script, dest, b" wrapping add", &[a, b]),
+        2 => push_applied(script, dest, b" overflowing sub", &[a, b]),
+        3 => push_applied(script, dest, b" saturating mul", &[a, b]),
+        4 => push_applied(script, dest, b" checked div", &[a, b]),
+        5 => push_applied(script, dest, b" wrapping mul_add", &[a, b, dest]),
+        6 => push_applied(script, dest, b" overflowing add_prod", &[dest, a, b]),
+        _ => push_applied(script, dest, b" checked sqrt", &[a]),
+    }
+}
+
+/// The script of a demonstration of so many lines, or want of memory: a header of eight registers of 64
+/// bits with 32 fraction bits, and lines that a generator of numbers draws (this project's own).
+pub fn demo_script(alloc: Global, lines: u32) -> Result<Script, AllocError>
+    requires some { 1 ≤ lines }
+    requires most { lines ≤ most_lines }
+    ensures { IfOk result (λ script. script ≡ demo_text lines) }
+{
+    let mut bytes = Vec::new(alloc);
+    bytes.extend_from_slice(b"i64 32 32 32 32 32 32 32 32\n")?;
+    let mut state = 1;
+    for _i in 0..lines {
+        state = next(state);
+        push_line(&mut bytes, state >> 33)?;
+        bytes.extend_from_slice(b"\n")?;
+    }
+    Ok(Script { bytes })
+}

@@ -1,0 +1,60 @@
+//! The summary of a demonstration.
+
+ghost use Rattle.std.specs.Prelude.{◌≡◌, ◌==◌, ◌≤◌, List, count_by, flat_map, IfOk};
+ghost use Rattle.fixed_calc.specs.declared.answer.Answer.{Answer};
+ghost use Rattle.fixed_calc.specs.Answers.{answer_text};
+ghost use Rattle.fixed_calc.specs.Demo.{is_absent, has_true_verdict, summary, summary_text as text_of};
+ghost use Rattle.fixed_calc.specs.Words.{most_lines};
+
+use crate::cause::RunFault;
+use crate::demo::demo_script;
+use crate::running::run;
+use crate::short_text::ShortText;
+use std::alloc::{AllocError, Global};
+
+/// How often a byte stands in a text.
+fn count_of(text: &[u8], byte: u8) -> usize
+    ensures { result ≡ count_by (λ b. b == byte) text.now }
+{
+    text.iter().filter(|b| **b == byte).count()
+}
+
+/// The three lines of a summary.
+fn summary_text(lines: u32, absent: usize, verdicts: usize) -> ShortText
+    ensures { result ≡ text_of lines absent verdicts }
+{
+    let mut text = ShortText::new();
+    text.push(b"lines ");
+    text.push_number(u64::from(lines));
+    text.push(b"\nnone ");
+    text.push_number(absent as u64);
+    text.push(b"\ntrue ");
+    text.push_number(verdicts as u64);
+    text.push(b"\n");
+    text
+}
+
+/// The summary of so many lines with these answers. Of all texts of answers `none` alone has an `o`, and
+/// a verdict that is true alone a `t`.
+fn summary_of(lines: u32, answers: &[u8]) -> ShortText
+    ensures { (given : List Answer) → answers.now ≡ flat_map answer_text given
+        → result ≡ text_of lines (count_by is_absent given) (count_by has_true_verdict given) }
+{
+    let absent = count_of(answers, b'o');
+    let verdicts = count_of(answers, b't');
+    summary_text(lines, absent, verdicts)
+}
+
+/// Makes the script of so many lines, runs it and sums up its answers; or want of memory.
+pub(crate) fn demo_summary(alloc: Global, lines: u32) -> Result<ShortText, AllocError>
+    requires some { 1 ≤ lines }
+    requires most { lines ≤ most_lines }
+    ensures { IfOk result (λ text. text ≡ summary lines) }
+{
+    let script = demo_script(alloc, lines)?;
+    match run(alloc, script.as_bytes()) {
+        Ok(answers) => Ok(summary_of(lines, answers.as_bytes())),
+        Err(RunFault::Script(_)) => unreachable!(),
+        Err(RunFault::Memory) => Err(AllocError),
+    }
+}
