@@ -2,7 +2,9 @@
 
     python3 bench/script.py OPERATION LINES [WORD] [FRACTION]
 
-OPERATION is `set`, an operation of the calculator, or `mix`. The script is valid: no line has a cause.
+OPERATION is `set`, an operation of the calculator, `mix`, or `demo`. The script is valid: no line has a
+cause. `demo` is a fixed script over eight registers of `i64` with 32 fraction bits, and takes no word and
+no fraction.
 """
 import sys
 
@@ -48,9 +50,36 @@ def line(operation, state, word):
     return f"r{d} {policy} {operation} r{a} r{b} r{c}"
 
 
+def demo_line(state):
+    """One of eight forms of line, of registers that the state's digits name."""
+    text = state >> 33
+    d, a, b, form = (text // 8**place % 8 for place in range(4))
+    return [
+        f"r{d} set {text}",
+        f"r{d} wrapping add r{a} r{b}",
+        f"r{d} overflowing sub r{a} r{b}",
+        f"r{d} saturating mul r{a} r{b}",
+        f"r{d} checked div r{a} r{b}",
+        f"r{d} wrapping mul_add r{a} r{b} r{d}",
+        f"r{d} overflowing add_prod r{d} r{a} r{b}",
+        f"r{d} checked sqrt r{a}",
+    ][form]
+
+
+def demo(lines):
+    state = 1
+    out = [" ".join(["i64"] + ["32"] * 8)]
+    for _ in range(lines):
+        state = number(state)
+        out.append(demo_line(state))
+    sys.stdout.write("\n".join(out) + "\n")
+
+
 def main():
     operation = sys.argv[1]
     lines = int(sys.argv[2])
+    if operation == "demo":
+        return demo(lines)
     word = sys.argv[3] if len(sys.argv) > 3 else ("u64" if operation == "next_power_of_two" else "i64")
     fraction = sys.argv[4] if len(sys.argv) > 4 else "32"
     names = [n for names in SHAPES.values() for n in names]

@@ -110,7 +110,7 @@ pub(crate) fn register_of(token: &[u8]) -> Option<u128>
 pub(crate) fn front_register(bytes: &[u8]) -> Option<(u64, Option<&[u8]>)>
     ensures { IfSome result (λ found. next_by register_at (tokens_of bytes.now) ≡ Some (found.0, tokens_left found.1)) }
 {
-    if bytes.len() > 0 && bytes[0] == b'r' {
+    if !bytes.is_empty() && bytes[0] == b'r' {
         front_natural(&bytes[1..])
     } else {
         None

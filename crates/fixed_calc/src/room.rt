@@ -63,6 +63,9 @@ fn push_fractions(registers: &mut Vec<Register>, header: &Header<'_>)
     }
 }
 
+/// Where a script runs: the word of its header, its registers and the bytes of its answers, with room that
+/// was made for it (this project's own). Contracts see it as a `Space`: what it holds, and for how many
+/// registers and answer bytes there is room.
 #[derive(Drop)]
 pub struct Room {
     word: Option<WordName>,
@@ -83,7 +86,7 @@ impl Model for Room {
     ghost invariant = { λ r. IsRoom r.word (cells_of r.registers.items) × (r.most ≤ vec_capacity r.registers) };
 }
 
-/// The bytes of all answers.
+/// The bytes of all answers, one a line (this project's own). Contracts see it as a list of bytes.
 #[derive(Drop)]
 pub struct Answers {
     held: Buffer,
@@ -98,6 +101,7 @@ impl Model for Answers {
 }
 
 impl Answers {
+    /// The bytes.
     pub fn as_bytes(&self) -> &[u8]
         ensures { result.now ≡ self.now }
     {
@@ -112,7 +116,8 @@ impl Room {
     ghost use Rattle.fixed_calc.specs.Rooms.{IsEmptySpace, IsStarted, KeepsTheRest, KeepsRoom, Suffices, spaces};
     ghost use Rattle.fixed_calc.specs.Step.{StepTells, state_in};
 
-    /// Without a header, registers and answers.
+    /// A room without a header, registers and answers, for as many registers as the script's first piece has
+    /// spaces and for twice the script's length of answer bytes; or want of memory (this project's own).
     pub fn for_script(alloc: Global, script: &[u8]) -> Result<Room, AllocError>
         ensures { IfOk result (λ room. IsEmptySpace (spaces script.now) (2 * length script.now) room) }
     {
@@ -125,7 +130,8 @@ impl Room {
         })
     }
 
-    /// Whether the room is large enough for a script.
+    /// Whether the room is for at least as many registers and answer bytes as `for_script` makes room for
+    /// (this project's own).
     pub fn suffices(&self, script: &[u8]) -> bool
         ensures { IsTrue result ↔ Suffices script.now self.now }
     {
@@ -140,7 +146,9 @@ impl Room {
         self.answers.clear();
     }
 
-    /// All registers zero, and no answers.
+    /// Declares the registers of a header, with bits 0, and no answers. Condition: there is room for its
+    /// fractions. `OutOfRange(1)` exactly where a fraction exceeds the width; then there is no header, no
+    /// register and no answer (this project's own).
     pub fn declare(&mut self, header: &Header<'_>) -> Result<(), Cause>
         requires { length header.now.fractions ≤ self.old.register_room }
         ensures ok { OnOk result ((is_wide header.now.word header.now.fractions ≡ false) × IsStarted header.now self.new) }
@@ -187,12 +195,14 @@ impl Room {
         self.answers.push(answer);
     }
 
+    /// How many registers there are.
     pub fn registers(&self) -> usize
         ensures { result ≡ length self.now.registers }
     {
         self.registers.len()
     }
 
+    /// The bits of a register as a whole number. Condition: the index is below the number of registers.
     pub fn bits_at(&self, index: usize) -> i128
         requires { index < length self.now.registers }
         ensures { result ≡ (cell_at self.now.registers index).bits }
@@ -201,6 +211,7 @@ impl Room {
         with_sign(register.below_zero, register.magnitude)
     }
 
+    /// The fraction of a register. Condition: the index is below the number of registers.
     pub fn fraction_at(&self, index: usize) -> u32
         requires { index < length self.now.registers }
         ensures { result ≡ (cell_at self.now.registers index).fraction }
@@ -208,12 +219,14 @@ impl Room {
         self.registers[index].fraction
     }
 
+    /// The bytes of the answers so far.
     pub fn answers(&self) -> &[u8]
         ensures { result.now ≡ self.now.answers }
     {
         self.answers.bytes()
     }
 
+    /// The answers so far, for good. It takes no memory.
     pub fn into_answers(self) -> Answers
         ensures { result ≡ self.answers }
     {
@@ -221,7 +234,9 @@ impl Room {
     }
 }
 
-/// Runs one line of a script.
+/// Runs one line of a script: its answer, with the number stored in its register, or its cause with that
+/// line number and all registers as they were. Condition: a header was declared. It takes no memory (this
+/// project's own).
 pub fn step(room: &mut Room, line: &Line, number: u64) -> Result<Answer, Cause>
     requires { IsSome room.old.word }
     ensures tells { IfSome room.old.word (λ word. StepTells (state_in word room.old.registers) (denoted line.now) number result room.new.registers) }

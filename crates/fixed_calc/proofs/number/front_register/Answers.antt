@@ -1,3 +1,5 @@
+use Rattle.std.proofs.Common.{◌<◌, length, arith}
+use Rattle.std.proofs.lemmas.Grind.{common_steps}
 use Rattle.std.proofs.lemmas.Option.{IfSome_then}
 use Rattle.fixed_calc.specs.Parser.{tokens_left}
 use Rattle.fixed_calc.proofs.Fronts.{register_begins}
@@ -5,5 +7,6 @@ use Rattle.fixed_calc.proofs.number.front_register.Goals as goal
 
 pub returns-then-bytes-eq114 : goal.returns-then-bytes-eq114
 returns-then-bytes-eq114 c =
+    let some : 0 < length c.args.bytes.now = grind (arith, common_steps) in
     IfSome_then c.front_natural.result c.front_natural.ensures
-    (λ found e. register_begins c.args.bytes.now (found.0, tokens_left found.1) c.if-bytes-gt0.true c.if-bytes-eq114.true e)
+    (λ found e. register_begins c.args.bytes.now (found.0, tokens_left found.1) some c.if-bytes-eq114.true e)
