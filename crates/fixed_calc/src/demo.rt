@@ -1,6 +1,6 @@
 //! The script of a demonstration, from a generator of numbers.
 
-ghost use Rattle.std.specs.Prelude.{◌≡◌, ◌≤◌, ◌∷◌, ◌++◌, flat_map, pos, IfOk, OnOk};
+ghost use Rattle.std.specs.Prelude.{◌≡◌, ◌<◌, ◌≤◌, ◌∷◌, ◌++◌, flat_map, pos, slice_index, EachIndex, IfOk, OnOk};
 ghost use Rattle.fixed_word.specs.Decimal.{natural_text};
 ghost use Rattle.fixed_calc.specs.Text.{SetTo, line_text, register_text};
 ghost use Rattle.fixed_calc.specs.Demo.{demo_text, drawn_line, next_state};
@@ -51,16 +51,18 @@ fn push_number(script: &mut Vec<u8>, number: u64) -> Result<(), AllocError>
     script.extend_from_slice(&buffer[start..])
 }
 
-/// Adds the name of a register.
+/// Adds the name of a register of one digit.
+#[tactic(auto, using(crate::proofs::Shown::one_digit))]
 fn push_register(script: &mut Vec<u8>, register: u64) -> Result<(), AllocError>
+    requires { register < 10 }
     ensures { OnOk result (script.new.items ≡ script.old.items ++ register_text register) }
 {
-    script.extend_from_slice(b"r")?;
-    push_number(script, register)
+    script.extend_from_slice(&[b'r', b'0' + register as u8])
 }
 
-/// Adds a line that sets a register.
+/// Adds a line that sets a register of one digit.
 fn push_set(script: &mut Vec<u8>, dest: u64, number: u64) -> Result<(), AllocError>
+    requires { dest < 10 }
     ensures { OnOk result (script.new.items ≡ script.old.items ++ line_text (SetTo dest (pos number))) }
 {
     push_register(script, dest)?;
@@ -69,13 +71,15 @@ fn push_set(script: &mut Vec<u8>, dest: u64, number: u64) -> Result<(), AllocErr
 }
 
 /// Adds a line of an operation: its destination, the names of its policy and operation, and its operands,
-/// with a space before all but the first.
+/// with a space before all but the first. All registers have one digit.
 fn push_applied(
     script: &mut Vec<u8>,
     dest: u64,
     names: &[u8],
     operands: &[u64],
 ) -> Result<(), AllocError>
+    requires dest { dest < 10 }
+    requires operands { EachIndex operands.now (λ k. slice_index operands.now k < 10) }
     ensures { OnOk result (script.new.items ≡ script.old.items
         ++ register_text dest ++ names.now ++ flat_map (λ operand. 32 ∷ register_text operand) operands.now) }
 {

@@ -16,7 +16,13 @@ use std::alloc::{AllocError, Global};
 fn count_of(text: &[u8], byte: u8) -> usize
     ensures { result ≡ count_by (λ b. b == byte) text.now }
 {
-    text.iter().filter(|b| **b == byte).count()
+    let mut count = 0;
+    for b in text {
+        if *b == byte {
+            count += 1;
+        }
+    }
+    count
 }
 
 /// The three lines of a summary.
