@@ -1,0 +1,4 @@
+pub mod Answered
+pub mod Conditions
+pub mod OneRow
+pub mod Fitting
