@@ -1,0 +1,90 @@
+#!/usr/bin/env python3
+"""Compares the calls that docs/POLICIES.md and docs/NUMBERS.md list with those of the sources.
+
+    python3 checks/typed_calls.py
+
+Silent with status 0 where both are the same; otherwise it names each call that stands in one place alone and ends with 1.
+"""
+import re
+import sys
+from pathlib import Path
+
+TOP = Path(__file__).resolve().parent.parent
+POLICIES = ["checked", "overflowing", "wrapping", "saturating", "strict", "unwrapped"]
+
+
+def table_rows(page):
+    """The rows of the page's tables, each as a list of cells, without the rulers."""
+    for line in (TOP / "docs" / page).read_text().splitlines():
+        if line.startswith("| ") and not line.startswith("|-"):
+            yield [cell.strip() for cell in line.strip("|").split("|")]
+
+
+def source(crate):
+    return "\n".join(path.read_text() for path in sorted((TOP / "crates" / crate / "src").glob("*.rt")))
+
+
+def blocks(text, head):
+    """The bodies of the blocks that begin with a line of that form and end with a brace at its start."""
+    return [match.group(2) for match in re.finditer(rf"^({head}).*?\{{\n(.*?)^\}}", text, re.M | re.S)]
+
+
+def listed_calls():
+    """The calls of the table of operations, with their parameters."""
+    calls = {}
+    columns = None
+    for cells in table_rows("POLICIES.md"):
+        if cells[0] == "Operation":
+            columns = [[word for word in POLICIES if word in cell] for cell in cells]
+        elif columns and len(cells) == len(columns):
+            for name in re.findall(r"`(\w+)`", cells[0]):
+                for policies, cell in zip(columns, cells):
+                    for policy in policies if cell == "yes" else []:
+                        calls[f"{policy}_{name}"] = cells[1].strip("`")
+    return calls
+
+
+def written_calls():
+    """The calls of the traits of policies, with their parameters."""
+    calls = {}
+    for crate in ["fixed_policy", "fixed_strict"]:
+        for body in blocks(source(crate), "pub trait"):
+            for name, parameters in re.findall(r"^    fn (\w+)\((.*?)\)(?: ->|\n)", body, re.M | re.S):
+                words = " ".join(parameters.split()).rstrip(",")
+                calls[name] = re.sub(r"^(&mut )?self(, )?", "", words)
+    return calls
+
+
+def listed_numbers():
+    """The names of the first column, but for operators."""
+    return {name for cells in table_rows("NUMBERS.md") for name in re.findall(r"`(\w+)`", cells[0])}
+
+
+def written_numbers():
+    """The public calls of `Fixed`, its constants, and what stands in `Held` and `Default`."""
+    text = source("fixed_num")
+    inherent = "\n".join(blocks(text, r"impl<[^\n]*> Fixed<"))
+    traits = "\n".join(blocks(text, "pub trait (?:Constants|Held)") + blocks(text, r"impl<[^\n]*> Default for Fixed<"))
+    return set(re.findall(r"^    pub fn (\w+)", inherent, re.M)) | set(
+        re.findall(r"^    (?:fn|const) (\w+)", traits, re.M))
+
+
+def differences(page, listed, written):
+    lines = [f"{name}: in docs/{page} alone" for name in sorted(set(listed) - set(written))]
+    return lines + [f"{name}: in the source alone" for name in sorted(set(written) - set(listed))]
+
+
+def main():
+    listed, written = listed_calls(), written_calls()
+    wrong = differences("POLICIES.md", listed, written)
+    wrong += [f"{name}: takes ({written[name]}), and ({listed[name]}) in docs/POLICIES.md"
+              for name in sorted(set(listed) & set(written)) if listed[name] != written[name]]
+    wrong += differences("NUMBERS.md", listed_numbers(), written_numbers())
+    if not listed or not listed_numbers():
+        wrong.append("a page lists no calls")
+    print("\n".join(wrong), end="\n" if wrong else "")
+    return 1 if wrong else 0
+
+
+if __name__ == "__main__":
+    sys.exit(main())

@@ -1,0 +1,41 @@
+-- The machine's answer to a line is what the policy makes of the line's row.
+use Rattle.std.proofs.Common.{◌≡◌, ℕ, Bool, true, false, [], ◌∷◌, refl, sym, inl, inr}
+use Rattle.fixed_calc.specs.declared.names.WordName.{WordName}
+use Rattle.fixed_calc.specs.declared.names.WordName.TheVariants.{I8, I16, I32, I64, U8, U16, U32, U64}
+use Rattle.fixed_calc.specs.declared.names.Policy.{Policy}
+use Rattle.fixed_calc.specs.declared.names.Op.{Op}
+use Rattle.fixed_calc.specs.declared.answer.Answer.{Answer}
+use Rattle.fixed_calc.specs.Text.{ThreeRegisters}
+use Rattle.fixed_calc.specs.Machine.{State, Taken, row_of, answer, is_signed, width}
+use Rattle.fixed_calc.specs.Projection.{project}
+use Rattle.fixed_word.specs.Format.{IsWidth}
+use Rattle.fixed_agree.specs.Agreement.{MachineAnswers}
+
+pub projected : (signed : Bool) (n : ℕ) (policy : Policy) (op : Op) (operands : Taken) (result : Answer) → result ≡ project policy signed n (row_of op operands) → MachineAnswers signed n policy op operands result
+unfolding MachineAnswers answer
+projected signed n policy op operands result e s dest xs f g h = rw (f, g, h) (sym e)
+
+-- each sign and width is that of a word
+pub record HasWord (signed : Bool) (n : ℕ) : Type 0 where
+  pub word : WordName
+  pub sign : is_signed word ≡ signed
+  pub bits : width word ≡ n
+
+pub has_word : (signed : Bool) (n : ℕ) → IsWidth n → HasWord signed n
+has_word true n (inl e) = record { word = I8; sign = refl; bits = sym e }
+has_word true n (inr (inl e)) = record { word = I16; sign = refl; bits = sym e }
+has_word true n (inr (inr (inl e))) = record { word = I32; sign = refl; bits = sym e }
+has_word true n (inr (inr (inr e))) = record { word = I64; sign = refl; bits = sym e }
+has_word false n (inl e) = record { word = U8; sign = refl; bits = sym e }
+has_word false n (inr (inl e)) = record { word = U16; sign = refl; bits = sym e }
+has_word false n (inr (inr (inl e))) = record { word = U32; sign = refl; bits = sym e }
+has_word false n (inr (inr (inr e))) = record { word = U64; sign = refl; bits = sym e }
+
+-- the line on three registers that hold the operands
+pub projection_of : (signed : Bool) (n : ℕ) (policy : Policy) (op : Op) (operands : Taken) (result : Answer) → IsWidth n → MachineAnswers signed n policy op operands result → result ≡ project policy signed n (row_of op operands)
+unfolding MachineAnswers answer
+projection_of signed n policy op operands result w h =
+    let found = has_word signed n w in
+    let s : State = record { word = found.word; registers = operands.a ∷ operands.b ∷ operands.c ∷ [] } in
+    let e = h s 0 (ThreeRegisters 0 1 2) found.sign found.bits refl in
+    rw (found.sign, found.bits) at (sym e)

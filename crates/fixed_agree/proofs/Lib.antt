@@ -1,0 +1,5 @@
+pub mod Answered
+pub mod Conditions
+pub mod OneRow
+pub mod Fitting
+pub mod Guarded

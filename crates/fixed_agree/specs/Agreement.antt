@@ -1,0 +1,51 @@
+-- What the machine answers to a line, by what the line's registers hold.
+use Rattle.std.specs.Prelude.{◌≡◌, ℕ, ℤ, pos, Bool, true, false, Option, Some, None}
+use Rattle.fixed_calc.specs.declared.names.Policy.{Policy}
+use Rattle.fixed_calc.specs.declared.names.Op.{Op}
+use Rattle.fixed_calc.specs.declared.answer.Answer.{Answer}
+use Rattle.fixed_calc.specs.Text.{Operands, OneRegister, TwoRegisters, RegisterAndInt, Apply, shape, shape_of}
+use Rattle.fixed_calc.specs.Machine.{State, Cell, Taken, taken, empty_cell, integer, is_signed, width, answer}
+use Rattle.fixed_calc.specs.Offered.{is_offered}
+use Rattle.fixed_word.specs.Format.{InRange}
+
+-- in every state of a word of that sign and width, the machine answers `result` to every line of the policy and the
+-- operation that takes these operands
+unfoldable pub MachineAnswers : Bool → ℕ → Policy → Op → Taken → Answer → Type 0
+MachineAnswers signed n policy op operands result =
+    (s : State) (dest : ℕ) (xs : Operands) → is_signed s.word ≡ signed → width s.word ≡ n → taken s.registers xs ≡ operands → answer s (Apply dest policy op xs) ≡ result
+
+-- ---- operands, by their bits and fractions
+abbrev pub holding : ℤ → ℕ → Cell
+holding a f = record { bits = a; fraction = f }
+
+abbrev pub one_operand : ℤ → ℕ → Taken
+one_operand a f = record { a = holding a f; b = empty_cell; c = empty_cell }
+
+abbrev pub two_operands : ℤ → ℤ → ℕ → Taken
+two_operands a b f = record { a = holding a f; b = holding b f; c = empty_cell }
+
+abbrev pub with_integer : ℤ → ℤ → ℕ → Taken
+with_integer a k f = record { a = holding a f; b = integer k; c = empty_cell }
+
+-- three operands, and then their fractions
+abbrev pub three_operands : ℤ → ℤ → ℤ → ℕ → ℕ → ℕ → Taken
+three_operands a b c f g h = record { a = holding a f; b = holding b g; c = holding c h }
+
+-- ---- operations, by the operands that they take
+abbrev pub IsUnary : Op → Type 0
+IsUnary op = shape op ≡ shape_of (OneRegister 0)
+
+abbrev pub IsBinary : Op → Type 0
+IsBinary op = shape op ≡ shape_of (TwoRegisters 0 0)
+
+abbrev pub IsByInteger : Op → Type 0
+IsByInteger op = shape op ≡ shape_of (RegisterAndInt 0 (pos 0))
+
+-- the operation is offered under the policy on words of both signs
+abbrev pub IsOfferedOnBoth : Policy → Op → Type 0
+IsOfferedOnBoth policy op = (is_offered true policy op ≡ true) × (is_offered false policy op ≡ true)
+
+-- the row is defined and its number fits
+abbrev pub RowFits : Bool → ℕ → Option ℤ → Type 0
+RowFits signed n None = ⊥
+RowFits signed n (Some x) = InRange signed n x

@@ -1,0 +1,17 @@
+-- How the answers of four policies on the same operands agree.
+use Rattle.std.specs.Prelude.{◌≡◌, ℕ, ℤ, Bool, Option, Some, if◌then◌else◌}
+use Rattle.fixed_calc.specs.declared.answer.Answer.TheVariants.{Absent, Bits, Flagged}
+use Rattle.fixed_agree.specs.declared.forms.Forms.{Forms}
+use Rattle.fixed_word.specs.Format.{clamp}
+
+-- of a row that is a number: checked answers a value exactly where the verdict of overflowing is false, and then that of
+-- overflowing; wrapping answers the value of overflowing, and saturating the nearest number that fits
+pub record FormsAgree (signed : Bool) (n : ℕ) (row : Option ℤ) (forms : Forms) : Type 0 where
+  pub number : ℤ
+  pub defined : row ≡ Some number
+  pub value : ℤ
+  pub verdict : Bool
+  pub by_overflowing : forms.overflowing ≡ Flagged value verdict
+  pub by_checked : forms.checked ≡ (if verdict then Absent else Bits value)
+  pub by_wrapping : forms.wrapping ≡ Bits value
+  pub by_saturating : forms.saturating ≡ Bits (clamp signed n number)

@@ -1,0 +1,27 @@
+-- The laws of the agreement.
+use Rattle.std.specs.Prelude.{◌≡◌, ◌↔◌, ℕ, ℤ, Bool, Option, None, IsSome}
+use Rattle.std.specs.Bool.{⊤}
+use Rattle.fixed_calc.specs.declared.names.Policy.{Policy}
+use Rattle.fixed_calc.specs.declared.names.Policy.TheVariants.{Checked, Strict}
+use Rattle.fixed_calc.specs.declared.names.Op.{Op}
+use Rattle.fixed_calc.specs.declared.answer.Answer.{Answer}
+use Rattle.fixed_calc.specs.Machine.{Taken, row_of, row_causes, first_of}
+use Rattle.fixed_calc.specs.Projection.{project}
+use Rattle.fixed_word.specs.Format.{IsWidth}
+use Rattle.fixed_agree.specs.Agreement.{MachineAnswers, RowFits}
+
+-- the machine answers what the policy makes of the row, and nothing else
+abbrev pub AnswersTheProjection : Type 0
+AnswersTheProjection =
+    (signed : Bool) (n : ℕ) (policy : Policy) (op : Op) (operands : Taken) (result : Answer) → IsWidth n → MachineAnswers signed n policy op operands result ↔ (result ≡ project policy signed n (row_of op operands))
+
+-- the condition of the typed calls of a policy, on their row
+abbrev pub Condition : Policy → Bool → ℕ → Option ℤ → Type 0
+Condition Checked signed n row = ⊤
+Condition Strict signed n row = RowFits signed n row
+Condition _ signed n row = IsSome row
+
+-- the machine finds no cause in the row exactly under that condition
+abbrev pub NoCauseExactly : Type 0
+NoCauseExactly =
+    (signed : Bool) (n k : ℕ) (policy : Policy) (op : Op) (row : Option ℤ) → (first_of (row_causes signed n policy op row k) ≡ None) ↔ Condition policy signed n row

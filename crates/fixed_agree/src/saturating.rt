@@ -1,0 +1,118 @@
+//! The saturating calls answer what the machine answers under `saturating`: the nearest number that fits.
+#![tactic(auto, unfolding(fixed_calc::specs::Rows::exact, fixed_calc::specs::Offered::is_offered), using(crate::proofs::Answered::projected))]
+
+ghost use Rattle.std.specs.Prelude.{◌≡◌, ◌≤◌, true, false, IsSome};
+ghost use Rattle.fixed_calc.specs.Machine.{row_of};
+ghost use Rattle.fixed_calc.specs.Offered.{is_offered};
+ghost use Rattle.fixed_agree.specs.Agreement.{IsBinary, IsByInteger, IsOfferedOnBoth, IsUnary, MachineAnswers, one_operand, three_operands, two_operands, with_integer};
+
+use crate::answers::bits_of;
+use fixed_calc::{Answer, Op, Policy};
+use fixed_num::Fixed;
+use fixed_strict::{Saturating, SaturatingMulAdd, SaturatingProducts, SaturatingSigned};
+use fixed_word::{SignedWord, UnsignedWord, Word};
+
+/// An operation on one number that is offered on all words. Condition: the row is defined.
+pub fn unary<T: Word, const F: u32>(op: Op, a: Fixed<T, F>) -> Answer
+    requires fraction { F ≤ T.BITS }
+    requires shape { IsUnary op }
+    requires offered { IsOfferedOnBoth Policy.Saturating op }
+    requires row { IsSome (row_of op (one_operand (T.value a.bits) F)) }
+    ensures { MachineAnswers T.SIGNED T.BITS Policy.Saturating op (one_operand (T.value a.bits) F) result }
+{
+    match op {
+        Op::Neg => bits_of(a.saturating_neg()),
+        Op::Recip => bits_of(a.saturating_recip()),
+        Op::Sqrt => bits_of(a.saturating_sqrt()),
+        _ => Answer::Absent,
+    }
+}
+
+/// An operation on one number that is offered on signed words. Condition: the row is defined.
+pub fn unary_signed<T: SignedWord, const F: u32>(op: Op, a: Fixed<T, F>) -> Answer
+    requires fraction { F ≤ T.BITS }
+    requires shape { IsUnary op }
+    requires offered { is_offered true Policy.Saturating op ≡ true }
+    requires row { IsSome (row_of op (one_operand (T.value a.bits) F)) }
+    ensures { MachineAnswers T.SIGNED T.BITS Policy.Saturating op (one_operand (T.value a.bits) F) result }
+{
+    match op {
+        Op::Abs => bits_of(a.saturating_abs()),
+        Op::Signum => bits_of(a.saturating_signum()),
+        _ => unary(op, a),
+    }
+}
+
+/// An operation on one number that is offered on unsigned words. Condition: the row is defined.
+pub fn unary_unsigned<T: UnsignedWord, const F: u32>(op: Op, a: Fixed<T, F>) -> Answer
+    requires fraction { F ≤ T.BITS }
+    requires shape { IsUnary op }
+    requires offered { is_offered false Policy.Saturating op ≡ true }
+    requires row { IsSome (row_of op (one_operand (T.value a.bits) F)) }
+    ensures { MachineAnswers T.SIGNED T.BITS Policy.Saturating op (one_operand (T.value a.bits) F) result }
+{
+    unary(op, a)
+}
+
+/// An operation on two numbers. Condition: the row is defined.
+pub fn binary<T: Word, const F: u32>(op: Op, a: Fixed<T, F>, b: Fixed<T, F>) -> Answer
+    requires fraction { F ≤ T.BITS }
+    requires shape { IsBinary op }
+    requires offered { is_offered T.SIGNED Policy.Saturating op ≡ true }
+    requires row { IsSome (row_of op (two_operands (T.value a.bits) (T.value b.bits) F)) }
+    ensures { MachineAnswers T.SIGNED T.BITS Policy.Saturating op (two_operands (T.value a.bits) (T.value b.bits) F) result }
+{
+    match op {
+        Op::Add => bits_of(a.saturating_add(b)),
+        Op::Sub => bits_of(a.saturating_sub(b)),
+        Op::Mul => bits_of(a.saturating_mul(b)),
+        Op::Div => bits_of(a.saturating_div(b)),
+        Op::DivEuclid => bits_of(a.saturating_div_euclid(b)),
+        Op::NextMultipleOf => bits_of(a.saturating_next_multiple_of(b)),
+        Op::Dist => bits_of(a.saturating_dist(b)),
+        _ => Answer::Absent,
+    }
+}
+
+/// An operation on a number and an integer. Condition: the row is defined.
+pub fn by_integer<T: Word, const F: u32>(op: Op, a: Fixed<T, F>, k: T) -> Answer
+    requires fraction { F ≤ T.BITS }
+    requires shape { IsByInteger op }
+    requires offered { is_offered T.SIGNED Policy.Saturating op ≡ true }
+    requires row { IsSome (row_of op (with_integer (T.value a.bits) (T.value k) F)) }
+    ensures { MachineAnswers T.SIGNED T.BITS Policy.Saturating op (with_integer (T.value a.bits) (T.value k) F) result }
+{
+    match op {
+        Op::MulInt => bits_of(a.saturating_mul_int(k)),
+        Op::DivInt => bits_of(a.saturating_div_int(k)),
+        Op::DivEuclidInt => bits_of(a.saturating_div_euclid_int(k)),
+        Op::RemEuclidInt => bits_of(a.saturating_rem_euclid_int(k)),
+        _ => Answer::Absent,
+    }
+}
+
+/// Multiply-add: `a` times `mul`, plus `add`.
+pub fn mul_add<T: Word, const F: u32, const G: u32>(
+    a: Fixed<T, F>,
+    mul: Fixed<T, G>,
+    add: Fixed<T, F>,
+) -> Answer
+    requires fraction { G ≤ T.BITS }
+    ensures { MachineAnswers T.SIGNED T.BITS Policy.Saturating Op.MulAdd (three_operands (T.value a.bits) (T.value mul.bits) (T.value add.bits) F G F) result }
+{
+    bits_of(a.saturating_mul_add(mul, add))
+}
+
+/// Sum with a product: `sum` plus `a` times `b`.
+pub fn add_prod<T: Word, const F: u32, const A: u32, const B: u32>(
+    sum: Fixed<T, F>,
+    a: Fixed<T, A>,
+    b: Fixed<T, B>,
+) -> Answer
+    requires fraction { F ≤ T.BITS }
+    requires a { A ≤ T.BITS }
+    requires b { B ≤ T.BITS }
+    ensures { MachineAnswers T.SIGNED T.BITS Policy.Saturating Op.AddProd (three_operands (T.value sum.bits) (T.value a.bits) (T.value b.bits) F A B) result }
+{
+    bits_of(sum.saturating_add_prod(a, b))
+}
