@@ -16,7 +16,8 @@ pub fn unary<T: Word, const F: u32>(op: Op, a: Fixed<T, F>) -> Answer
     requires fraction { F ≤ T.BITS }
     requires shape { IsUnary op }
     requires offered { IsOfferedOnBoth Policy.Checked op }
-    ensures { MachineAnswers T.SIGNED T.BITS Policy.Checked op (one_operand (T.value a.bits) F) result }
+    ensures { MachineAnswers T.SIGNED T.BITS Policy.Checked op
+        (one_operand (T.value a.bits) F) result }
 {
     match op {
         Op::Neg => bits_or_absent(a.checked_neg()),
@@ -31,7 +32,8 @@ pub fn unary_signed<T: SignedWord, const F: u32>(op: Op, a: Fixed<T, F>) -> Answ
     requires fraction { F ≤ T.BITS }
     requires shape { IsUnary op }
     requires offered { is_offered true Policy.Checked op ≡ true }
-    ensures { MachineAnswers T.SIGNED T.BITS Policy.Checked op (one_operand (T.value a.bits) F) result }
+    ensures { MachineAnswers T.SIGNED T.BITS Policy.Checked op
+        (one_operand (T.value a.bits) F) result }
 {
     match op {
         Op::Abs => bits_or_absent(a.checked_abs()),
@@ -45,7 +47,8 @@ pub fn unary_unsigned<T: UnsignedWord, const F: u32>(op: Op, a: Fixed<T, F>) -> 
     requires fraction { F ≤ T.BITS }
     requires shape { IsUnary op }
     requires offered { is_offered false Policy.Checked op ≡ true }
-    ensures { MachineAnswers T.SIGNED T.BITS Policy.Checked op (one_operand (T.value a.bits) F) result }
+    ensures { MachineAnswers T.SIGNED T.BITS Policy.Checked op
+        (one_operand (T.value a.bits) F) result }
 {
     match op {
         Op::NextPowerOfTwo => bits_or_absent(a.checked_next_power_of_two()),
@@ -58,7 +61,8 @@ pub fn binary<T: Word, const F: u32>(op: Op, a: Fixed<T, F>, b: Fixed<T, F>) -> 
     requires fraction { F ≤ T.BITS }
     requires shape { IsBinary op }
     requires offered { is_offered T.SIGNED Policy.Checked op ≡ true }
-    ensures { MachineAnswers T.SIGNED T.BITS Policy.Checked op (two_operands (T.value a.bits) (T.value b.bits) F) result }
+    ensures { MachineAnswers T.SIGNED T.BITS Policy.Checked op
+        (two_operands (T.value a.bits) (T.value b.bits) F) result }
 {
     match op {
         Op::Add => bits_or_absent(a.checked_add(b)),
@@ -79,7 +83,8 @@ pub fn by_integer<T: Word, const F: u32>(op: Op, a: Fixed<T, F>, k: T) -> Answer
     requires fraction { F ≤ T.BITS }
     requires shape { IsByInteger op }
     requires offered { is_offered T.SIGNED Policy.Checked op ≡ true }
-    ensures { MachineAnswers T.SIGNED T.BITS Policy.Checked op (with_integer (T.value a.bits) (T.value k) F) result }
+    ensures { MachineAnswers T.SIGNED T.BITS Policy.Checked op
+        (with_integer (T.value a.bits) (T.value k) F) result }
 {
     match op {
         Op::MulInt => bits_or_absent(a.checked_mul_int(k)),
@@ -98,7 +103,8 @@ pub fn mul_add<T: Word, const F: u32, const G: u32>(
     add: Fixed<T, F>,
 ) -> Answer
     requires fraction { G ≤ T.BITS }
-    ensures { MachineAnswers T.SIGNED T.BITS Policy.Checked Op.MulAdd (three_operands (T.value a.bits) (T.value mul.bits) (T.value add.bits) F G F) result }
+    ensures { MachineAnswers T.SIGNED T.BITS Policy.Checked Op.MulAdd
+        (three_operands (T.value a.bits) (T.value mul.bits) (T.value add.bits) F G F) result }
 {
     bits_or_absent(a.checked_mul_add(mul, add))
 }
@@ -112,7 +118,8 @@ pub fn add_prod<T: Word, const F: u32, const A: u32, const B: u32>(
     requires fraction { F ≤ T.BITS }
     requires a { A ≤ T.BITS }
     requires b { B ≤ T.BITS }
-    ensures { MachineAnswers T.SIGNED T.BITS Policy.Checked Op.AddProd (three_operands (T.value sum.bits) (T.value a.bits) (T.value b.bits) F A B) result }
+    ensures { MachineAnswers T.SIGNED T.BITS Policy.Checked Op.AddProd
+        (three_operands (T.value sum.bits) (T.value a.bits) (T.value b.bits) F A B) result }
 {
     bits_or_absent(sum.checked_add_prod(a, b))
 }

@@ -59,7 +59,8 @@ pub fn binary<T: Word, const F: u32>(op: Op, a: Fixed<T, F>, b: Fixed<T, F>) -> 
     requires shape { IsBinary op }
     requires offered { is_offered T.SIGNED Policy.Overflowing op ≡ true }
     requires row { IsSome (row_of op (two_operands (T.value a.bits) (T.value b.bits) F)) }
-    ensures { FormsAgree T.SIGNED T.BITS (row_of op (two_operands (T.value a.bits) (T.value b.bits) F)) result }
+    ensures { FormsAgree T.SIGNED T.BITS
+        (row_of op (two_operands (T.value a.bits) (T.value b.bits) F)) result }
 {
     Forms {
         checked: checked::binary(op, a, b),
@@ -75,7 +76,8 @@ pub fn by_integer<T: Word, const F: u32>(op: Op, a: Fixed<T, F>, k: T) -> Forms
     requires shape { IsByInteger op }
     requires offered { is_offered T.SIGNED Policy.Overflowing op ≡ true }
     requires row { IsSome (row_of op (with_integer (T.value a.bits) (T.value k) F)) }
-    ensures { FormsAgree T.SIGNED T.BITS (row_of op (with_integer (T.value a.bits) (T.value k) F)) result }
+    ensures { FormsAgree T.SIGNED T.BITS
+        (row_of op (with_integer (T.value a.bits) (T.value k) F)) result }
 {
     Forms {
         checked: checked::by_integer(op, a, k),
@@ -92,7 +94,8 @@ pub fn mul_add<T: Word, const F: u32, const G: u32>(
     add: Fixed<T, F>,
 ) -> Forms
     requires { G ≤ T.BITS }
-    ensures { FormsAgree T.SIGNED T.BITS (row_of Op.MulAdd (three_operands (T.value a.bits) (T.value mul.bits) (T.value add.bits) F G F)) result }
+    ensures { FormsAgree T.SIGNED T.BITS (row_of Op.MulAdd
+        (three_operands (T.value a.bits) (T.value mul.bits) (T.value add.bits) F G F)) result }
 {
     Forms {
         checked: checked::mul_add(a, mul, add),
@@ -111,7 +114,8 @@ pub fn add_prod<T: Word, const F: u32, const A: u32, const B: u32>(
     requires fraction { F ≤ T.BITS }
     requires a { A ≤ T.BITS }
     requires b { B ≤ T.BITS }
-    ensures { FormsAgree T.SIGNED T.BITS (row_of Op.AddProd (three_operands (T.value sum.bits) (T.value a.bits) (T.value b.bits) F A B)) result }
+    ensures { FormsAgree T.SIGNED T.BITS (row_of Op.AddProd
+        (three_operands (T.value sum.bits) (T.value a.bits) (T.value b.bits) F A B)) result }
 {
     Forms {
         checked: checked::add_prod(sum, a, b),

@@ -18,7 +18,8 @@ pub fn unary<T: Word, const F: u32>(op: Op, a: Fixed<T, F>) -> Answer
     requires shape { IsUnary op }
     requires offered { IsOfferedOnBoth Policy.Saturating op }
     requires row { IsSome (row_of op (one_operand (T.value a.bits) F)) }
-    ensures { MachineAnswers T.SIGNED T.BITS Policy.Saturating op (one_operand (T.value a.bits) F) result }
+    ensures { MachineAnswers T.SIGNED T.BITS Policy.Saturating op
+        (one_operand (T.value a.bits) F) result }
 {
     match op {
         Op::Neg => bits_of(a.saturating_neg()),
@@ -34,7 +35,8 @@ pub fn unary_signed<T: SignedWord, const F: u32>(op: Op, a: Fixed<T, F>) -> Answ
     requires shape { IsUnary op }
     requires offered { is_offered true Policy.Saturating op ≡ true }
     requires row { IsSome (row_of op (one_operand (T.value a.bits) F)) }
-    ensures { MachineAnswers T.SIGNED T.BITS Policy.Saturating op (one_operand (T.value a.bits) F) result }
+    ensures { MachineAnswers T.SIGNED T.BITS Policy.Saturating op
+        (one_operand (T.value a.bits) F) result }
 {
     match op {
         Op::Abs => bits_of(a.saturating_abs()),
@@ -49,7 +51,8 @@ pub fn unary_unsigned<T: UnsignedWord, const F: u32>(op: Op, a: Fixed<T, F>) -> 
     requires shape { IsUnary op }
     requires offered { is_offered false Policy.Saturating op ≡ true }
     requires row { IsSome (row_of op (one_operand (T.value a.bits) F)) }
-    ensures { MachineAnswers T.SIGNED T.BITS Policy.Saturating op (one_operand (T.value a.bits) F) result }
+    ensures { MachineAnswers T.SIGNED T.BITS Policy.Saturating op
+        (one_operand (T.value a.bits) F) result }
 {
     unary(op, a)
 }
@@ -60,7 +63,8 @@ pub fn binary<T: Word, const F: u32>(op: Op, a: Fixed<T, F>, b: Fixed<T, F>) -> 
     requires shape { IsBinary op }
     requires offered { is_offered T.SIGNED Policy.Saturating op ≡ true }
     requires row { IsSome (row_of op (two_operands (T.value a.bits) (T.value b.bits) F)) }
-    ensures { MachineAnswers T.SIGNED T.BITS Policy.Saturating op (two_operands (T.value a.bits) (T.value b.bits) F) result }
+    ensures { MachineAnswers T.SIGNED T.BITS Policy.Saturating op
+        (two_operands (T.value a.bits) (T.value b.bits) F) result }
 {
     match op {
         Op::Add => bits_of(a.saturating_add(b)),
@@ -80,7 +84,8 @@ pub fn by_integer<T: Word, const F: u32>(op: Op, a: Fixed<T, F>, k: T) -> Answer
     requires shape { IsByInteger op }
     requires offered { is_offered T.SIGNED Policy.Saturating op ≡ true }
     requires row { IsSome (row_of op (with_integer (T.value a.bits) (T.value k) F)) }
-    ensures { MachineAnswers T.SIGNED T.BITS Policy.Saturating op (with_integer (T.value a.bits) (T.value k) F) result }
+    ensures { MachineAnswers T.SIGNED T.BITS Policy.Saturating op
+        (with_integer (T.value a.bits) (T.value k) F) result }
 {
     match op {
         Op::MulInt => bits_of(a.saturating_mul_int(k)),
@@ -98,7 +103,8 @@ pub fn mul_add<T: Word, const F: u32, const G: u32>(
     add: Fixed<T, F>,
 ) -> Answer
     requires fraction { G ≤ T.BITS }
-    ensures { MachineAnswers T.SIGNED T.BITS Policy.Saturating Op.MulAdd (three_operands (T.value a.bits) (T.value mul.bits) (T.value add.bits) F G F) result }
+    ensures { MachineAnswers T.SIGNED T.BITS Policy.Saturating Op.MulAdd
+        (three_operands (T.value a.bits) (T.value mul.bits) (T.value add.bits) F G F) result }
 {
     bits_of(a.saturating_mul_add(mul, add))
 }
@@ -112,7 +118,8 @@ pub fn add_prod<T: Word, const F: u32, const A: u32, const B: u32>(
     requires fraction { F ≤ T.BITS }
     requires a { A ≤ T.BITS }
     requires b { B ≤ T.BITS }
-    ensures { MachineAnswers T.SIGNED T.BITS Policy.Saturating Op.AddProd (three_operands (T.value sum.bits) (T.value a.bits) (T.value b.bits) F A B) result }
+    ensures { MachineAnswers T.SIGNED T.BITS Policy.Saturating Op.AddProd
+        (three_operands (T.value sum.bits) (T.value a.bits) (T.value b.bits) F A B) result }
 {
     bits_of(sum.saturating_add_prod(a, b))
 }

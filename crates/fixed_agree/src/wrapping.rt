@@ -18,7 +18,8 @@ pub fn unary<T: Word, const F: u32>(op: Op, a: Fixed<T, F>) -> Answer
     requires shape { IsUnary op }
     requires offered { IsOfferedOnBoth Policy.Wrapping op }
     requires row { IsSome (row_of op (one_operand (T.value a.bits) F)) }
-    ensures { MachineAnswers T.SIGNED T.BITS Policy.Wrapping op (one_operand (T.value a.bits) F) result }
+    ensures { MachineAnswers T.SIGNED T.BITS Policy.Wrapping op
+        (one_operand (T.value a.bits) F) result }
 {
     match op {
         Op::Neg => bits_of(a.wrapping_neg()),
@@ -34,7 +35,8 @@ pub fn unary_signed<T: SignedWord, const F: u32>(op: Op, a: Fixed<T, F>) -> Answ
     requires shape { IsUnary op }
     requires offered { is_offered true Policy.Wrapping op ≡ true }
     requires row { IsSome (row_of op (one_operand (T.value a.bits) F)) }
-    ensures { MachineAnswers T.SIGNED T.BITS Policy.Wrapping op (one_operand (T.value a.bits) F) result }
+    ensures { MachineAnswers T.SIGNED T.BITS Policy.Wrapping op
+        (one_operand (T.value a.bits) F) result }
 {
     match op {
         Op::Abs => bits_of(a.wrapping_abs()),
@@ -49,7 +51,8 @@ pub fn unary_unsigned<T: UnsignedWord, const F: u32>(op: Op, a: Fixed<T, F>) -> 
     requires shape { IsUnary op }
     requires offered { is_offered false Policy.Wrapping op ≡ true }
     requires row { IsSome (row_of op (one_operand (T.value a.bits) F)) }
-    ensures { MachineAnswers T.SIGNED T.BITS Policy.Wrapping op (one_operand (T.value a.bits) F) result }
+    ensures { MachineAnswers T.SIGNED T.BITS Policy.Wrapping op
+        (one_operand (T.value a.bits) F) result }
 {
     match op {
         Op::NextPowerOfTwo => bits_of(a.wrapping_next_power_of_two()),
@@ -63,7 +66,8 @@ pub fn binary<T: Word, const F: u32>(op: Op, a: Fixed<T, F>, b: Fixed<T, F>) -> 
     requires shape { IsBinary op }
     requires offered { is_offered T.SIGNED Policy.Wrapping op ≡ true }
     requires row { IsSome (row_of op (two_operands (T.value a.bits) (T.value b.bits) F)) }
-    ensures { MachineAnswers T.SIGNED T.BITS Policy.Wrapping op (two_operands (T.value a.bits) (T.value b.bits) F) result }
+    ensures { MachineAnswers T.SIGNED T.BITS Policy.Wrapping op
+        (two_operands (T.value a.bits) (T.value b.bits) F) result }
 {
     match op {
         Op::Add => bits_of(a.wrapping_add(b)),
@@ -83,7 +87,8 @@ pub fn by_integer<T: Word, const F: u32>(op: Op, a: Fixed<T, F>, k: T) -> Answer
     requires shape { IsByInteger op }
     requires offered { is_offered T.SIGNED Policy.Wrapping op ≡ true }
     requires row { IsSome (row_of op (with_integer (T.value a.bits) (T.value k) F)) }
-    ensures { MachineAnswers T.SIGNED T.BITS Policy.Wrapping op (with_integer (T.value a.bits) (T.value k) F) result }
+    ensures { MachineAnswers T.SIGNED T.BITS Policy.Wrapping op
+        (with_integer (T.value a.bits) (T.value k) F) result }
 {
     match op {
         Op::MulInt => bits_of(a.wrapping_mul_int(k)),
@@ -101,7 +106,8 @@ pub fn mul_add<T: Word, const F: u32, const G: u32>(
     add: Fixed<T, F>,
 ) -> Answer
     requires fraction { G ≤ T.BITS }
-    ensures { MachineAnswers T.SIGNED T.BITS Policy.Wrapping Op.MulAdd (three_operands (T.value a.bits) (T.value mul.bits) (T.value add.bits) F G F) result }
+    ensures { MachineAnswers T.SIGNED T.BITS Policy.Wrapping Op.MulAdd
+        (three_operands (T.value a.bits) (T.value mul.bits) (T.value add.bits) F G F) result }
 {
     bits_of(a.wrapping_mul_add(mul, add))
 }
@@ -115,7 +121,8 @@ pub fn add_prod<T: Word, const F: u32, const A: u32, const B: u32>(
     requires fraction { F ≤ T.BITS }
     requires a { A ≤ T.BITS }
     requires b { B ≤ T.BITS }
-    ensures { MachineAnswers T.SIGNED T.BITS Policy.Wrapping Op.AddProd (three_operands (T.value sum.bits) (T.value a.bits) (T.value b.bits) F A B) result }
+    ensures { MachineAnswers T.SIGNED T.BITS Policy.Wrapping Op.AddProd
+        (three_operands (T.value sum.bits) (T.value a.bits) (T.value b.bits) F A B) result }
 {
     bits_of(sum.wrapping_add_prod(a, b))
 }

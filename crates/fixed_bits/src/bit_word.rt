@@ -20,7 +20,8 @@ pub trait BitWord: Word {
 
     /// Each bit turned into the other.
     fn not(self) -> Self
-        ensures { bit_list Self.BITS (Self.value result) ≡ complement (bit_list Self.BITS (Self.value self)) }
+        ensures { bit_list Self.BITS (Self.value result)
+            ≡ complement (bit_list Self.BITS (Self.value self)) }
     {
         word_of(!pattern_of(self) as u128)
     }
@@ -44,7 +45,8 @@ pub trait BitWord: Word {
     /// Each bit 1 where it differs between the words.
     fn xor(self, other: Self) -> Self
         ensures { bit_list Self.BITS (Self.value result)
-            ≡ zip_with differ (bit_list Self.BITS (Self.value self)) (bit_list Self.BITS (Self.value other)) }
+            ≡ zip_with differ (bit_list Self.BITS (Self.value self))
+            (bit_list Self.BITS (Self.value other)) }
     {
         word_of(pattern_of(self) as u128 ^ pattern_of(other) as u128)
     }
@@ -72,7 +74,8 @@ pub trait BitWord: Word {
 
     /// Bit i goes to place `i + by` modulo n.
     fn rotate_left(self, by: u32) -> Self
-        ensures { IsRotated by (bit_list Self.BITS (Self.value self)) (bit_list Self.BITS (Self.value result)) }
+        ensures { IsRotated by (bit_list Self.BITS (Self.value self))
+            (bit_list Self.BITS (Self.value result)) }
     {
         let width = Self::BITS;
         word_of(rotated(pattern_of(self), by % width, width))
@@ -80,7 +83,8 @@ pub trait BitWord: Word {
 
     /// Bit i goes to place `i - by` modulo n, so that a rotation to the left by `by` brings it back.
     fn rotate_right(self, by: u32) -> Self
-        ensures { IsRotated by (bit_list Self.BITS (Self.value result)) (bit_list Self.BITS (Self.value self)) }
+        ensures { IsRotated by (bit_list Self.BITS (Self.value result))
+            (bit_list Self.BITS (Self.value self)) }
     {
         let width = Self::BITS;
         word_of(rotated(pattern_of(self), width - by % width, width))
@@ -109,14 +113,16 @@ pub trait BitWord: Word {
 
     /// The bytes in the other order.
     fn swap_bytes(self) -> Self
-        ensures { byte_list Self.BITS (Self.value result) ≡ reverse (byte_list Self.BITS (Self.value self)) }
+        ensures { byte_list Self.BITS (Self.value result)
+            ≡ reverse (byte_list Self.BITS (Self.value self)) }
     {
         Self::from_be_bytes(self.to_le_bytes())
     }
 
     /// The bits in the other order.
     fn reverse_bits(self) -> Self
-        ensures { bit_list Self.BITS (Self.value result) ≡ reverse (bit_list Self.BITS (Self.value self)) }
+        ensures { bit_list Self.BITS (Self.value result)
+            ≡ reverse (bit_list Self.BITS (Self.value self)) }
     {
         word_of((pattern_of(self).reverse_bits() >> (64 - Self::BITS)) as u128)
     }

@@ -8,7 +8,8 @@ ghost use Rattle.fixed_bits.specs.Digits.{IsDigitList, bit_list, byte_list};
 /// list the list of n/8 digits from 0 to 255 that does.
 pub fn list_law()
     ensures bits { (n : ℕ) (a : ℤ) → IsWidth n → IsDigitList 2 n a (bit_list n a) }
-    ensures only_bits { (n : ℕ) (a : ℤ) (ds : List ℕ) → IsWidth n → IsDigitList 2 n a ds → bit_list n a ≡ ds }
+    ensures only_bits { (n : ℕ) (a : ℤ) (ds : List ℕ)
+        → IsWidth n → IsDigitList 2 n a ds → bit_list n a ≡ ds }
     ensures bytes { (n : ℕ) (a : ℤ) → IsWidth n → IsDigitList 256 (n / 8) a (byte_list n a) }
     ensures only_bytes { (n : ℕ) (a : ℤ) (ds : List ℕ) → IsWidth n → IsDigitList 256 (n / 8) a ds
         → byte_list n a ≡ ds }
@@ -17,8 +18,10 @@ pub fn list_law()
 /// Of the numbers that fit, one alone has a given bit list, and one alone a given byte list: so bits
 /// and bytes read back give the number.
 pub fn read_back_law()
-    ensures bits { (signed : Bool) (n : ℕ) (x y : ℤ) → IsWidth n → InRange signed n x → InRange signed n y
+    ensures bits { (signed : Bool) (n : ℕ) (x y : ℤ)
+        → IsWidth n → InRange signed n x → InRange signed n y
         → bit_list n x ≡ bit_list n y → x ≡ y }
-    ensures bytes { (signed : Bool) (n : ℕ) (x y : ℤ) → IsWidth n → InRange signed n x → InRange signed n y
+    ensures bytes { (signed : Bool) (n : ℕ) (x y : ℤ)
+        → IsWidth n → InRange signed n x → InRange signed n y
         → byte_list n x ≡ byte_list n y → x ≡ y }
 {}

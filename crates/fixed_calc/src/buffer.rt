@@ -60,7 +60,8 @@ impl Buffer {
     /// Adds the text of an answer, for which there is room.
     pub(crate) fn push(&mut self, answer: Answer)
         requires { length self.old.bytes + length (answer_text answer) ≤ self.old.room }
-        ensures { self.new ≡ record { bytes = self.old.bytes ++ answer_text answer; room = self.old.room } }
+        ensures { self.new
+            ≡ record { bytes = self.old.bytes ++ answer_text answer; room = self.old.room } }
     {
         push_answer(&mut self.held, answer);
     }

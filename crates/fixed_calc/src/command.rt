@@ -31,7 +31,8 @@ fn is_line_count(number: u128) -> bool
 /// The number of lines that a word asks for.
 fn lines_of(word: &[u8]) -> Option<u32>
     ensures some { IfSome result (λ n. (natural_text n ≡ word.now) × (1 ≤ n) × (n ≤ most_lines)) }
-    ensures none { IfNone result ((n : ℕ) → natural_text n ≡ word.now → 1 ≤ n → n ≤ most_lines → ⊥) }
+    ensures none { IfNone result
+        ((n : ℕ) → natural_text n ≡ word.now → 1 ≤ n → n ≤ most_lines → ⊥) }
 {
     let Some(number) = natural_of(word) else {
         return None;

@@ -63,7 +63,8 @@ fn push_register(script: &mut Vec<u8>, register: u64) -> Result<(), AllocError>
 /// Adds a line that sets a register of one digit.
 fn push_set(script: &mut Vec<u8>, dest: u64, number: u64) -> Result<(), AllocError>
     requires { dest < 10 }
-    ensures { OnOk result (script.new.items ≡ script.old.items ++ line_text (SetTo dest (pos number))) }
+    ensures { OnOk result (script.new.items
+        ≡ script.old.items ++ line_text (SetTo dest (pos number))) }
 {
     push_register(script, dest)?;
     script.extend_from_slice(b" set ")?;
@@ -81,7 +82,8 @@ fn push_applied(
     requires dest { dest < 10 }
     requires operands { EachIndex operands.now (λ k. slice_index operands.now k < 10) }
     ensures { OnOk result (script.new.items ≡ script.old.items
-        ++ register_text dest ++ names.now ++ flat_map (λ operand. 32 ∷ register_text operand) operands.now) }
+        ++ register_text dest ++ names.now
+        ++ flat_map (λ operand. 32 ∷ register_text operand) operands.now) }
 {
     push_register(script, dest)?;
     script.extend_from_slice(names)?;

@@ -102,7 +102,8 @@ pub fn parse_header(piece: &[u8]) -> Option<Header<'_>>
     // None exactly where the piece is no header's text.
     ensures none { IfNone result ((header : ScriptHeader) → header_text header ≡ piece.now → ⊥) }
     // Otherwise the capped form of the header whose text it is.
-    ensures found { IfSome result (λ read. (header : ScriptHeader) × (header_text header ≡ piece.now) × (read ≡ capped_header header)) }
+    ensures found { IfSome result (λ read. (header : ScriptHeader)
+        × (header_text header ≡ piece.now) × (read ≡ capped_header header)) }
 {
     let (name, fractions) = cut(piece);
     let Some(word) = word_of(name) else {

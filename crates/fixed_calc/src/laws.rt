@@ -33,7 +33,8 @@ pub fn cap_law()
 /// The output of a script is at most twice as long as the script; so the room that is made for it
 /// suffices.
 pub fn output_law()
-    ensures { (script bytes : List ℕ) → meaning script ≡ Output bytes → length bytes ≤ 2 * length script }
+    ensures { (script bytes : List ℕ)
+        → meaning script ≡ Output bytes → length bytes ≤ 2 * length script }
 {}
 
 /// Where a number fits, checked, saturating, wrapping and overflowing all answer it, as strict does.
@@ -47,6 +48,7 @@ pub fn policy_law()
 /// answers, one for each line.
 pub fn demo_law()
     ensures no_cause { (n : ℕ) → (run_of (demo_text n)).fault ≡ None }
-    ensures output { (n : ℕ) → meaning (demo_text n) ≡ Output (flat_map answer_text (demo_answers n)) }
+    ensures output { (n : ℕ)
+        → meaning (demo_text n) ≡ Output (flat_map answer_text (demo_answers n)) }
     ensures one_each { (n : ℕ) → length (demo_answers n) ≡ n }
 {}

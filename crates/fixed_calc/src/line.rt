@@ -180,9 +180,11 @@ fn read_line(mut tokens: Tokens<'_>) -> Option<Line>
 /// project's own).
 pub fn parse_line(piece: &[u8]) -> Option<Line>
     // None exactly where the piece is no line's text.
-    ensures none { IfNone result ((line : ScriptLine) → IsLine line → line_text line ≡ piece.now → ⊥) }
+    ensures none { IfNone result
+        ((line : ScriptLine) → IsLine line → line_text line ≡ piece.now → ⊥) }
     // Otherwise the capped form of the line whose text it is.
-    ensures found { IfSome result (λ read. (line : ScriptLine) × IsLine line × (line_text line ≡ piece.now) × (denoted read ≡ Some (capped line))) }
+    ensures found { IfSome result (λ read. (line : ScriptLine)
+        × IsLine line × (line_text line ≡ piece.now) × (denoted read ≡ Some (capped line))) }
 {
     read_line(Tokens::new(piece))
 }

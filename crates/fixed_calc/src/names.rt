@@ -127,7 +127,8 @@ fn after<'a>(bytes: &'a [u8], name: &[u8]) -> Option<&'a [u8]>
 /// after it.
 #[inline(always)]
 pub(crate) fn front_policy(bytes: &[u8]) -> Option<(Policy, &[u8])>
-    ensures { IfSome result (λ found. tokens_of bytes.now ≡ policy_name found.0 ∷ tokens_of found.1.now) }
+    ensures { IfSome result (λ found. tokens_of bytes.now
+        ≡ policy_name found.0 ∷ tokens_of found.1.now) }
 {
     if let Some(rest) = after(bytes, b"checked ") {
         Some((Policy::Checked, rest))
@@ -200,7 +201,8 @@ pub(crate) fn op_of(token: &[u8]) -> Option<Op>
 /// The operation that is the first token, if its name has so many bytes, and what comes after its space.
 #[inline(always)]
 fn front_op_of(bytes: &[u8], length: usize) -> Option<(Op, &[u8])>
-    ensures { IfSome result (λ found. next_by op_named (tokens_of bytes.now) ≡ Some (found.0, tokens_of found.1.now)) }
+    ensures { IfSome result (λ found. next_by op_named (tokens_of bytes.now)
+        ≡ Some (found.0, tokens_of found.1.now)) }
 {
     if bytes.len() <= length || bytes[length] != b' ' {
         return None;
@@ -213,7 +215,8 @@ fn front_op_of(bytes: &[u8], length: usize) -> Option<(Op, &[u8])>
 /// another length than the most common ones.
 #[inline(always)]
 pub(crate) fn front_op(bytes: &[u8]) -> Option<(Op, &[u8])>
-    ensures { IfSome result (λ found. next_by op_named (tokens_of bytes.now) ≡ Some (found.0, tokens_of found.1.now)) }
+    ensures { IfSome result (λ found. next_by op_named (tokens_of bytes.now)
+        ≡ Some (found.0, tokens_of found.1.now)) }
 {
     if let Some(found) = front_op_of(bytes, 3) {
         Some(found)

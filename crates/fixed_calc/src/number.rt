@@ -17,7 +17,9 @@ const ROOM: u64 = 1_844_674_407_370_955_161;
 /// `2^64`, which is no value of any word.
 #[derive(Clone, Copy, Debug, PartialEq, Eq)]
 pub struct Literal {
+    /// Whether a minus stands before the magnitude.
     pub below_zero: bool,
+    /// The magnitude, capped.
     pub magnitude: u128,
 }
 
@@ -68,7 +70,8 @@ fn front_digits(bytes: &[u8]) -> (u64, usize)
 /// The first token, a natural number of 64 bits, and what comes after its space. None also where the
 /// token is another.
 pub(crate) fn front_natural(bytes: &[u8]) -> Option<(u64, Option<&[u8]>)>
-    ensures { IfSome result (λ found. next_by natural_at (tokens_of bytes.now) ≡ Some (found.0, tokens_left found.1)) }
+    ensures { IfSome result (λ found. next_by natural_at (tokens_of bytes.now)
+        ≡ Some (found.0, tokens_left found.1)) }
 {
     let (value, end) = front_digits(bytes);
     if end == 0 || (end > 1 && bytes[0] == b'0') {
@@ -108,7 +111,8 @@ pub(crate) fn register_of(token: &[u8]) -> Option<u128>
 
 /// As `front_natural`, of a register.
 pub(crate) fn front_register(bytes: &[u8]) -> Option<(u64, Option<&[u8]>)>
-    ensures { IfSome result (λ found. next_by register_at (tokens_of bytes.now) ≡ Some (found.0, tokens_left found.1)) }
+    ensures { IfSome result (λ found. next_by register_at (tokens_of bytes.now)
+        ≡ Some (found.0, tokens_left found.1)) }
 {
     if !bytes.is_empty() && bytes[0] == b'r' {
         front_natural(&bytes[1..])
@@ -120,7 +124,8 @@ pub(crate) fn front_register(bytes: &[u8]) -> Option<(u64, Option<&[u8]>)>
 /// The same of a register of one digit.
 #[inline(always)]
 pub(crate) fn front_short_register(bytes: &[u8]) -> Option<(u8, Option<&[u8]>)>
-    ensures { IfSome result (λ found. next_by register_at (tokens_of bytes.now) ≡ Some (found.0, tokens_left found.1)) }
+    ensures { IfSome result (λ found. next_by register_at (tokens_of bytes.now)
+        ≡ Some (found.0, tokens_left found.1)) }
 {
     if bytes.len() < 2 || bytes[0] != b'r' || !bytes[1].is_ascii_digit() {
         return None;
@@ -165,7 +170,8 @@ pub(crate) fn literal_of(token: &[u8]) -> Option<Literal>
 
 /// As `front_natural`, of a whole number.
 pub(crate) fn front_literal(bytes: &[u8]) -> Option<(Literal, Option<&[u8]>)>
-    ensures { IfSome result (λ found. next_by literal_at (tokens_of bytes.now) ≡ Some (found.0, tokens_left found.1)) }
+    ensures { IfSome result (λ found. next_by literal_at (tokens_of bytes.now)
+        ≡ Some (found.0, tokens_left found.1)) }
 {
     let (below_zero, number) = sign_of(bytes);
     let (value, rest) = front_natural(number)?;

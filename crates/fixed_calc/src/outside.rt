@@ -42,6 +42,7 @@ pub trait Sink {
     fn write(&mut self, bytes: &[u8]) -> Result<usize, Refusal>
         ensures within { IfOk result (λ k. k ≤ length bytes.now) }
         ensures some { 0 < length bytes.now → IfOk result (λ k. 0 < k) }
-        ensures bytes { WriteAppends (state self.old).taken (state self.new).taken result bytes.now }
+        ensures bytes { WriteAppends
+            (state self.old).taken (state self.new).taken result bytes.now }
         ensures counts { TellsRefusals (state self.old) (state self.new) result };
 }

@@ -33,7 +33,8 @@ pub(crate) fn run_piece(
     number: u64,
 ) -> Result<Answer, Cause>
     requires { All (IsCell word) (cells_of registers.old) }
-    ensures tells { StepTells (state_in word (cells_of registers.old)) (line_at piece.now) number result (cells_of registers.new) }
+    ensures tells { StepTells (state_in word (cells_of registers.old))
+        (line_at piece.now) number result (cells_of registers.new) }
     ensures kept { All (IsCell word) (cells_of registers.new) }
 {
     match read_line(piece) {

@@ -117,7 +117,8 @@ pub(crate) fn answer_in(
     requires a { IsCell word (cell_of taken.now.a) }
     requires b { IsCell word (cell_of taken.now.b) }
     requires c { IsCell word (cell_of taken.now.c) }
-    ensures { RowTells (is_signed word) (width word) policy op (row_of op (taken_of taken.now)) number result }
+    ensures { RowTells (is_signed word)
+        (width word) policy op (row_of op (taken_of taken.now)) number result }
 {
     match word {
         WordName::I8 => answer_as::<i8>(policy, op, taken, number),

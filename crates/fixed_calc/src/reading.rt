@@ -20,7 +20,8 @@ pub(crate) enum Stop {
 
 /// All that the source has left. The limit is tested before the script grows.
 pub(crate) fn read_all<S: Source>(alloc: Global, source: &mut S) -> Result<Vec<u8>, Stop>
-    ensures whole { IfOk result (λ script. ReadWhole (S.state source.old).left (S.state source.new).left (λ input. script.items ≡ input)) }
+    ensures whole { IfOk result (λ script. ReadWhole
+        (S.state source.old).left (S.state source.new).left (λ input. script.items ≡ input)) }
     ensures too_long { IfTold (S.state source.old).left (S.state source.new).left (λ input rest.
         IsErrOf result Stop.TooLong ↔ TookTooMuch input rest) }
     ensures faults { ReadTells (S.state source.old).faults (S.state source.new).faults result }

@@ -48,9 +48,11 @@ fn has_wide(header: &Header<'_>) -> bool
 
 /// A register of bits 0 for each fraction.
 fn push_fractions(registers: &mut Vec<Register>, header: &Header<'_>)
-    requires room { vec_len registers.old + length header.now.fractions ≤ vec_capacity registers.old }
+    requires room { vec_len registers.old + length header.now.fractions
+        ≤ vec_capacity registers.old }
     requires narrow { is_wide header.now.word header.now.fractions ≡ false }
-    ensures items { cells_of registers.new.items ≡ cells_of registers.old.items ++ zeros header.now.fractions }
+    ensures items { cells_of registers.new.items
+        ≡ cells_of registers.old.items ++ zeros header.now.fractions }
     ensures capacity { vec_capacity registers.new ≡ vec_capacity registers.old }
 {
     let mut fractions = header.fractions();
@@ -119,7 +121,8 @@ impl Room {
     /// A room without a header, registers and answers, for as many registers as the script's first piece has
     /// spaces and for twice the script's length of answer bytes; or want of memory (this project's own).
     pub fn for_script(alloc: Global, script: &[u8]) -> Result<Room, AllocError>
-        ensures { IfOk result (λ room. IsEmptySpace (spaces script.now) (2 * length script.now) room) }
+        ensures { IfOk result
+            (λ room. IsEmptySpace (spaces script.now) (2 * length script.now) room) }
     {
         let most = spaces_of(script);
         Ok(Room {
@@ -151,8 +154,11 @@ impl Room {
     /// register and no answer (this project's own).
     pub fn declare(&mut self, header: &Header<'_>) -> Result<(), Cause>
         requires { length header.now.fractions ≤ self.old.register_room }
-        ensures ok { OnOk result ((is_wide header.now.word header.now.fractions ≡ false) × IsStarted header.now self.new) }
-        ensures err { IfErr result (λ cause. (is_wide header.now.word header.now.fractions ≡ true) × (cause ≡ Cause.OutOfRange 1) × IsEmptySpace self.old.register_room self.old.answer_room self.new) }
+        ensures ok { OnOk result ((is_wide header.now.word header.now.fractions ≡ false)
+            × IsStarted header.now self.new) }
+        ensures err { IfErr result (λ cause. (is_wide header.now.word header.now.fractions ≡ true)
+            × (cause ≡ Cause.OutOfRange 1)
+            × IsEmptySpace self.old.register_room self.old.answer_room self.new) }
         ensures kept { KeepsRoom self.old self.new }
     {
         self.clear();
@@ -167,7 +173,8 @@ impl Room {
     /// Runs one line.
     pub(crate) fn step_line(&mut self, line: &Line, number: u64) -> Result<Answer, Cause>
         requires { IsSome self.old.word }
-        ensures tells { IfSome self.old.word (λ word. StepTells (state_in word self.old.registers) (denoted line.now) number result self.new.registers) }
+        ensures tells { IfSome self.old.word (λ word. StepTells (state_in word self.old.registers)
+            (denoted line.now) number result self.new.registers) }
         ensures kept { KeepsTheRest self.old self.new }
     {
         let word = self.word.unwrap();
@@ -177,7 +184,8 @@ impl Room {
     /// Runs one piece.
     pub(crate) fn step_piece(&mut self, piece: &[u8], number: u64) -> Result<Answer, Cause>
         requires { IsSome self.old.word }
-        ensures tells { IfSome self.old.word (λ word. StepTells (state_in word self.old.registers) (line_at piece.now) number result self.new.registers) }
+        ensures tells { IfSome self.old.word (λ word. StepTells (state_in word self.old.registers)
+            (line_at piece.now) number result self.new.registers) }
         ensures kept { KeepsTheRest self.old self.new }
     {
         let word = self.word.unwrap();
@@ -239,7 +247,8 @@ impl Room {
 /// project's own).
 pub fn step(room: &mut Room, line: &Line, number: u64) -> Result<Answer, Cause>
     requires { IsSome room.old.word }
-    ensures tells { IfSome room.old.word (λ word. StepTells (state_in word room.old.registers) (denoted line.now) number result room.new.registers) }
+    ensures tells { IfSome room.old.word (λ word. StepTells
+        (state_in word room.old.registers) (denoted line.now) number result room.new.registers) }
     ensures kept { KeepsTheRest room.old room.new }
 {
     room.step_line(line, number)

@@ -19,7 +19,8 @@ fn run_line(word: WordName, rest: &[u8], number: u64, room: &mut Room) -> Result
     requires word { room.old.word ≡ Some word }
     requires space { length room.old.answers + 2 * length rest.now ≤ room.old.answer_room }
     ensures ok { IfOk result (λ end. HasMoved word number rest.now end room.old room.new) }
-    ensures err { IfErr result (λ cause. RunTells (after room.old.answers (lines_run (state_in word room.old.registers) number (pieces rest.now))) (Err cause) room.new) }
+    ensures err { IfErr result (λ cause. RunTells (after room.old.answers (lines_run
+        (state_in word room.old.registers) number (pieces rest.now))) (Err cause) room.new) }
     ensures kept { KeepsRoom room.old room.new }
 {
     let end = piece_end(rest);
@@ -36,7 +37,8 @@ fn run_line(word: WordName, rest: &[u8], number: u64, room: &mut Room) -> Result
 fn run_lines(word: WordName, lines: &[u8], room: &mut Room) -> Result<(), Cause>
     requires word { room.old.word ≡ Some word }
     requires space { length room.old.answers + 2 * length lines.now ≤ room.old.answer_room }
-    ensures tells { RunTells (after room.old.answers (lines_run (state_in word room.old.registers) 2 (pieces lines.now))) result room.new }
+    ensures tells { RunTells (after room.old.answers
+        (lines_run (state_in word room.old.registers) 2 (pieces lines.now))) result room.new }
     ensures kept { KeepsRoom room.old room.new }
 {
     let mut at = 0;

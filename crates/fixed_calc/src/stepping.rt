@@ -245,8 +245,10 @@ fn applied(
 ) -> Result<Answer, Cause>
     requires is { IsApplied (seen line.now) policy op }
     requires offered { unoffered word (seen line.now) ≡ false }
-    requires in_range { out_of_range (state_in word (cells_of registers.now)) (seen line.now) ≡ false }
-    requires one_fraction { mismatched (state_in word (cells_of registers.now)) (seen line.now) ≡ false }
+    requires in_range { out_of_range
+        (state_in word (cells_of registers.now)) (seen line.now) ≡ false }
+    requires one_fraction { mismatched
+        (state_in word (cells_of registers.now)) (seen line.now) ≡ false }
     requires cells { All (IsCell word) (cells_of registers.now) }
     ensures { AnswerTells (state_in word (cells_of registers.now)) (seen line.now) number result }
 {
@@ -262,8 +264,10 @@ fn answer_of(
     number: u64,
 ) -> Result<Answer, Cause>
     requires offered { unoffered word (seen line.now) ≡ false }
-    requires in_range { out_of_range (state_in word (cells_of registers.now)) (seen line.now) ≡ false }
-    requires one_fraction { mismatched (state_in word (cells_of registers.now)) (seen line.now) ≡ false }
+    requires in_range { out_of_range
+        (state_in word (cells_of registers.now)) (seen line.now) ≡ false }
+    requires one_fraction { mismatched
+        (state_in word (cells_of registers.now)) (seen line.now) ≡ false }
     requires cells { All (IsCell word) (cells_of registers.now) }
     ensures { AnswerTells (state_in word (cells_of registers.now)) (seen line.now) number result }
 {
@@ -330,7 +334,8 @@ pub(crate) fn step_registers(
     number: u64,
 ) -> Result<Answer, Cause>
     requires { All (IsCell word) (cells_of registers.old) }
-    ensures tells { StepTells (state_in word (cells_of registers.old)) (denoted line.now) number result (cells_of registers.new) }
+    ensures tells { StepTells (state_in word (cells_of registers.old))
+        (denoted line.now) number result (cells_of registers.new) }
     ensures kept { All (IsCell word) (cells_of registers.new) }
 {
     if !is_shaped(line) {

@@ -19,7 +19,8 @@ pub struct SureSource {
 impl SureSource {
     /// A source of these bytes.
     pub fn new(bytes: Vec<u8>) -> SureSource
-        ensures { ⟦<SureSource as Source>⟧.state result ≡ record { left = Some bytes.items; faults = 0 } }
+        ensures { ⟦<SureSource as Source>⟧.state result
+            ≡ record { left = Some bytes.items; faults = 0 } }
     {
         SureSource { bytes, at: 0 }
     }
@@ -30,7 +31,8 @@ impl Source for SureSource {
 
     fn read(&mut self, buf: &mut [u8]) -> Result<usize, Failed>
         ensures within { IfOk result (λ k. k ≤ length buf.new) }
-        ensures bytes { ReadConsumes (⟦<SureSource as Source>⟧.state self.old).left (⟦<SureSource as Source>⟧.state self.new).left result buf.new }
+        ensures bytes { ReadConsumes (⟦<SureSource as Source>⟧.state self.old).left
+            (⟦<SureSource as Source>⟧.state self.new).left result buf.new }
         ensures faults { TellsFaults 0 0 result }
         ensures sure { IsOk result }
     {
@@ -51,7 +53,8 @@ pub struct SureSink {
 impl SureSink {
     /// A sink that has taken nothing.
     pub fn new(alloc: Global) -> SureSink
-        ensures { ⟦<SureSink as Sink>⟧.state result ≡ record { taken = Some []; faults = 0; shortages = 0 } }
+        ensures { ⟦<SureSink as Sink>⟧.state result
+            ≡ record { taken = Some []; faults = 0; shortages = 0 } }
     {
         SureSink {
             bytes: Vec::new(alloc),
@@ -73,10 +76,13 @@ impl Sink for SureSink {
     fn write(&mut self, bytes: &[u8]) -> Result<usize, Refusal>
         ensures within { IfOk result (λ k. k ≤ length bytes.now) }
         ensures some { 0 < length bytes.now → IfOk result (λ k. 0 < k) }
-        ensures bytes { WriteAppends (⟦<SureSink as Sink>⟧.state self.old).taken (⟦<SureSink as Sink>⟧.state self.new).taken result bytes.now }
-        ensures counts { TellsRefusals (⟦<SureSink as Sink>⟧.state self.old) (⟦<SureSink as Sink>⟧.state self.new) result }
+        ensures bytes { WriteAppends (⟦<SureSink as Sink>⟧.state self.old).taken
+            (⟦<SureSink as Sink>⟧.state self.new).taken result bytes.now }
+        ensures counts { TellsRefusals
+            (⟦<SureSink as Sink>⟧.state self.old) (⟦<SureSink as Sink>⟧.state self.new) result }
         ensures sure { IsErrOf result Refusal.Failed → ⊥ }
-        ensures short { IfErr result (λ _. (⟦<SureSink as Sink>⟧.state self.new).shortages ≡ next_count (⟦<SureSink as Sink>⟧.state self.old).shortages) }
+        ensures short { IfErr result (λ _. (⟦<SureSink as Sink>⟧.state self.new).shortages
+            ≡ next_count (⟦<SureSink as Sink>⟧.state self.old).shortages) }
     {
         match self.bytes.extend_from_slice(bytes) {
             Ok(()) => Ok(bytes.len()),

@@ -67,7 +67,8 @@ pub(crate) fn cut(piece: &[u8]) -> (&[u8], Option<&[u8]>)
 /// The register that is the first token, and what comes after its space.
 #[inline(never)]
 fn register_in(piece: &[u8]) -> Option<(u128, Option<&[u8]>)>
-    ensures some { IfSome result (λ found. next_by register_at (tokens_of piece.now) ≡ Some (found.0, tokens_left found.1)) }
+    ensures some { IfSome result
+        (λ found. next_by register_at (tokens_of piece.now) ≡ Some (found.0, tokens_left found.1)) }
     ensures none { IfNone result (next_by register_at (tokens_of piece.now) ≡ None) }
 {
     if let Some((number, rest)) = front_register(piece) {
@@ -81,7 +82,8 @@ fn register_in(piece: &[u8]) -> Option<(u128, Option<&[u8]>)>
 /// The whole number that is the first token, and what comes after its space.
 #[inline(never)]
 fn literal_in(piece: &[u8]) -> Option<(Literal, Option<&[u8]>)>
-    ensures some { IfSome result (λ found. next_by literal_at (tokens_of piece.now) ≡ Some (found.0, tokens_left found.1)) }
+    ensures some { IfSome result
+        (λ found. next_by literal_at (tokens_of piece.now) ≡ Some (found.0, tokens_left found.1)) }
     ensures none { IfNone result (next_by literal_at (tokens_of piece.now) ≡ None) }
 {
     if let Some(found) = front_literal(piece) {
@@ -116,7 +118,8 @@ impl<'a> Tokens<'a> {
 
     /// Takes the next token.
     pub(crate) fn take(&mut self) -> Option<&'a [u8]>
-        ensures { MatchOption result ((self.old ≡ []) × (self.new ≡ [])) (λ t. self.old ≡ t.now ∷ self.new) }
+        ensures { MatchOption result
+            ((self.old ≡ []) × (self.new ≡ [])) (λ t. self.old ≡ t.now ∷ self.new) }
     {
         let piece = self.rest?;
         let (token, rest) = cut(piece);

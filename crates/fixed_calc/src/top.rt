@@ -17,15 +17,18 @@ use std::alloc::Global;
 
 /// Reads, runs and writes.
 fn work<S: Source, K: Sink>(alloc: Global, source: &mut S, sink: &mut K) -> Status
-    ensures done { DoneTells (S.state source.old) (S.state source.new) (K.state sink.old) (K.state sink.new) result }
+    ensures done { DoneTells (S.state source.old)
+        (S.state source.new) (K.state sink.old) (K.state sink.new) result }
     ensures script { ScriptTells (S.state source.old) (S.state source.new) result }
     ensures no_usage { result ≢ Status.Usage }
     ensures read_fault { ReadFaultTells (S.state source.old) (S.state source.new) result }
     ensures too_long { TooLongTells (S.state source.old) (S.state source.new) result }
-    ensures write_fault { WriteFaultTells (S.state source.old) (S.state source.new) (K.state sink.old) (K.state sink.new) result }
+    ensures write_fault { WriteFaultTells
+        (S.state source.old) (S.state source.new) (K.state sink.old) (K.state sink.new) result }
     ensures memory { MemoryTells (S.state source.old) (K.state sink.old) (K.state sink.new) result }
     ensures nothing_written { WritesNothing result → sink.new ≡ sink.old }
-    ensures complete { CompleteTells (S.state source.old) (S.state source.new) (K.state sink.old) (K.state sink.new) result }
+    ensures complete { CompleteTells
+        (S.state source.old) (S.state source.new) (K.state sink.old) (K.state sink.new) result }
 {
     let script = match read_all(alloc, source) {
         Ok(script) => script,
@@ -72,19 +75,28 @@ fn status_of<S: Source, K: Sink>(
     source: &mut S,
     sink: &mut K,
 ) -> Status
-    ensures done { words.now ≡ [] → DoneTells (S.state source.old) (S.state source.new) (K.state sink.old) (K.state sink.new) result }
+    ensures done { words.now ≡ [] → DoneTells
+        (S.state source.old) (S.state source.new) (K.state sink.old) (K.state sink.new) result }
     ensures script { words.now ≡ [] → ScriptTells (S.state source.old) (S.state source.new) result }
     ensures usage { result ≡ Status.Usage ↔ IsNoCommand words.now }
     ensures nothing_read { words.now ≢ [] → source.new ≡ source.old }
-    ensures read_fault { words.now ≡ [] → ReadFaultTells (S.state source.old) (S.state source.new) result }
-    ensures too_long { words.now ≡ [] → TooLongTells (S.state source.old) (S.state source.new) result }
-    ensures write_fault { words.now ≡ [] → WriteFaultTells (S.state source.old) (S.state source.new) (K.state sink.old) (K.state sink.new) result }
-    ensures memory { words.now ≡ [] → MemoryTells (S.state source.old) (K.state sink.old) (K.state sink.new) result }
+    ensures read_fault { words.now ≡ []
+        → ReadFaultTells (S.state source.old) (S.state source.new) result }
+    ensures too_long { words.now ≡ []
+        → TooLongTells (S.state source.old) (S.state source.new) result }
+    ensures write_fault { words.now ≡ [] → WriteFaultTells
+        (S.state source.old) (S.state source.new) (K.state sink.old) (K.state sink.new) result }
+    ensures memory { words.now ≡ []
+        → MemoryTells (S.state source.old) (K.state sink.old) (K.state sink.new) result }
     ensures nothing_written { WritesNothing result → sink.new ≡ sink.old }
-    ensures complete { words.now ≡ [] → CompleteTells (S.state source.old) (S.state source.new) (K.state sink.old) (K.state sink.new) result }
-    ensures demo_done { (n : ℕ) → IsDemo words.now n → DemoDoneTells n (K.state sink.old) (K.state sink.new) result }
-    ensures demo_write_fault { (n : ℕ) → IsDemo words.now n → DemoWriteFaultTells n (K.state sink.old) (K.state sink.new) result }
-    ensures demo_memory { (n : ℕ) → IsDemo words.now n → DemoMemoryTells n (K.state sink.old) (K.state sink.new) result }
+    ensures complete { words.now ≡ [] → CompleteTells
+        (S.state source.old) (S.state source.new) (K.state sink.old) (K.state sink.new) result }
+    ensures demo_done { (n : ℕ) → IsDemo words.now n
+        → DemoDoneTells n (K.state sink.old) (K.state sink.new) result }
+    ensures demo_write_fault { (n : ℕ) → IsDemo words.now n
+        → DemoWriteFaultTells n (K.state sink.old) (K.state sink.new) result }
+    ensures demo_memory { (n : ℕ) → IsDemo words.now n
+        → DemoMemoryTells n (K.state sink.old) (K.state sink.new) result }
     ensures demo_statuses { (n : ℕ) → IsDemo words.now n → IsDemoStatus result }
 {
     match command_of(words) {
@@ -109,19 +121,28 @@ pub fn calc_main<S: Source, K: Sink, E: Sink>(
     sink: &mut K,
     errors: &mut E,
 ) -> Status
-    ensures done { words.now ≡ [] → DoneTells (S.state source.old) (S.state source.new) (K.state sink.old) (K.state sink.new) result }
+    ensures done { words.now ≡ [] → DoneTells
+        (S.state source.old) (S.state source.new) (K.state sink.old) (K.state sink.new) result }
     ensures script { words.now ≡ [] → ScriptTells (S.state source.old) (S.state source.new) result }
     ensures usage { result ≡ Status.Usage ↔ IsNoCommand words.now }
     ensures nothing_read { words.now ≢ [] → source.new ≡ source.old }
-    ensures read_fault { words.now ≡ [] → ReadFaultTells (S.state source.old) (S.state source.new) result }
-    ensures too_long { words.now ≡ [] → TooLongTells (S.state source.old) (S.state source.new) result }
-    ensures write_fault { words.now ≡ [] → WriteFaultTells (S.state source.old) (S.state source.new) (K.state sink.old) (K.state sink.new) result }
-    ensures memory { words.now ≡ [] → MemoryTells (S.state source.old) (K.state sink.old) (K.state sink.new) result }
+    ensures read_fault { words.now ≡ []
+        → ReadFaultTells (S.state source.old) (S.state source.new) result }
+    ensures too_long { words.now ≡ []
+        → TooLongTells (S.state source.old) (S.state source.new) result }
+    ensures write_fault { words.now ≡ [] → WriteFaultTells
+        (S.state source.old) (S.state source.new) (K.state sink.old) (K.state sink.new) result }
+    ensures memory { words.now ≡ []
+        → MemoryTells (S.state source.old) (K.state sink.old) (K.state sink.new) result }
     ensures nothing_written { WritesNothing result → sink.new ≡ sink.old }
-    ensures complete { words.now ≡ [] → CompleteTells (S.state source.old) (S.state source.new) (K.state sink.old) (K.state sink.new) result }
-    ensures demo_done { (n : ℕ) → IsDemo words.now n → DemoDoneTells n (K.state sink.old) (K.state sink.new) result }
-    ensures demo_write_fault { (n : ℕ) → IsDemo words.now n → DemoWriteFaultTells n (K.state sink.old) (K.state sink.new) result }
-    ensures demo_memory { (n : ℕ) → IsDemo words.now n → DemoMemoryTells n (K.state sink.old) (K.state sink.new) result }
+    ensures complete { words.now ≡ [] → CompleteTells
+        (S.state source.old) (S.state source.new) (K.state sink.old) (K.state sink.new) result }
+    ensures demo_done { (n : ℕ) → IsDemo words.now n
+        → DemoDoneTells n (K.state sink.old) (K.state sink.new) result }
+    ensures demo_write_fault { (n : ℕ) → IsDemo words.now n
+        → DemoWriteFaultTells n (K.state sink.old) (K.state sink.new) result }
+    ensures demo_memory { (n : ℕ) → IsDemo words.now n
+        → DemoMemoryTells n (K.state sink.old) (K.state sink.new) result }
     ensures demo_statuses { (n : ℕ) → IsDemo words.now n → IsDemoStatus result }
     ensures line { LineTells (E.state errors.old) (E.state errors.new) result }
 {

@@ -9,7 +9,8 @@ use crate::outside::{Refusal, Sink};
 
 /// Offers all that is left, until none is left or a write is refused.
 pub(crate) fn write_all<K: Sink>(bytes: &[u8], sink: &mut K) -> Result<(), Refusal>
-    ensures bytes { MatchResult result (λ _. Appends (K.state sink.old).taken (K.state sink.new).taken bytes.now)
+    ensures bytes { MatchResult result
+        (λ _. Appends (K.state sink.old).taken (K.state sink.new).taken bytes.now)
         (λ _. AppendsProperPrefix (K.state sink.old).taken (K.state sink.new).taken bytes.now) }
     ensures counts { TellsRefusals (K.state sink.old) (K.state sink.new) result }
 {

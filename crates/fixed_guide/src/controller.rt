@@ -16,7 +16,8 @@ pub type Gain = FixedI16<12>;
 /// The output for an error: the gain's multiple of it, rounded down, plus the bias, and held at the ends of the
 /// format. The product alone may lie far outside.
 pub fn output(error: Signal, gain: Gain, bias: Signal) -> Signal
-    ensures { Some result.bits ≡ saturating true 16 (Some (exact_mul_add error.bits gain.bits bias.bits 12)) }
+    ensures { Some result.bits ≡ saturating true 16
+        (Some (exact_mul_add error.bits gain.bits bias.bits 12)) }
 {
     error.saturating_mul_add(gain, bias)
 }

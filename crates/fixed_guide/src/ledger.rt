@@ -16,7 +16,8 @@ pub fn transfer(from: &mut Money, to: &mut Money, amount: Money) -> Option<()>
     ensures moved { IsSome result → to.new.bits ≡ to.old.bits +ℤ amount.bits }
     ensures refused { IsNone result → (from.new ≡ from.old) × (to.new ≡ to.old) }
     ensures none { IsNone result
-        ↔ ((fits true 64 (from.old.bits -ℤ amount.bits) ≡ false) ⊎ (fits true 64 (to.old.bits +ℤ amount.bits) ≡ false)) }
+        ↔ ((fits true 64 (from.old.bits -ℤ amount.bits) ≡ false)
+        ⊎ (fits true 64 (to.old.bits +ℤ amount.bits) ≡ false)) }
 {
     let less = from.checked_sub(amount)?;
     let more = to.checked_add(amount)?;

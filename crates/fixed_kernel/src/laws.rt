@@ -26,7 +26,8 @@ pub fn remainder_law()
 
 /// On unsigned words distances, roots, and quotients and remainders by an integer fit.
 pub fn unsigned_law()
-    ensures sqrt { (n f : ℕ) (a : ℤ) → f ≤ n → InRange false n a → InRange false n (exact_sqrt a f) }
+    ensures sqrt { (n f : ℕ) (a : ℤ)
+        → f ≤ n → InRange false n a → InRange false n (exact_sqrt a f) }
     ensures dist { (n : ℕ) (a b : ℤ) → InRange false n a → InRange false n b
         → InRange false n (exact_dist a b) }
     ensures div_int { (n : ℕ) (a k : ℤ) → InRange false n a → InRange false n k → k ≢ pos 0

@@ -63,7 +63,8 @@ fn whole_over(divisor: u128) -> u128
 pub fn div_euclid_of<T: Word>(a: T, b: T, frac: u32) -> Outcome<T>
     requires frac { frac ≤ T.BITS }
     requires divisor { T.value b ≢ pos 0 }
-    ensures { StandsFor T.value T.SIGNED T.BITS (exact_div_euclid (T.value a) (T.value b) frac) result }
+    ensures { StandsFor T.value T.SIGNED T.BITS
+        (exact_div_euclid (T.value a) (T.value b) frac) result }
 {
     Wide::of(a)
         .euclid_quotient(Wide::of(b))

@@ -37,6 +37,7 @@ impl Wide {
         Wide::of(a).times(Wide::of(b))
     }
 
+    /// The magnitude, as a number at least 0.
     #[inline]
     pub fn absolute(self) -> Wide
         ensures { value_of result ≡ pos (unsigned_abs (value_of self)) }
@@ -51,7 +52,8 @@ impl Wide {
     pub fn remainder(self, divisor: Wide) -> Wide
         requires { 0 < divisor.magnitude }
         ensures { value_of result
-            ≡ value_of self -ℤ value_of divisor *ℤ truncated_quotient (value_of self) (value_of divisor) }
+            ≡ value_of self
+            -ℤ value_of divisor *ℤ truncated_quotient (value_of self) (value_of divisor) }
     {
         Wide {
             below_zero: self.below_zero,
@@ -59,6 +61,7 @@ impl Wide {
         }
     }
 
+    /// The number with the other sign.
     #[inline]
     pub fn negated(self) -> Wide
         ensures value { value_of result ≡ neg_ℤ (value_of self) }
@@ -70,6 +73,7 @@ impl Wide {
         }
     }
 
+    /// The sum. Condition: both magnitudes together have at most 128 bits.
     #[inline]
     pub fn plus(self, other: Wide) -> Wide
         requires { self.magnitude + other.magnitude < 2 ^ 128 }
@@ -94,6 +98,7 @@ impl Wide {
         }
     }
 
+    /// The product. Condition: it has at most 128 bits.
     #[inline]
     pub fn times(self, other: Wide) -> Wide
         requires { self.magnitude * other.magnitude < 2 ^ 128 }
@@ -106,7 +111,7 @@ impl Wide {
         }
     }
 
-    /// The number times a power of two.
+    /// The number times `2^by`. Condition: that has at most 128 bits.
     #[inline]
     pub fn scaled(self, by: u32) -> Wide
         requires room { self.magnitude * 2 ^ by < 2 ^ 128 }
@@ -121,7 +126,7 @@ impl Wide {
         }
     }
 
-    /// The number over a power of two, rounded down.
+    /// The number over `2^by`, rounded down.
     pub fn floored(self, by: u32) -> Wide
         requires { by ≤ 128 }
         ensures value { value_of result ≡ floor_quotient (value_of self) (2 ^ by) }
@@ -210,6 +215,7 @@ impl Wide {
         }
     }
 
+    /// The outcome of the number in a word.
     pub fn outcome<T: Word>(self) -> Outcome<T>
         ensures { StandsFor T.value T.SIGNED T.BITS (value_of self) result }
     {

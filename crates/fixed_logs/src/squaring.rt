@@ -98,7 +98,8 @@ fn greatest_product<L: Ledger, D: Digits<L>>(val: D, base: D, steps: &mut Steps<
 pub fn int_part<L: Ledger, D: Digits<L>>(val: D, base: Base, steps: &mut Steps<L>) -> i32
     requires { D.value val ≢ pos 0 }
     ensures value { IsLog (nat_abs (D.value val)) 0 base result }
-    ensures ticks { RisesAtMost (4 * log2 D.BITS + 4) (L.count steps.old.ledger) (L.count steps.new.ledger) }
+    ensures ticks { RisesAtMost (4 * log2 D.BITS + 4)
+        (L.count steps.old.ledger) (L.count steps.new.ledger) }
 {
     let number = base.get();
     if is_at_most(val, D::ONE, steps) {
@@ -115,7 +116,8 @@ pub fn int_part<L: Ledger, D: Digits<L>>(val: D, base: Base, steps: &mut Steps<L
 pub fn frac_part<L: Ledger, D: Digits<L>>(val: D, base: Base, steps: &mut Steps<L>) -> i32
     requires { D.value val ≢ pos 0 }
     ensures value { IsLog (nat_abs (D.value val)) D.BITS base result }
-    ensures ticks { RisesAtMost (4 * log2 D.BITS + 4) (L.count steps.old.ledger) (L.count steps.new.ledger) }
+    ensures ticks { RisesAtMost (4 * log2 D.BITS + 4)
+        (L.count steps.old.ledger) (L.count steps.new.ledger) }
 {
     let number = base.get();
     let _in_range = is_at_most(val, D::ONE, steps);

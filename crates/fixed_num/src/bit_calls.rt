@@ -12,7 +12,8 @@ use fixed_word::{RawWord, SignedWord, UnsignedWord, Word};
 impl<T: BitWord, const F: u32> Fixed<T, F> {
     /// Each bit turned into the other.
     pub fn const_not(self) -> Self
-        ensures { bit_list T.BITS (T.value result.bits) ≡ complement (bit_list T.BITS (T.value self.bits)) }
+        ensures { bit_list T.BITS (T.value result.bits)
+            ≡ complement (bit_list T.BITS (T.value self.bits)) }
     {
         Fixed {
             bits: self.bits.not(),
@@ -51,7 +52,8 @@ impl<T: BitWord, const F: u32> Fixed<T, F> {
 
     /// The bytes in the other order.
     pub fn swap_bytes(self) -> Self
-        ensures { byte_list T.BITS (T.value result.bits) ≡ reverse (byte_list T.BITS (T.value self.bits)) }
+        ensures { byte_list T.BITS (T.value result.bits)
+            ≡ reverse (byte_list T.BITS (T.value self.bits)) }
     {
         Fixed {
             bits: self.bits.swap_bytes(),
@@ -60,7 +62,8 @@ impl<T: BitWord, const F: u32> Fixed<T, F> {
 
     /// The bits in the other order.
     pub fn reverse_bits(self) -> Self
-        ensures { bit_list T.BITS (T.value result.bits) ≡ reverse (bit_list T.BITS (T.value self.bits)) }
+        ensures { bit_list T.BITS (T.value result.bits)
+            ≡ reverse (bit_list T.BITS (T.value self.bits)) }
     {
         Fixed {
             bits: self.bits.reverse_bits(),
@@ -143,7 +146,8 @@ impl<T: BitWord, const F: u32> Fixed<T, F> {
 
     /// Bit i goes to place `i + n` modulo the width.
     pub fn rotate_left(self, n: u32) -> Self
-        ensures { IsRotated n (bit_list T.BITS (T.value self.bits)) (bit_list T.BITS (T.value result.bits)) }
+        ensures { IsRotated n (bit_list T.BITS (T.value self.bits))
+            (bit_list T.BITS (T.value result.bits)) }
     {
         Fixed {
             bits: self.bits.rotate_left(n),
@@ -153,7 +157,8 @@ impl<T: BitWord, const F: u32> Fixed<T, F> {
     /// Bit i goes to place `i - n` modulo the width, so that a rotation to the left by n brings it
     /// back.
     pub fn rotate_right(self, n: u32) -> Self
-        ensures { IsRotated n (bit_list T.BITS (T.value result.bits)) (bit_list T.BITS (T.value self.bits)) }
+        ensures { IsRotated n (bit_list T.BITS (T.value result.bits))
+            (bit_list T.BITS (T.value self.bits)) }
     {
         Fixed {
             bits: self.bits.rotate_right(n),
@@ -165,7 +170,8 @@ impl<T: SignedWord, const F: u32> Fixed<T, F> {
     /// The unsigned number with the same bits.
     pub fn cast_unsigned(self) -> Fixed<T::Unsigned, F>
         ensures value { T.Unsigned.value result.bits ≡ wrap false T.BITS (T.value self.bits) }
-        ensures bits { bit_list T.BITS (T.Unsigned.value result.bits) ≡ bit_list T.BITS (T.value self.bits) }
+        ensures bits { bit_list T.BITS (T.Unsigned.value result.bits)
+            ≡ bit_list T.BITS (T.value self.bits) }
     {
         Fixed {
             bits: self.bits.to_unsigned(),
@@ -177,7 +183,8 @@ impl<T: UnsignedWord, const F: u32> Fixed<T, F> {
     /// The signed number with the same bits.
     pub fn cast_signed(self) -> Fixed<T::Signed, F>
         ensures value { T.Signed.value result.bits ≡ wrap true T.BITS (T.value self.bits) }
-        ensures bits { bit_list T.BITS (T.Signed.value result.bits) ≡ bit_list T.BITS (T.value self.bits) }
+        ensures bits { bit_list T.BITS (T.Signed.value result.bits)
+            ≡ bit_list T.BITS (T.value self.bits) }
     {
         Fixed {
             bits: self.bits.to_signed(),

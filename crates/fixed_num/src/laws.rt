@@ -17,7 +17,8 @@ pub fn mean_law()
 
 /// Equality, order and hash of numbers of one format follow the bits as a whole number.
 pub fn order_law<T: RawWord, const F: u32>(x: Fixed<T, F>, y: Fixed<T, F>)
-    ensures equal { IsTrue (⟦<Fixed<T, F> as PartialEq>⟧.eq x y) ↔ (T.value x.bits ≡ T.value y.bits) }
+    ensures equal { IsTrue (⟦<Fixed<T, F> as PartialEq>⟧.eq x y)
+        ↔ (T.value x.bits ≡ T.value y.bits) }
     ensures order { ⟦<Fixed<T, F> as Ord>⟧.cmp x y ≡ int_cmp (T.value x.bits) (T.value y.bits) }
     ensures partial_order { ⟦<Fixed<T, F> as PartialOrd>⟧.partial_cmp x y
         ≡ Some (int_cmp (T.value x.bits) (T.value y.bits)) }

@@ -1,7 +1,8 @@
 //! Fixed-point numbers: a word of bits, of which a fixed count stands behind the point.
 //!
 //! `Fixed<T, F>` stands for its bits times `2^-F`. The calls speak of the bits as a whole number, in
-//! units of `2^-F`. Below, n is the width of the word T. No call takes memory.
+//! units of `2^-F`. Below, n is the width of the word T. The calls are the crate's of the same names,
+//! but where one is said to be this project's own. No call takes memory.
 #![tactic(auto)]
 
 mod bit_calls;

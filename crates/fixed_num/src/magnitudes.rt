@@ -13,7 +13,8 @@ use fixed_word::{RawWord, SignedWord, UnsignedWord, Word};
 impl<T: Word, const F: u32> Fixed<T, F> {
     /// The size of the difference, which always fits the unsigned number.
     pub fn abs_diff(self, other: Self) -> Fixed<T::Unsigned, F>
-        ensures { T.Unsigned.value result.bits ≡ pos (unsigned_abs (T.value self.bits -ℤ T.value other.bits)) }
+        ensures { T.Unsigned.value result.bits
+            ≡ pos (unsigned_abs (T.value self.bits -ℤ T.value other.bits)) }
     {
         Fixed {
             bits: <T::Unsigned as RawWord>::residue(false, distance(self.bits, other.bits) as u128),
@@ -68,7 +69,8 @@ impl<T: Word, const F: u32> Fixed<T, F> {
     /// The number with what stands behind the point dropped toward zero. Condition: `F` is at most n.
     pub fn round_to_zero(self) -> Self
         requires { F ≤ T.BITS }
-        ensures { T.value result.bits ≡ pos (2 ^ F) *ℤ truncated_quotient (T.value self.bits) (pos (2 ^ F)) }
+        ensures { T.value result.bits
+            ≡ pos (2 ^ F) *ℤ truncated_quotient (T.value self.bits) (pos (2 ^ F)) }
     {
         Fixed {
             bits: round_to_zero_of(self.bits, F),
@@ -113,7 +115,8 @@ impl<T: SignedWord, const F: u32> Fixed<T, F> {
 
     /// The size of the difference, which always fits the unsigned number.
     pub fn unsigned_dist(self, other: Self) -> Fixed<T::Unsigned, F>
-        ensures { T.Unsigned.value result.bits ≡ pos (unsigned_abs (T.value self.bits -ℤ T.value other.bits)) }
+        ensures { T.Unsigned.value result.bits
+            ≡ pos (unsigned_abs (T.value self.bits -ℤ T.value other.bits)) }
     {
         self.abs_diff(other)
     }

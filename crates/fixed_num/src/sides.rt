@@ -37,7 +37,8 @@ pub(crate) fn half_sum(a_below_zero: bool, a: u64, b_below_zero: bool, b: u64) -
 fn sum_of(a_below_zero: bool, a: u128, b_below_zero: bool, b: u128) -> (bool, u128)
     requires a { a < 2 ^ 64 }
     requires b { b < 2 ^ 64 }
-    ensures value { with_sign result.0 result.1 ≡ with_sign a_below_zero a +ℤ with_sign b_below_zero b }
+    ensures value { with_sign result.0 result.1
+        ≡ with_sign a_below_zero a +ℤ with_sign b_below_zero b }
     ensures small { result.1 < 2 ^ 65 }
 {
     if a_below_zero == b_below_zero {

@@ -12,20 +12,23 @@ use fixed_kernel::{
 use fixed_num::{Fixed, Held, Number, exact_number};
 use fixed_word::{RawWord, SignedWord, UnsignedWord, Word};
 
-/// The plain forms of all numbers. Integers and numbers are bits, in units of `2^-F` (the crate's).
+/// The plain forms of all numbers (the crate's). Answers are bits, in units of `2^-F`; an integer
+/// operand is a whole number. A call that uses F has the condition that it is at most the width.
 pub trait Plain: Number {
     /// One over the number, rounded toward zero; condition that the number is not zero and the
     /// answer fits.
     fn recip(self) -> Self
         requires fraction { Self.FRACTION ≤ Self.BITS }
         requires divisor { Self.number self ≢ pos 0 }
-        requires fits { InRange Self.SIGNED Self.BITS (exact_recip (Self.number self) Self.FRACTION) }
+        requires fits { InRange Self.SIGNED Self.BITS
+            (exact_recip (Self.number self) Self.FRACTION) }
         ensures { Self.number result ≡ exact_recip (Self.number self) Self.FRACTION };
 
     /// The Euclidean remainder; condition that the divisor is not zero and the answer fits.
     fn rem_euclid(self, rhs: Self) -> Self
         requires divisor { Self.number rhs ≢ pos 0 }
-        requires fits { InRange Self.SIGNED Self.BITS (exact_rem_euclid (Self.number self) (Self.number rhs)) }
+        requires fits { InRange Self.SIGNED Self.BITS
+            (exact_rem_euclid (Self.number self) (Self.number rhs)) }
         ensures { Self.number result ≡ exact_rem_euclid (Self.number self) (Self.number rhs) };
 
     /// The Euclidean quotient, a whole number; condition that the divisor is not zero and the
@@ -33,43 +36,53 @@ pub trait Plain: Number {
     fn div_euclid(self, rhs: Self) -> Self
         requires fraction { Self.FRACTION ≤ Self.BITS }
         requires divisor { Self.number rhs ≢ pos 0 }
-        requires fits { InRange Self.SIGNED Self.BITS (exact_div_euclid (Self.number self) (Self.number rhs) Self.FRACTION) }
-        ensures { Self.number result ≡ exact_div_euclid (Self.number self) (Self.number rhs) Self.FRACTION };
+        requires fits { InRange Self.SIGNED Self.BITS
+            (exact_div_euclid (Self.number self) (Self.number rhs) Self.FRACTION) }
+        ensures { Self.number result
+            ≡ exact_div_euclid (Self.number self) (Self.number rhs) Self.FRACTION };
 
     /// The distance of both numbers; condition that the answer fits.
     fn dist(self, other: Self) -> Self
-        requires { InRange Self.SIGNED Self.BITS (exact_dist (Self.number self) (Self.number other)) }
+        requires { InRange Self.SIGNED Self.BITS
+            (exact_dist (Self.number self) (Self.number other)) }
         ensures { Self.number result ≡ exact_dist (Self.number self) (Self.number other) };
 
     /// The next multiple of `other`, upward where it is above zero and downward where it is below;
     /// condition that `other` is not zero and the answer fits.
     fn next_multiple_of(self, other: Self) -> Self
         requires divisor { Self.number other ≢ pos 0 }
-        requires fits { InRange Self.SIGNED Self.BITS (exact_next_multiple_of (Self.number self) (Self.number other)) }
-        ensures { Self.number result ≡ exact_next_multiple_of (Self.number self) (Self.number other) };
+        requires fits { InRange Self.SIGNED Self.BITS
+            (exact_next_multiple_of (Self.number self) (Self.number other)) }
+        ensures { Self.number result
+            ≡ exact_next_multiple_of (Self.number self) (Self.number other) };
 
     /// The Euclidean remainder by an integer; condition that the divisor is not zero and the answer
     /// fits.
     fn rem_euclid_int(self, rhs: Self::Bits) -> Self
         requires fraction { Self.FRACTION ≤ Self.BITS }
         requires divisor { Self.Bits.value rhs ≢ pos 0 }
-        requires fits { InRange Self.SIGNED Self.BITS (exact_rem_euclid_int (Self.number self) (Self.Bits.value rhs) Self.FRACTION) }
-        ensures { Self.number result ≡ exact_rem_euclid_int (Self.number self) (Self.Bits.value rhs) Self.FRACTION };
+        requires fits { InRange Self.SIGNED Self.BITS
+            (exact_rem_euclid_int (Self.number self) (Self.Bits.value rhs) Self.FRACTION) }
+        ensures { Self.number result
+            ≡ exact_rem_euclid_int (Self.number self) (Self.Bits.value rhs) Self.FRACTION };
 
     /// The Euclidean quotient by an integer, a whole number; condition that the divisor is not zero
     /// and the answer fits.
     fn div_euclid_int(self, rhs: Self::Bits) -> Self
         requires fraction { Self.FRACTION ≤ Self.BITS }
         requires divisor { Self.Bits.value rhs ≢ pos 0 }
-        requires fits { InRange Self.SIGNED Self.BITS (exact_div_euclid_int (Self.number self) (Self.Bits.value rhs) Self.FRACTION) }
-        ensures { Self.number result ≡ exact_div_euclid_int (Self.number self) (Self.Bits.value rhs) Self.FRACTION };
+        requires fits { InRange Self.SIGNED Self.BITS
+            (exact_div_euclid_int (Self.number self) (Self.Bits.value rhs) Self.FRACTION) }
+        ensures { Self.number result
+            ≡ exact_div_euclid_int (Self.number self) (Self.Bits.value rhs) Self.FRACTION };
 
     /// The square root, rounded down; condition that the number is not below zero and the answer
     /// fits.
     fn sqrt(self) -> Self
         requires fraction { Self.FRACTION ≤ Self.BITS }
         requires sign { pos 0 ≤ℤ Self.number self }
-        requires fits { InRange Self.SIGNED Self.BITS (exact_sqrt (Self.number self) Self.FRACTION) }
+        requires fits { InRange Self.SIGNED Self.BITS
+            (exact_sqrt (Self.number self) Self.FRACTION) }
         ensures { Self.number result ≡ exact_sqrt (Self.number self) Self.FRACTION };
 }
 
@@ -117,17 +130,20 @@ pub trait PlainSigned: Plain {
     /// One by the sign of the number: 1, 0 or -1; condition that the answer fits.
     fn signum(self) -> Self
         requires fraction { Self.FRACTION ≤ Self.BITS }
-        requires fits { InRange Self.SIGNED Self.BITS (exact_signum (Self.number self) Self.FRACTION) }
+        requires fits { InRange Self.SIGNED Self.BITS
+            (exact_signum (Self.number self) Self.FRACTION) }
         ensures { Self.number result ≡ exact_signum (Self.number self) Self.FRACTION };
 
     /// The sum with an unsigned number; condition that the answer fits.
     fn add_unsigned(self, rhs: Self::Unsigned) -> Self
-        requires { InRange Self.SIGNED Self.BITS (exact_add (Self.number self) (Self.Unsigned.number rhs)) }
+        requires { InRange Self.SIGNED Self.BITS
+            (exact_add (Self.number self) (Self.Unsigned.number rhs)) }
         ensures { Self.number result ≡ exact_add (Self.number self) (Self.Unsigned.number rhs) };
 
     /// The difference from an unsigned number; condition that the answer fits.
     fn sub_unsigned(self, rhs: Self::Unsigned) -> Self
-        requires { InRange Self.SIGNED Self.BITS (exact_sub (Self.number self) (Self.Unsigned.number rhs)) }
+        requires { InRange Self.SIGNED Self.BITS
+            (exact_sub (Self.number self) (Self.Unsigned.number rhs)) }
         ensures { Self.number result ≡ exact_sub (Self.number self) (Self.Unsigned.number rhs) };
 }
 
@@ -159,12 +175,14 @@ pub trait PlainUnsigned: Plain {
 
     /// The sum with a signed number; condition that the answer fits.
     fn add_signed(self, rhs: Self::Signed) -> Self
-        requires { InRange Self.SIGNED Self.BITS (exact_add (Self.number self) (Self.Signed.number rhs)) }
+        requires { InRange Self.SIGNED Self.BITS
+            (exact_add (Self.number self) (Self.Signed.number rhs)) }
         ensures { Self.number result ≡ exact_add (Self.number self) (Self.Signed.number rhs) };
 
     /// The difference from a signed number; condition that the answer fits.
     fn sub_signed(self, rhs: Self::Signed) -> Self
-        requires { InRange Self.SIGNED Self.BITS (exact_sub (Self.number self) (Self.Signed.number rhs)) }
+        requires { InRange Self.SIGNED Self.BITS
+            (exact_sub (Self.number self) (Self.Signed.number rhs)) }
         ensures { Self.number result ≡ exact_sub (Self.number self) (Self.Signed.number rhs) };
 }
 

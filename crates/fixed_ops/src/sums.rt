@@ -36,8 +36,10 @@ pub fn product<T: Word, const F: u32>(items: &[Fixed<T, F>]) -> Fixed<T, F>
 /// The product of a number and all of the others.
 fn product_from<T: Word, const F: u32>(first: Fixed<T, F>, rest: &[Fixed<T, F>]) -> Fixed<T, F>
     requires fraction { F ≤ T.BITS }
-    requires fits { EachFits T.SIGNED T.BITS (times F) (T.value first.bits) (map (λ x. T.value x.bits) rest.now) }
-    ensures { T.value result.bits ≡ fold (times F) (T.value first.bits) (map (λ x. T.value x.bits) rest.now) }
+    requires fits { EachFits T.SIGNED T.BITS
+        (times F) (T.value first.bits) (map (λ x. T.value x.bits) rest.now) }
+    ensures { T.value result.bits
+        ≡ fold (times F) (T.value first.bits) (map (λ x. T.value x.bits) rest.now) }
 {
     let mut total = first;
     for item in rest {

@@ -45,7 +45,8 @@ fn moved<N: PlainUnsigned>(a: N, by: N::Signed) -> N
 /// Multiply-add, through the bound.
 fn scaled<const G: u32, N: PlainMulAdd<G>>(a: N, mul: Fixed<N::Bits, G>, add: N) -> N
     requires fraction { G ≤ N.BITS }
-    requires fits { InRange N.SIGNED N.BITS (exact_mul_add (N.number a) (N.Bits.value mul.bits) (N.number add) G) }
+    requires fits { InRange N.SIGNED N.BITS
+        (exact_mul_add (N.number a) (N.Bits.value mul.bits) (N.number add) G) }
 {
     a.mul_add(mul, add)
 }
@@ -59,7 +60,8 @@ fn raised<const A: u32, const B: u32, N: PlainProducts<A, B>>(
     requires fraction { N.FRACTION ≤ N.BITS }
     requires a { A ≤ N.BITS }
     requires b { B ≤ N.BITS }
-    requires fits { InRange N.SIGNED N.BITS (exact_add_prod (N.number c) (N.Bits.value a.bits) (N.Bits.value b.bits) N.FRACTION A B) }
+    requires fits { InRange N.SIGNED N.BITS
+        (exact_add_prod (N.number c) (N.Bits.value a.bits) (N.Bits.value b.bits) N.FRACTION A B) }
 {
     c.add_prod(a, b)
 }

@@ -15,102 +15,121 @@ use fixed_kernel::{
 use fixed_num::{Fixed, Held, Number};
 use fixed_word::{RawWord, SignedWord, UnsignedWord, Word};
 
-/// The `checked_` forms of all numbers. Integers and numbers are bits, in units of `2^-F` (the
-/// crate's).
+/// The `checked_` forms of all numbers (the crate's). Answers are bits, in units of `2^-F`; an integer
+/// operand is a whole number. A call that uses F has the condition that it is at most the width.
 pub trait Checked: Number {
     /// The negated number; None exactly where it does not fit.
     fn checked_neg(self) -> Option<Self>
-        ensures { option_map Self.number result ≡ checked Self.SIGNED Self.BITS (Some (exact_neg (Self.number self))) };
+        ensures { option_map Self.number result
+            ≡ checked Self.SIGNED Self.BITS (Some (exact_neg (Self.number self))) };
 
     /// The sum; None exactly where it does not fit.
     fn checked_add(self, rhs: Self) -> Option<Self>
-        ensures { option_map Self.number result ≡ checked Self.SIGNED Self.BITS (Some (exact_add (Self.number self) (Self.number rhs))) };
+        ensures { option_map Self.number result ≡ checked Self.SIGNED Self.BITS
+            (Some (exact_add (Self.number self) (Self.number rhs))) };
 
     /// The difference; None exactly where it does not fit.
     fn checked_sub(self, rhs: Self) -> Option<Self>
-        ensures { option_map Self.number result ≡ checked Self.SIGNED Self.BITS (Some (exact_sub (Self.number self) (Self.number rhs))) };
+        ensures { option_map Self.number result ≡ checked Self.SIGNED Self.BITS
+            (Some (exact_sub (Self.number self) (Self.number rhs))) };
 
     /// The product, rounded down; None exactly where it does not fit.
     fn checked_mul(self, rhs: Self) -> Option<Self>
         requires { Self.FRACTION ≤ Self.BITS }
-        ensures { option_map Self.number result ≡ checked Self.SIGNED Self.BITS (Some (exact_mul (Self.number self) (Self.number rhs) Self.FRACTION)) };
+        ensures { option_map Self.number result ≡ checked Self.SIGNED Self.BITS
+            (Some (exact_mul (Self.number self) (Self.number rhs) Self.FRACTION)) };
 
     /// The quotient, rounded toward zero; None exactly on a zero divisor or where it does not fit.
     fn checked_div(self, rhs: Self) -> Option<Self>
         requires { Self.FRACTION ≤ Self.BITS }
-        ensures { option_map Self.number result ≡ checked Self.SIGNED Self.BITS (row_div (Self.number self) (Self.number rhs) Self.FRACTION) };
+        ensures { option_map Self.number result ≡ checked Self.SIGNED Self.BITS
+            (row_div (Self.number self) (Self.number rhs) Self.FRACTION) };
 
     /// One over the number, rounded toward zero; None exactly on zero or where it does not fit.
     fn checked_recip(self) -> Option<Self>
         requires { Self.FRACTION ≤ Self.BITS }
-        ensures { option_map Self.number result ≡ checked Self.SIGNED Self.BITS (row_recip (Self.number self) Self.FRACTION) };
+        ensures { option_map Self.number result
+            ≡ checked Self.SIGNED Self.BITS (row_recip (Self.number self) Self.FRACTION) };
 
     /// The remainder of the quotient that is rounded toward zero; None exactly on a zero divisor or
     /// where it does not fit.
     fn checked_rem(self, rhs: Self) -> Option<Self>
-        ensures { option_map Self.number result ≡ checked Self.SIGNED Self.BITS (row_rem (Self.number self) (Self.number rhs)) };
+        ensures { option_map Self.number result
+            ≡ checked Self.SIGNED Self.BITS (row_rem (Self.number self) (Self.number rhs)) };
 
     /// The Euclidean remainder; None exactly on a zero divisor or where it does not fit.
     fn checked_rem_euclid(self, rhs: Self) -> Option<Self>
-        ensures { option_map Self.number result ≡ checked Self.SIGNED Self.BITS (row_rem_euclid (Self.number self) (Self.number rhs)) };
+        ensures { option_map Self.number result
+            ≡ checked Self.SIGNED Self.BITS (row_rem_euclid (Self.number self) (Self.number rhs)) };
 
     /// The Euclidean quotient, a whole number; None exactly on a zero divisor or where it does not
     /// fit.
     fn checked_div_euclid(self, rhs: Self) -> Option<Self>
         requires { Self.FRACTION ≤ Self.BITS }
-        ensures { option_map Self.number result ≡ checked Self.SIGNED Self.BITS (row_div_euclid (Self.number self) (Self.number rhs) Self.FRACTION) };
+        ensures { option_map Self.number result ≡ checked Self.SIGNED Self.BITS
+            (row_div_euclid (Self.number self) (Self.number rhs) Self.FRACTION) };
 
     /// The distance of both numbers; None exactly where it does not fit.
     fn checked_dist(self, other: Self) -> Option<Self>
-        ensures { option_map Self.number result ≡ checked Self.SIGNED Self.BITS (Some (exact_dist (Self.number self) (Self.number other))) };
+        ensures { option_map Self.number result ≡ checked Self.SIGNED Self.BITS
+            (Some (exact_dist (Self.number self) (Self.number other))) };
 
     /// The next multiple of `other`, upward where it is above zero and downward where it is below;
     /// None exactly on a zero `other` or where it does not fit.
     fn checked_next_multiple_of(self, other: Self) -> Option<Self>
-        ensures { option_map Self.number result ≡ checked Self.SIGNED Self.BITS (row_next_multiple_of (Self.number self) (Self.number other)) };
+        ensures { option_map Self.number result ≡ checked Self.SIGNED Self.BITS
+            (row_next_multiple_of (Self.number self) (Self.number other)) };
 
     /// The product by an integer; None exactly where it does not fit.
     fn checked_mul_int(self, rhs: Self::Bits) -> Option<Self>
-        ensures { option_map Self.number result ≡ checked Self.SIGNED Self.BITS (Some (exact_mul_int (Self.number self) (Self.Bits.value rhs))) };
+        ensures { option_map Self.number result ≡ checked Self.SIGNED Self.BITS
+            (Some (exact_mul_int (Self.number self) (Self.Bits.value rhs))) };
 
     /// The quotient by an integer, rounded toward zero; None exactly on a zero divisor or where it
     /// does not fit.
     fn checked_div_int(self, rhs: Self::Bits) -> Option<Self>
-        ensures { option_map Self.number result ≡ checked Self.SIGNED Self.BITS (row_div_int (Self.number self) (Self.Bits.value rhs)) };
+        ensures { option_map Self.number result ≡ checked Self.SIGNED Self.BITS
+            (row_div_int (Self.number self) (Self.Bits.value rhs)) };
 
     /// The remainder by an integer, of the quotient that is rounded toward zero; None exactly on a
     /// zero divisor or where it does not fit.
     fn checked_rem_int(self, rhs: Self::Bits) -> Option<Self>
         requires { Self.FRACTION ≤ Self.BITS }
-        ensures { option_map Self.number result ≡ checked Self.SIGNED Self.BITS (row_rem_int (Self.number self) (Self.Bits.value rhs) Self.FRACTION) };
+        ensures { option_map Self.number result ≡ checked Self.SIGNED Self.BITS
+            (row_rem_int (Self.number self) (Self.Bits.value rhs) Self.FRACTION) };
 
     /// The Euclidean remainder by an integer; None exactly on a zero divisor or where it does not
     /// fit.
     fn checked_rem_euclid_int(self, rhs: Self::Bits) -> Option<Self>
         requires { Self.FRACTION ≤ Self.BITS }
-        ensures { option_map Self.number result ≡ checked Self.SIGNED Self.BITS (row_rem_euclid_int (Self.number self) (Self.Bits.value rhs) Self.FRACTION) };
+        ensures { option_map Self.number result ≡ checked Self.SIGNED Self.BITS
+            (row_rem_euclid_int (Self.number self) (Self.Bits.value rhs) Self.FRACTION) };
 
     /// The Euclidean quotient by an integer, a whole number; None exactly on a zero divisor or
     /// where it does not fit.
     fn checked_div_euclid_int(self, rhs: Self::Bits) -> Option<Self>
         requires { Self.FRACTION ≤ Self.BITS }
-        ensures { option_map Self.number result ≡ checked Self.SIGNED Self.BITS (row_div_euclid_int (Self.number self) (Self.Bits.value rhs) Self.FRACTION) };
+        ensures { option_map Self.number result ≡ checked Self.SIGNED Self.BITS
+            (row_div_euclid_int (Self.number self) (Self.Bits.value rhs) Self.FRACTION) };
 
     /// The square root, rounded down; None exactly on a number below zero or where it does not fit.
     fn checked_sqrt(self) -> Option<Self>
         requires { Self.FRACTION ≤ Self.BITS }
-        ensures { option_map Self.number result ≡ checked Self.SIGNED Self.BITS (row_sqrt (Self.number self) Self.FRACTION) };
+        ensures { option_map Self.number result
+            ≡ checked Self.SIGNED Self.BITS (row_sqrt (Self.number self) Self.FRACTION) };
 
     /// The bits moved up by `rhs` places, without what lies past the width; None exactly where
     /// `rhs` is the width or more.
     fn checked_shl(self, rhs: u32) -> Option<Self>
-        ensures some { rhs < Self.BITS → option_map Self.number result ≡ Some (wrap Self.SIGNED Self.BITS (Self.number self *ℤ pos (2 ^ rhs))) }
+        ensures some { rhs < Self.BITS → option_map Self.number result ≡ Some
+            (wrap Self.SIGNED Self.BITS (Self.number self *ℤ pos (2 ^ rhs))) }
         ensures none { IsNone result ↔ (Self.BITS ≤ rhs) };
 
     /// The bits moved down by `rhs` places, rounded down; None exactly where `rhs` is the width or
     /// more.
     fn checked_shr(self, rhs: u32) -> Option<Self>
-        ensures some { rhs < Self.BITS → option_map Self.number result ≡ Some (floor_quotient (Self.number self) (2 ^ rhs)) }
+        ensures some { rhs < Self.BITS
+            → option_map Self.number result ≡ Some (floor_quotient (Self.number self) (2 ^ rhs)) }
         ensures none { IsNone result ↔ (Self.BITS ≤ rhs) };
 }
 
@@ -237,20 +256,24 @@ impl<T: Word, const F: u32> Checked for Fixed<T, F> {
 pub trait CheckedSigned: Checked {
     /// The magnitude; None exactly where it does not fit.
     fn checked_abs(self) -> Option<Self>
-        ensures { option_map Self.number result ≡ checked Self.SIGNED Self.BITS (Some (exact_abs (Self.number self))) };
+        ensures { option_map Self.number result
+            ≡ checked Self.SIGNED Self.BITS (Some (exact_abs (Self.number self))) };
 
     /// One by the sign of the number: 1, 0 or -1; None exactly where it does not fit.
     fn checked_signum(self) -> Option<Self>
         requires { Self.FRACTION ≤ Self.BITS }
-        ensures { option_map Self.number result ≡ checked Self.SIGNED Self.BITS (Some (exact_signum (Self.number self) Self.FRACTION)) };
+        ensures { option_map Self.number result ≡ checked Self.SIGNED Self.BITS
+            (Some (exact_signum (Self.number self) Self.FRACTION)) };
 
     /// The sum with an unsigned number; None exactly where it does not fit.
     fn checked_add_unsigned(self, rhs: Self::Unsigned) -> Option<Self>
-        ensures { option_map Self.number result ≡ checked Self.SIGNED Self.BITS (Some (exact_add (Self.number self) (Self.Unsigned.number rhs))) };
+        ensures { option_map Self.number result ≡ checked Self.SIGNED Self.BITS
+            (Some (exact_add (Self.number self) (Self.Unsigned.number rhs))) };
 
     /// The difference from an unsigned number; None exactly where it does not fit.
     fn checked_sub_unsigned(self, rhs: Self::Unsigned) -> Option<Self>
-        ensures { option_map Self.number result ≡ checked Self.SIGNED Self.BITS (Some (exact_sub (Self.number self) (Self.Unsigned.number rhs))) };
+        ensures { option_map Self.number result ≡ checked Self.SIGNED Self.BITS
+            (Some (exact_sub (Self.number self) (Self.Unsigned.number rhs))) };
 }
 
 impl<T: SignedWord, const F: u32> CheckedSigned for Fixed<T, F> {
@@ -276,15 +299,18 @@ pub trait CheckedUnsigned: Checked {
     /// The least power of two, in units, that is at least the number; None exactly where it does
     /// not fit.
     fn checked_next_power_of_two(self) -> Option<Self>
-        ensures { option_map Self.number result ≡ checked Self.SIGNED Self.BITS (Some (exact_next_power_of_two (Self.number self))) };
+        ensures { option_map Self.number result
+            ≡ checked Self.SIGNED Self.BITS (Some (exact_next_power_of_two (Self.number self))) };
 
     /// The sum with a signed number; None exactly where it does not fit.
     fn checked_add_signed(self, rhs: Self::Signed) -> Option<Self>
-        ensures { option_map Self.number result ≡ checked Self.SIGNED Self.BITS (Some (exact_add (Self.number self) (Self.Signed.number rhs))) };
+        ensures { option_map Self.number result ≡ checked Self.SIGNED Self.BITS
+            (Some (exact_add (Self.number self) (Self.Signed.number rhs))) };
 
     /// The difference from a signed number; None exactly where it does not fit.
     fn checked_sub_signed(self, rhs: Self::Signed) -> Option<Self>
-        ensures { option_map Self.number result ≡ checked Self.SIGNED Self.BITS (Some (exact_sub (Self.number self) (Self.Signed.number rhs))) };
+        ensures { option_map Self.number result ≡ checked Self.SIGNED Self.BITS
+            (Some (exact_sub (Self.number self) (Self.Signed.number rhs))) };
 }
 
 impl<T: UnsignedWord, const F: u32> CheckedUnsigned for Fixed<T, F> {

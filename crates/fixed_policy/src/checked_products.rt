@@ -16,13 +16,15 @@ pub trait CheckedMulAdd<const G: u32>: Number {
     /// product alone may lie outside. Condition: G is at most the width.
     fn checked_mul_add(self, mul: Fixed<Self::Bits, G>, add: Self) -> Option<Self>
         requires { G ≤ Self.BITS }
-        ensures { option_map Self.number result ≡ checked Self.SIGNED Self.BITS (Some (exact_mul_add (Self.number self) (Self.Bits.value mul.bits) (Self.number add) G)) };
+        ensures { option_map Self.number result ≡ checked Self.SIGNED Self.BITS (Some
+            (exact_mul_add (Self.number self) (Self.Bits.value mul.bits) (Self.number add) G)) };
 }
 
 impl<T: Word, const F: u32, const G: u32> CheckedMulAdd<G> for Fixed<T, F> {
     fn checked_mul_add(self, mul: Fixed<T, G>, add: Self) -> Option<Self>
         requires { G ≤ T.BITS }
-        ensures { option_map (λ r. T.value r.bits) result ≡ checked T.SIGNED T.BITS (Some (exact_mul_add (T.value self.bits) (T.value mul.bits) (T.value add.bits) G)) }
+        ensures { option_map (λ r. T.value r.bits) result ≡ checked T.SIGNED T.BITS
+            (Some (exact_mul_add (T.value self.bits) (T.value mul.bits) (T.value add.bits) G)) }
     {
         checked_number(mul_add_of(self.bits, mul.bits, add.bits, G))
     }
@@ -37,7 +39,9 @@ pub trait CheckedProducts<const A: u32, const B: u32>: Number {
         requires fraction { Self.FRACTION ≤ Self.BITS }
         requires a { A ≤ Self.BITS }
         requires b { B ≤ Self.BITS }
-        ensures { option_map Self.number result ≡ checked Self.SIGNED Self.BITS (Some (exact_add_prod (Self.number self) (Self.Bits.value a.bits) (Self.Bits.value b.bits) Self.FRACTION A B)) };
+        ensures { option_map Self.number result
+            ≡ checked Self.SIGNED Self.BITS (Some (exact_add_prod (Self.number self)
+            (Self.Bits.value a.bits) (Self.Bits.value b.bits) Self.FRACTION A B)) };
 
     /// Stores what `checked_add_prod` answers; where that is None the number stays.
     fn checked_mul_acc(&mut self, a: Fixed<Self::Bits, A>, b: Fixed<Self::Bits, B>) -> Option<()>
@@ -45,7 +49,8 @@ pub trait CheckedProducts<const A: u32, const B: u32>: Number {
         requires a { A ≤ Self.BITS }
         requires b { B ≤ Self.BITS }
         ensures value { (if is_some result then Some (Self.number self.new) else None)
-            ≡ checked Self.SIGNED Self.BITS (Some (exact_add_prod (Self.number self.old) (Self.Bits.value a.bits) (Self.Bits.value b.bits) Self.FRACTION A B)) }
+            ≡ checked Self.SIGNED Self.BITS (Some (exact_add_prod (Self.number self.old)
+            (Self.Bits.value a.bits) (Self.Bits.value b.bits) Self.FRACTION A B)) }
         ensures kept { IsNone result → self.new ≡ self.old };
 
     /// Adds the products of the pairs one after the other, as `checked_mul_acc` does. None exactly
@@ -71,7 +76,8 @@ impl<T: Word, const F: u32, const A: u32, const B: u32> CheckedProducts<A, B> fo
         requires fraction { F ≤ T.BITS }
         requires a { A ≤ T.BITS }
         requires b { B ≤ T.BITS }
-        ensures { option_map (λ r. T.value r.bits) result ≡ checked T.SIGNED T.BITS (Some (exact_add_prod (T.value self.bits) (T.value a.bits) (T.value b.bits) F A B)) }
+        ensures { option_map (λ r. T.value r.bits) result ≡ checked T.SIGNED T.BITS
+            (Some (exact_add_prod (T.value self.bits) (T.value a.bits) (T.value b.bits) F A B)) }
     {
         checked_number(add_prod_of(self.bits, a.bits, b.bits, F, A, B))
     }
@@ -81,7 +87,8 @@ impl<T: Word, const F: u32, const A: u32, const B: u32> CheckedProducts<A, B> fo
         requires a { A ≤ T.BITS }
         requires b { B ≤ T.BITS }
         ensures value { (if is_some result then Some (T.value self.new.bits) else None)
-            ≡ checked T.SIGNED T.BITS (Some (exact_add_prod (T.value self.old.bits) (T.value a.bits) (T.value b.bits) F A B)) }
+            ≡ checked T.SIGNED T.BITS (Some (exact_add_prod (T.value self.old.bits)
+            (T.value a.bits) (T.value b.bits) F A B)) }
         ensures kept { IsNone result → self.new ≡ self.old }
     {
         match self.checked_add_prod(a, b) {

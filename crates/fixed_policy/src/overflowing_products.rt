@@ -15,13 +15,15 @@ pub trait OverflowingMulAdd<const G: u32>: Number {
     /// The product alone may lie outside. Condition: G is at most the width.
     fn overflowing_mul_add(self, mul: Fixed<Self::Bits, G>, add: Self) -> (Self, bool)
         requires { G ≤ Self.BITS }
-        ensures { Some (Self.number result.0, result.1) ≡ overflowing Self.SIGNED Self.BITS (Some (exact_mul_add (Self.number self) (Self.Bits.value mul.bits) (Self.number add) G)) };
+        ensures { Some (Self.number result.0, result.1) ≡ overflowing Self.SIGNED Self.BITS (Some
+            (exact_mul_add (Self.number self) (Self.Bits.value mul.bits) (Self.number add) G)) };
 }
 
 impl<T: Word, const F: u32, const G: u32> OverflowingMulAdd<G> for Fixed<T, F> {
     fn overflowing_mul_add(self, mul: Fixed<T, G>, add: Self) -> (Self, bool)
         requires { G ≤ T.BITS }
-        ensures { Some (T.value result.0.bits, result.1) ≡ overflowing T.SIGNED T.BITS (Some (exact_mul_add (T.value self.bits) (T.value mul.bits) (T.value add.bits) G)) }
+        ensures { Some (T.value result.0.bits, result.1) ≡ overflowing T.SIGNED T.BITS
+            (Some (exact_mul_add (T.value self.bits) (T.value mul.bits) (T.value add.bits) G)) }
     {
         overflowing_number(mul_add_of(self.bits, mul.bits, add.bits, G))
     }
@@ -36,14 +38,18 @@ pub trait OverflowingProducts<const A: u32, const B: u32>: Number {
         requires fraction { Self.FRACTION ≤ Self.BITS }
         requires a { A ≤ Self.BITS }
         requires b { B ≤ Self.BITS }
-        ensures { Some (Self.number result.0, result.1) ≡ overflowing Self.SIGNED Self.BITS (Some (exact_add_prod (Self.number self) (Self.Bits.value a.bits) (Self.Bits.value b.bits) Self.FRACTION A B)) };
+        ensures { Some (Self.number result.0, result.1)
+            ≡ overflowing Self.SIGNED Self.BITS (Some (exact_add_prod (Self.number self)
+            (Self.Bits.value a.bits) (Self.Bits.value b.bits) Self.FRACTION A B)) };
 
     /// Stores what `overflowing_add_prod` answers, and answers its verdict.
     fn overflowing_mul_acc(&mut self, a: Fixed<Self::Bits, A>, b: Fixed<Self::Bits, B>) -> bool
         requires fraction { Self.FRACTION ≤ Self.BITS }
         requires a { A ≤ Self.BITS }
         requires b { B ≤ Self.BITS }
-        ensures { Some (Self.number self.new, result) ≡ overflowing Self.SIGNED Self.BITS (Some (exact_add_prod (Self.number self.old) (Self.Bits.value a.bits) (Self.Bits.value b.bits) Self.FRACTION A B)) };
+        ensures { Some (Self.number self.new, result)
+            ≡ overflowing Self.SIGNED Self.BITS (Some (exact_add_prod (Self.number self.old)
+            (Self.Bits.value a.bits) (Self.Bits.value b.bits) Self.FRACTION A B)) };
 }
 
 impl<T: Word, const F: u32, const A: u32, const B: u32> OverflowingProducts<A, B> for Fixed<T, F> {
@@ -51,7 +57,8 @@ impl<T: Word, const F: u32, const A: u32, const B: u32> OverflowingProducts<A, B
         requires fraction { F ≤ T.BITS }
         requires a { A ≤ T.BITS }
         requires b { B ≤ T.BITS }
-        ensures { Some (T.value result.0.bits, result.1) ≡ overflowing T.SIGNED T.BITS (Some (exact_add_prod (T.value self.bits) (T.value a.bits) (T.value b.bits) F A B)) }
+        ensures { Some (T.value result.0.bits, result.1) ≡ overflowing T.SIGNED T.BITS
+            (Some (exact_add_prod (T.value self.bits) (T.value a.bits) (T.value b.bits) F A B)) }
     {
         overflowing_number(add_prod_of(self.bits, a.bits, b.bits, F, A, B))
     }
@@ -60,7 +67,8 @@ impl<T: Word, const F: u32, const A: u32, const B: u32> OverflowingProducts<A, B
         requires fraction { F ≤ T.BITS }
         requires a { A ≤ T.BITS }
         requires b { B ≤ T.BITS }
-        ensures { Some (T.value self.new.bits, result) ≡ overflowing T.SIGNED T.BITS (Some (exact_add_prod (T.value self.old.bits) (T.value a.bits) (T.value b.bits) F A B)) }
+        ensures { Some (T.value self.new.bits, result) ≡ overflowing T.SIGNED T.BITS (Some
+            (exact_add_prod (T.value self.old.bits) (T.value a.bits) (T.value b.bits) F A B)) }
     {
         let (sum, overflows) = self.overflowing_add_prod(a, b);
         *self = sum;

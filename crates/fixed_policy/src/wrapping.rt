@@ -15,86 +15,101 @@ use fixed_kernel::{
 use fixed_num::{Fixed, Held, Number};
 use fixed_word::{RawWord, SignedWord, UnsignedWord, Word};
 
-/// The `wrapping_` forms of all numbers. Integers and numbers are bits, in units of `2^-F` (the
-/// crate's).
+/// The `wrapping_` forms of all numbers (the crate's). Answers are bits, in units of `2^-F`; an integer
+/// operand is a whole number. A call that uses F has the condition that it is at most the width.
 pub trait Wrapping: Number {
     /// The negated number, wrapped.
     fn wrapping_neg(self) -> Self
-        ensures { Some (Self.number result) ≡ wrapping Self.SIGNED Self.BITS (Some (exact_neg (Self.number self))) };
+        ensures { Some (Self.number result)
+            ≡ wrapping Self.SIGNED Self.BITS (Some (exact_neg (Self.number self))) };
 
     /// The sum, wrapped.
     fn wrapping_add(self, rhs: Self) -> Self
-        ensures { Some (Self.number result) ≡ wrapping Self.SIGNED Self.BITS (Some (exact_add (Self.number self) (Self.number rhs))) };
+        ensures { Some (Self.number result) ≡ wrapping Self.SIGNED Self.BITS
+            (Some (exact_add (Self.number self) (Self.number rhs))) };
 
     /// The difference, wrapped.
     fn wrapping_sub(self, rhs: Self) -> Self
-        ensures { Some (Self.number result) ≡ wrapping Self.SIGNED Self.BITS (Some (exact_sub (Self.number self) (Self.number rhs))) };
+        ensures { Some (Self.number result) ≡ wrapping Self.SIGNED Self.BITS
+            (Some (exact_sub (Self.number self) (Self.number rhs))) };
 
     /// The product, rounded down, wrapped.
     fn wrapping_mul(self, rhs: Self) -> Self
         requires { Self.FRACTION ≤ Self.BITS }
-        ensures { Some (Self.number result) ≡ wrapping Self.SIGNED Self.BITS (Some (exact_mul (Self.number self) (Self.number rhs) Self.FRACTION)) };
+        ensures { Some (Self.number result) ≡ wrapping Self.SIGNED Self.BITS
+            (Some (exact_mul (Self.number self) (Self.number rhs) Self.FRACTION)) };
 
     /// The quotient, rounded toward zero, wrapped; condition that the divisor is not zero.
     fn wrapping_div(self, rhs: Self) -> Self
         requires fraction { Self.FRACTION ≤ Self.BITS }
         requires divisor { Self.number rhs ≢ pos 0 }
-        ensures { Some (Self.number result) ≡ wrapping Self.SIGNED Self.BITS (Some (exact_div (Self.number self) (Self.number rhs) Self.FRACTION)) };
+        ensures { Some (Self.number result) ≡ wrapping Self.SIGNED Self.BITS
+            (Some (exact_div (Self.number self) (Self.number rhs) Self.FRACTION)) };
 
     /// One over the number, rounded toward zero, wrapped; condition that the number is not zero.
     fn wrapping_recip(self) -> Self
         requires fraction { Self.FRACTION ≤ Self.BITS }
         requires divisor { Self.number self ≢ pos 0 }
-        ensures { Some (Self.number result) ≡ wrapping Self.SIGNED Self.BITS (Some (exact_recip (Self.number self) Self.FRACTION)) };
+        ensures { Some (Self.number result) ≡ wrapping Self.SIGNED Self.BITS
+            (Some (exact_recip (Self.number self) Self.FRACTION)) };
 
     /// The Euclidean quotient, a whole number, wrapped; condition that the divisor is not zero.
     fn wrapping_div_euclid(self, rhs: Self) -> Self
         requires fraction { Self.FRACTION ≤ Self.BITS }
         requires divisor { Self.number rhs ≢ pos 0 }
-        ensures { Some (Self.number result) ≡ wrapping Self.SIGNED Self.BITS (Some (exact_div_euclid (Self.number self) (Self.number rhs) Self.FRACTION)) };
+        ensures { Some (Self.number result) ≡ wrapping Self.SIGNED Self.BITS
+            (Some (exact_div_euclid (Self.number self) (Self.number rhs) Self.FRACTION)) };
 
     /// The distance of both numbers, wrapped.
     fn wrapping_dist(self, other: Self) -> Self
-        ensures { Some (Self.number result) ≡ wrapping Self.SIGNED Self.BITS (Some (exact_dist (Self.number self) (Self.number other))) };
+        ensures { Some (Self.number result) ≡ wrapping Self.SIGNED Self.BITS
+            (Some (exact_dist (Self.number self) (Self.number other))) };
 
     /// The next multiple of `other`, upward where it is above zero and downward where it is below,
     /// wrapped; condition that `other` is not zero.
     fn wrapping_next_multiple_of(self, other: Self) -> Self
         requires { Self.number other ≢ pos 0 }
-        ensures { Some (Self.number result) ≡ wrapping Self.SIGNED Self.BITS (Some (exact_next_multiple_of (Self.number self) (Self.number other))) };
+        ensures { Some (Self.number result) ≡ wrapping Self.SIGNED Self.BITS
+            (Some (exact_next_multiple_of (Self.number self) (Self.number other))) };
 
     /// The product by an integer, wrapped.
     fn wrapping_mul_int(self, rhs: Self::Bits) -> Self
-        ensures { Some (Self.number result) ≡ wrapping Self.SIGNED Self.BITS (Some (exact_mul_int (Self.number self) (Self.Bits.value rhs))) };
+        ensures { Some (Self.number result) ≡ wrapping Self.SIGNED Self.BITS
+            (Some (exact_mul_int (Self.number self) (Self.Bits.value rhs))) };
 
     /// The quotient by an integer, rounded toward zero, wrapped; condition that the divisor is not
     /// zero.
     fn wrapping_div_int(self, rhs: Self::Bits) -> Self
         requires { Self.Bits.value rhs ≢ pos 0 }
-        ensures { Some (Self.number result) ≡ wrapping Self.SIGNED Self.BITS (Some (exact_div_int (Self.number self) (Self.Bits.value rhs))) };
+        ensures { Some (Self.number result) ≡ wrapping Self.SIGNED Self.BITS
+            (Some (exact_div_int (Self.number self) (Self.Bits.value rhs))) };
 
     /// The Euclidean remainder by an integer, wrapped; condition that the divisor is not zero.
     fn wrapping_rem_euclid_int(self, rhs: Self::Bits) -> Self
         requires fraction { Self.FRACTION ≤ Self.BITS }
         requires divisor { Self.Bits.value rhs ≢ pos 0 }
-        ensures { Some (Self.number result) ≡ wrapping Self.SIGNED Self.BITS (Some (exact_rem_euclid_int (Self.number self) (Self.Bits.value rhs) Self.FRACTION)) };
+        ensures { Some (Self.number result) ≡ wrapping Self.SIGNED Self.BITS
+            (Some (exact_rem_euclid_int (Self.number self) (Self.Bits.value rhs) Self.FRACTION)) };
 
     /// The Euclidean quotient by an integer, a whole number, wrapped; condition that the divisor is
     /// not zero.
     fn wrapping_div_euclid_int(self, rhs: Self::Bits) -> Self
         requires fraction { Self.FRACTION ≤ Self.BITS }
         requires divisor { Self.Bits.value rhs ≢ pos 0 }
-        ensures { Some (Self.number result) ≡ wrapping Self.SIGNED Self.BITS (Some (exact_div_euclid_int (Self.number self) (Self.Bits.value rhs) Self.FRACTION)) };
+        ensures { Some (Self.number result) ≡ wrapping Self.SIGNED Self.BITS
+            (Some (exact_div_euclid_int (Self.number self) (Self.Bits.value rhs) Self.FRACTION)) };
 
     /// The square root, rounded down, wrapped; condition that the number is not below zero.
     fn wrapping_sqrt(self) -> Self
         requires fraction { Self.FRACTION ≤ Self.BITS }
         requires sign { pos 0 ≤ℤ Self.number self }
-        ensures { Some (Self.number result) ≡ wrapping Self.SIGNED Self.BITS (Some (exact_sqrt (Self.number self) Self.FRACTION)) };
+        ensures { Some (Self.number result)
+            ≡ wrapping Self.SIGNED Self.BITS (Some (exact_sqrt (Self.number self) Self.FRACTION)) };
 
     /// The bits moved up by `rhs` modulo the width, without what lies past the width.
     fn wrapping_shl(self, rhs: u32) -> Self
-        ensures { Self.number result ≡ wrap Self.SIGNED Self.BITS (Self.number self *ℤ pos (2 ^ (rhs % Self.BITS))) };
+        ensures { Self.number result
+            ≡ wrap Self.SIGNED Self.BITS (Self.number self *ℤ pos (2 ^ (rhs % Self.BITS))) };
 
     /// The bits moved down by `rhs` modulo the width, rounded down.
     fn wrapping_shr(self, rhs: u32) -> Self
@@ -171,20 +186,24 @@ impl<T: Word, const F: u32> Wrapping for Fixed<T, F> {
 pub trait WrappingSigned: Wrapping {
     /// The magnitude, wrapped.
     fn wrapping_abs(self) -> Self
-        ensures { Some (Self.number result) ≡ wrapping Self.SIGNED Self.BITS (Some (exact_abs (Self.number self))) };
+        ensures { Some (Self.number result)
+            ≡ wrapping Self.SIGNED Self.BITS (Some (exact_abs (Self.number self))) };
 
     /// One by the sign of the number: 1, 0 or -1, wrapped.
     fn wrapping_signum(self) -> Self
         requires { Self.FRACTION ≤ Self.BITS }
-        ensures { Some (Self.number result) ≡ wrapping Self.SIGNED Self.BITS (Some (exact_signum (Self.number self) Self.FRACTION)) };
+        ensures { Some (Self.number result) ≡ wrapping Self.SIGNED Self.BITS
+            (Some (exact_signum (Self.number self) Self.FRACTION)) };
 
     /// The sum with an unsigned number, wrapped.
     fn wrapping_add_unsigned(self, rhs: Self::Unsigned) -> Self
-        ensures { Some (Self.number result) ≡ wrapping Self.SIGNED Self.BITS (Some (exact_add (Self.number self) (Self.Unsigned.number rhs))) };
+        ensures { Some (Self.number result) ≡ wrapping Self.SIGNED Self.BITS
+            (Some (exact_add (Self.number self) (Self.Unsigned.number rhs))) };
 
     /// The difference from an unsigned number, wrapped.
     fn wrapping_sub_unsigned(self, rhs: Self::Unsigned) -> Self
-        ensures { Some (Self.number result) ≡ wrapping Self.SIGNED Self.BITS (Some (exact_sub (Self.number self) (Self.Unsigned.number rhs))) };
+        ensures { Some (Self.number result) ≡ wrapping Self.SIGNED Self.BITS
+            (Some (exact_sub (Self.number self) (Self.Unsigned.number rhs))) };
 }
 
 impl<T: SignedWord, const F: u32> WrappingSigned for Fixed<T, F> {
@@ -209,15 +228,18 @@ impl<T: SignedWord, const F: u32> WrappingSigned for Fixed<T, F> {
 pub trait WrappingUnsigned: Wrapping {
     /// The least power of two, in units, that is at least the number, wrapped.
     fn wrapping_next_power_of_two(self) -> Self
-        ensures { Some (Self.number result) ≡ wrapping Self.SIGNED Self.BITS (Some (exact_next_power_of_two (Self.number self))) };
+        ensures { Some (Self.number result)
+            ≡ wrapping Self.SIGNED Self.BITS (Some (exact_next_power_of_two (Self.number self))) };
 
     /// The sum with a signed number, wrapped.
     fn wrapping_add_signed(self, rhs: Self::Signed) -> Self
-        ensures { Some (Self.number result) ≡ wrapping Self.SIGNED Self.BITS (Some (exact_add (Self.number self) (Self.Signed.number rhs))) };
+        ensures { Some (Self.number result) ≡ wrapping Self.SIGNED Self.BITS
+            (Some (exact_add (Self.number self) (Self.Signed.number rhs))) };
 
     /// The difference from a signed number, wrapped.
     fn wrapping_sub_signed(self, rhs: Self::Signed) -> Self
-        ensures { Some (Self.number result) ≡ wrapping Self.SIGNED Self.BITS (Some (exact_sub (Self.number self) (Self.Signed.number rhs))) };
+        ensures { Some (Self.number result) ≡ wrapping Self.SIGNED Self.BITS
+            (Some (exact_sub (Self.number self) (Self.Signed.number rhs))) };
 }
 
 impl<T: UnsignedWord, const F: u32> WrappingUnsigned for Fixed<T, F> {

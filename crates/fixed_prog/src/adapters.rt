@@ -15,6 +15,7 @@ pub struct StdSource<R> {
 }
 
 impl<R: Read> StdSource<R> {
+    /// The source of a reader, with no faults so far.
     pub fn new(reader: R) -> StdSource<R>
         ensures { result.faults ≡ 0 }
     {
@@ -31,7 +32,8 @@ impl<R: Read> Source for StdSource<R> {
         ensures faults { TellsFaults self.old.faults self.new.faults result }
         ensures raised { IfErr result (λ _. self.new.faults ≡ next_count self.old.faults) }
         // What the reader gave, where it tells its bytes.
-        ensures given { ReadConsumes (R.remaining self.old.reader) (R.remaining self.new.reader) result buf.new }
+        ensures given { ReadConsumes
+            (R.remaining self.old.reader) (R.remaining self.new.reader) result buf.new }
     {
         match self.reader.read(buf) {
             Ok(count) => Ok(count),
@@ -52,6 +54,7 @@ pub struct StdSink<W> {
 }
 
 impl<W: Write> StdSink<W> {
+    /// The sink of a writer, with no faults so far.
     pub fn new(writer: W) -> StdSink<W>
         ensures { result.faults ≡ 0 }
     {
@@ -72,7 +75,8 @@ impl<W: Write> Sink for StdSink<W> {
         ensures refused { IfErr result (λ refusal. refusal ≡ Refusal.Failed) }
         ensures raised { IfErr result (λ _. self.new.faults ≡ next_count self.old.faults) }
         // What the writer took, where it tells its bytes.
-        ensures taken { IfOk result (λ k. Appends (W.contents self.old.writer) (W.contents self.new.writer) (take k bytes.now)) }
+        ensures taken { IfOk result (λ k. Appends
+            (W.contents self.old.writer) (W.contents self.new.writer) (take k bytes.now)) }
     {
         match self.writer.write(bytes) {
             Ok(count) => {
@@ -87,13 +91,14 @@ impl<W: Write> Sink for StdSink<W> {
     }
 }
 
-/// A writer, as standard error.
+/// A writer, as standard error. It counts faults as `StdSink` does.
 #[derive(Drop)]
 pub struct StdErrors<W> {
     sink: StdSink<W>,
 }
 
 impl<W: Write> StdErrors<W> {
+    /// The errors of a writer, with no faults so far.
     pub fn new(writer: W) -> StdErrors<W>
         ensures { result.sink.faults ≡ 0 }
     {
@@ -114,9 +119,11 @@ impl<W: Write> Sink for StdErrors<W> {
             (record { taken = None; faults = self.old.sink.faults; shortages = 0 })
             (record { taken = None; faults = self.new.sink.faults; shortages = 0 }) result }
         ensures refused { IfErr result (λ refusal. refusal ≡ Refusal.Failed) }
-        ensures raised { IfErr result (λ _. self.new.sink.faults ≡ next_count self.old.sink.faults) }
+        ensures raised { IfErr result
+            (λ _. self.new.sink.faults ≡ next_count self.old.sink.faults) }
         // What the writer took, where it tells its bytes.
-        ensures taken { IfOk result (λ k. Appends (W.contents self.old.sink.writer) (W.contents self.new.sink.writer) (take k bytes.now)) }
+        ensures taken { IfOk result (λ k. Appends (W.contents self.old.sink.writer)
+            (W.contents self.new.sink.writer) (take k bytes.now)) }
     {
         self.sink.write(bytes)
     }

@@ -13,86 +13,100 @@ use fixed_kernel::{
 use fixed_num::{Fixed, Held, Number};
 use fixed_word::{RawWord, SignedWord, UnsignedWord, Word};
 
-/// The `saturating_` forms of all numbers. Integers and numbers are bits, in units of `2^-F` (the
-/// crate's).
+/// The `saturating_` forms of all numbers (the crate's). Answers are bits, in units of `2^-F`; an integer
+/// operand is a whole number. A call that uses F has the condition that it is at most the width.
 pub trait Saturating: Number {
     /// The negated number, held at the ends.
     fn saturating_neg(self) -> Self
-        ensures { Some (Self.number result) ≡ saturating Self.SIGNED Self.BITS (Some (exact_neg (Self.number self))) };
+        ensures { Some (Self.number result)
+            ≡ saturating Self.SIGNED Self.BITS (Some (exact_neg (Self.number self))) };
 
     /// The sum, held at the ends.
     fn saturating_add(self, rhs: Self) -> Self
-        ensures { Some (Self.number result) ≡ saturating Self.SIGNED Self.BITS (Some (exact_add (Self.number self) (Self.number rhs))) };
+        ensures { Some (Self.number result) ≡ saturating Self.SIGNED Self.BITS
+            (Some (exact_add (Self.number self) (Self.number rhs))) };
 
     /// The difference, held at the ends.
     fn saturating_sub(self, rhs: Self) -> Self
-        ensures { Some (Self.number result) ≡ saturating Self.SIGNED Self.BITS (Some (exact_sub (Self.number self) (Self.number rhs))) };
+        ensures { Some (Self.number result) ≡ saturating Self.SIGNED Self.BITS
+            (Some (exact_sub (Self.number self) (Self.number rhs))) };
 
     /// The product, rounded down, held at the ends.
     fn saturating_mul(self, rhs: Self) -> Self
         requires { Self.FRACTION ≤ Self.BITS }
-        ensures { Some (Self.number result) ≡ saturating Self.SIGNED Self.BITS (Some (exact_mul (Self.number self) (Self.number rhs) Self.FRACTION)) };
+        ensures { Some (Self.number result) ≡ saturating Self.SIGNED Self.BITS
+            (Some (exact_mul (Self.number self) (Self.number rhs) Self.FRACTION)) };
 
     /// The quotient, rounded toward zero, held at the ends; condition that the divisor is not zero.
     fn saturating_div(self, rhs: Self) -> Self
         requires fraction { Self.FRACTION ≤ Self.BITS }
         requires divisor { Self.number rhs ≢ pos 0 }
-        ensures { Some (Self.number result) ≡ saturating Self.SIGNED Self.BITS (Some (exact_div (Self.number self) (Self.number rhs) Self.FRACTION)) };
+        ensures { Some (Self.number result) ≡ saturating Self.SIGNED Self.BITS
+            (Some (exact_div (Self.number self) (Self.number rhs) Self.FRACTION)) };
 
     /// One over the number, rounded toward zero, held at the ends; condition that the number is not
     /// zero.
     fn saturating_recip(self) -> Self
         requires fraction { Self.FRACTION ≤ Self.BITS }
         requires divisor { Self.number self ≢ pos 0 }
-        ensures { Some (Self.number result) ≡ saturating Self.SIGNED Self.BITS (Some (exact_recip (Self.number self) Self.FRACTION)) };
+        ensures { Some (Self.number result) ≡ saturating Self.SIGNED Self.BITS
+            (Some (exact_recip (Self.number self) Self.FRACTION)) };
 
     /// The Euclidean quotient, a whole number, held at the ends; condition that the divisor is not
     /// zero.
     fn saturating_div_euclid(self, rhs: Self) -> Self
         requires fraction { Self.FRACTION ≤ Self.BITS }
         requires divisor { Self.number rhs ≢ pos 0 }
-        ensures { Some (Self.number result) ≡ saturating Self.SIGNED Self.BITS (Some (exact_div_euclid (Self.number self) (Self.number rhs) Self.FRACTION)) };
+        ensures { Some (Self.number result) ≡ saturating Self.SIGNED Self.BITS
+            (Some (exact_div_euclid (Self.number self) (Self.number rhs) Self.FRACTION)) };
 
     /// The distance of both numbers, held at the ends.
     fn saturating_dist(self, other: Self) -> Self
-        ensures { Some (Self.number result) ≡ saturating Self.SIGNED Self.BITS (Some (exact_dist (Self.number self) (Self.number other))) };
+        ensures { Some (Self.number result) ≡ saturating Self.SIGNED Self.BITS
+            (Some (exact_dist (Self.number self) (Self.number other))) };
 
     /// The next multiple of `other`, upward where it is above zero and downward where it is below,
     /// held at the ends; condition that `other` is not zero.
     fn saturating_next_multiple_of(self, other: Self) -> Self
         requires { Self.number other ≢ pos 0 }
-        ensures { Some (Self.number result) ≡ saturating Self.SIGNED Self.BITS (Some (exact_next_multiple_of (Self.number self) (Self.number other))) };
+        ensures { Some (Self.number result) ≡ saturating Self.SIGNED Self.BITS
+            (Some (exact_next_multiple_of (Self.number self) (Self.number other))) };
 
     /// The product by an integer, held at the ends.
     fn saturating_mul_int(self, rhs: Self::Bits) -> Self
-        ensures { Some (Self.number result) ≡ saturating Self.SIGNED Self.BITS (Some (exact_mul_int (Self.number self) (Self.Bits.value rhs))) };
+        ensures { Some (Self.number result) ≡ saturating Self.SIGNED Self.BITS
+            (Some (exact_mul_int (Self.number self) (Self.Bits.value rhs))) };
 
     /// The quotient by an integer, rounded toward zero, held at the ends; condition that the
     /// divisor is not zero.
     fn saturating_div_int(self, rhs: Self::Bits) -> Self
         requires { Self.Bits.value rhs ≢ pos 0 }
-        ensures { Some (Self.number result) ≡ saturating Self.SIGNED Self.BITS (Some (exact_div_int (Self.number self) (Self.Bits.value rhs))) };
+        ensures { Some (Self.number result) ≡ saturating Self.SIGNED Self.BITS
+            (Some (exact_div_int (Self.number self) (Self.Bits.value rhs))) };
 
     /// The Euclidean remainder by an integer, held at the ends; condition that the divisor is not
     /// zero.
     fn saturating_rem_euclid_int(self, rhs: Self::Bits) -> Self
         requires fraction { Self.FRACTION ≤ Self.BITS }
         requires divisor { Self.Bits.value rhs ≢ pos 0 }
-        ensures { Some (Self.number result) ≡ saturating Self.SIGNED Self.BITS (Some (exact_rem_euclid_int (Self.number self) (Self.Bits.value rhs) Self.FRACTION)) };
+        ensures { Some (Self.number result) ≡ saturating Self.SIGNED Self.BITS
+            (Some (exact_rem_euclid_int (Self.number self) (Self.Bits.value rhs) Self.FRACTION)) };
 
     /// The Euclidean quotient by an integer, a whole number, held at the ends; condition that the
     /// divisor is not zero.
     fn saturating_div_euclid_int(self, rhs: Self::Bits) -> Self
         requires fraction { Self.FRACTION ≤ Self.BITS }
         requires divisor { Self.Bits.value rhs ≢ pos 0 }
-        ensures { Some (Self.number result) ≡ saturating Self.SIGNED Self.BITS (Some (exact_div_euclid_int (Self.number self) (Self.Bits.value rhs) Self.FRACTION)) };
+        ensures { Some (Self.number result) ≡ saturating Self.SIGNED Self.BITS
+            (Some (exact_div_euclid_int (Self.number self) (Self.Bits.value rhs) Self.FRACTION)) };
 
     /// The square root, rounded down, held at the ends; condition that the number is not below
     /// zero.
     fn saturating_sqrt(self) -> Self
         requires fraction { Self.FRACTION ≤ Self.BITS }
         requires sign { pos 0 ≤ℤ Self.number self }
-        ensures { Some (Self.number result) ≡ saturating Self.SIGNED Self.BITS (Some (exact_sqrt (Self.number self) Self.FRACTION)) };
+        ensures { Some (Self.number result) ≡ saturating Self.SIGNED Self.BITS
+            (Some (exact_sqrt (Self.number self) Self.FRACTION)) };
 }
 
 impl<T: Word, const F: u32> Saturating for Fixed<T, F> {
@@ -157,20 +171,24 @@ impl<T: Word, const F: u32> Saturating for Fixed<T, F> {
 pub trait SaturatingSigned: Saturating {
     /// The magnitude, held at the ends.
     fn saturating_abs(self) -> Self
-        ensures { Some (Self.number result) ≡ saturating Self.SIGNED Self.BITS (Some (exact_abs (Self.number self))) };
+        ensures { Some (Self.number result)
+            ≡ saturating Self.SIGNED Self.BITS (Some (exact_abs (Self.number self))) };
 
     /// One by the sign of the number: 1, 0 or -1, held at the ends.
     fn saturating_signum(self) -> Self
         requires { Self.FRACTION ≤ Self.BITS }
-        ensures { Some (Self.number result) ≡ saturating Self.SIGNED Self.BITS (Some (exact_signum (Self.number self) Self.FRACTION)) };
+        ensures { Some (Self.number result) ≡ saturating Self.SIGNED Self.BITS
+            (Some (exact_signum (Self.number self) Self.FRACTION)) };
 
     /// The sum with an unsigned number, held at the ends.
     fn saturating_add_unsigned(self, rhs: Self::Unsigned) -> Self
-        ensures { Some (Self.number result) ≡ saturating Self.SIGNED Self.BITS (Some (exact_add (Self.number self) (Self.Unsigned.number rhs))) };
+        ensures { Some (Self.number result) ≡ saturating Self.SIGNED Self.BITS
+            (Some (exact_add (Self.number self) (Self.Unsigned.number rhs))) };
 
     /// The difference from an unsigned number, held at the ends.
     fn saturating_sub_unsigned(self, rhs: Self::Unsigned) -> Self
-        ensures { Some (Self.number result) ≡ saturating Self.SIGNED Self.BITS (Some (exact_sub (Self.number self) (Self.Unsigned.number rhs))) };
+        ensures { Some (Self.number result) ≡ saturating Self.SIGNED Self.BITS
+            (Some (exact_sub (Self.number self) (Self.Unsigned.number rhs))) };
 }
 
 impl<T: SignedWord, const F: u32> SaturatingSigned for Fixed<T, F> {
@@ -195,11 +213,13 @@ impl<T: SignedWord, const F: u32> SaturatingSigned for Fixed<T, F> {
 pub trait SaturatingUnsigned: Saturating {
     /// The sum with a signed number, held at the ends.
     fn saturating_add_signed(self, rhs: Self::Signed) -> Self
-        ensures { Some (Self.number result) ≡ saturating Self.SIGNED Self.BITS (Some (exact_add (Self.number self) (Self.Signed.number rhs))) };
+        ensures { Some (Self.number result) ≡ saturating Self.SIGNED Self.BITS
+            (Some (exact_add (Self.number self) (Self.Signed.number rhs))) };
 
     /// The difference from a signed number, held at the ends.
     fn saturating_sub_signed(self, rhs: Self::Signed) -> Self
-        ensures { Some (Self.number result) ≡ saturating Self.SIGNED Self.BITS (Some (exact_sub (Self.number self) (Self.Signed.number rhs))) };
+        ensures { Some (Self.number result) ≡ saturating Self.SIGNED Self.BITS
+            (Some (exact_sub (Self.number self) (Self.Signed.number rhs))) };
 }
 
 impl<T: UnsignedWord, const F: u32> SaturatingUnsigned for Fixed<T, F> {

@@ -15,13 +15,15 @@ pub trait SaturatingMulAdd<const G: u32>: Number {
     /// outside. Condition: G is at most the width.
     fn saturating_mul_add(self, mul: Fixed<Self::Bits, G>, add: Self) -> Self
         requires { G ≤ Self.BITS }
-        ensures { Some (Self.number result) ≡ saturating Self.SIGNED Self.BITS (Some (exact_mul_add (Self.number self) (Self.Bits.value mul.bits) (Self.number add) G)) };
+        ensures { Some (Self.number result) ≡ saturating Self.SIGNED Self.BITS (Some
+            (exact_mul_add (Self.number self) (Self.Bits.value mul.bits) (Self.number add) G)) };
 }
 
 impl<T: Word, const F: u32, const G: u32> SaturatingMulAdd<G> for Fixed<T, F> {
     fn saturating_mul_add(self, mul: Fixed<T, G>, add: Self) -> Self
         requires { G ≤ T.BITS }
-        ensures { Some (T.value result.bits) ≡ saturating T.SIGNED T.BITS (Some (exact_mul_add (T.value self.bits) (T.value mul.bits) (T.value add.bits) G)) }
+        ensures { Some (T.value result.bits) ≡ saturating T.SIGNED T.BITS
+            (Some (exact_mul_add (T.value self.bits) (T.value mul.bits) (T.value add.bits) G)) }
     {
         saturating_number(mul_add_of(self.bits, mul.bits, add.bits, G))
     }
@@ -35,14 +37,18 @@ pub trait SaturatingProducts<const A: u32, const B: u32>: Number {
         requires fraction { Self.FRACTION ≤ Self.BITS }
         requires a { A ≤ Self.BITS }
         requires b { B ≤ Self.BITS }
-        ensures { Some (Self.number result) ≡ saturating Self.SIGNED Self.BITS (Some (exact_add_prod (Self.number self) (Self.Bits.value a.bits) (Self.Bits.value b.bits) Self.FRACTION A B)) };
+        ensures { Some (Self.number result)
+            ≡ saturating Self.SIGNED Self.BITS (Some (exact_add_prod (Self.number self)
+            (Self.Bits.value a.bits) (Self.Bits.value b.bits) Self.FRACTION A B)) };
 
     /// Stores what `saturating_add_prod` answers.
     fn saturating_mul_acc(&mut self, a: Fixed<Self::Bits, A>, b: Fixed<Self::Bits, B>)
         requires fraction { Self.FRACTION ≤ Self.BITS }
         requires a { A ≤ Self.BITS }
         requires b { B ≤ Self.BITS }
-        ensures { Some (Self.number self.new) ≡ saturating Self.SIGNED Self.BITS (Some (exact_add_prod (Self.number self.old) (Self.Bits.value a.bits) (Self.Bits.value b.bits) Self.FRACTION A B)) };
+        ensures { Some (Self.number self.new)
+            ≡ saturating Self.SIGNED Self.BITS (Some (exact_add_prod (Self.number self.old)
+            (Self.Bits.value a.bits) (Self.Bits.value b.bits) Self.FRACTION A B)) };
 }
 
 impl<T: Word, const F: u32, const A: u32, const B: u32> SaturatingProducts<A, B> for Fixed<T, F> {
@@ -50,7 +56,8 @@ impl<T: Word, const F: u32, const A: u32, const B: u32> SaturatingProducts<A, B>
         requires fraction { F ≤ T.BITS }
         requires a { A ≤ T.BITS }
         requires b { B ≤ T.BITS }
-        ensures { Some (T.value result.bits) ≡ saturating T.SIGNED T.BITS (Some (exact_add_prod (T.value self.bits) (T.value a.bits) (T.value b.bits) F A B)) }
+        ensures { Some (T.value result.bits) ≡ saturating T.SIGNED T.BITS
+            (Some (exact_add_prod (T.value self.bits) (T.value a.bits) (T.value b.bits) F A B)) }
     {
         saturating_number(add_prod_of(self.bits, a.bits, b.bits, F, A, B))
     }
@@ -59,7 +66,8 @@ impl<T: Word, const F: u32, const A: u32, const B: u32> SaturatingProducts<A, B>
         requires fraction { F ≤ T.BITS }
         requires a { A ≤ T.BITS }
         requires b { B ≤ T.BITS }
-        ensures { Some (T.value self.new.bits) ≡ saturating T.SIGNED T.BITS (Some (exact_add_prod (T.value self.old.bits) (T.value a.bits) (T.value b.bits) F A B)) }
+        ensures { Some (T.value self.new.bits) ≡ saturating T.SIGNED T.BITS (Some
+            (exact_add_prod (T.value self.old.bits) (T.value a.bits) (T.value b.bits) F A B)) }
     {
         *self = self.saturating_add_prod(a, b);
     }

@@ -13,8 +13,8 @@ use fixed_kernel::{
 use fixed_num::{Fixed, Held, Number, exact_number};
 use fixed_word::{RawWord, SignedWord, UnsignedWord, Word};
 
-/// The `strict_` forms of all numbers. Integers and numbers are bits, in units of `2^-F` (the
-/// crate's).
+/// The `strict_` forms of all numbers (the crate's). Answers are bits, in units of `2^-F`; an integer
+/// operand is a whole number. A call that uses F has the condition that it is at most the width.
 pub trait Strict: Number {
     /// The negated number; condition that the answer fits.
     fn strict_neg(self) -> Self
@@ -34,36 +34,43 @@ pub trait Strict: Number {
     /// The product, rounded down; condition that the answer fits.
     fn strict_mul(self, rhs: Self) -> Self
         requires fraction { Self.FRACTION ≤ Self.BITS }
-        requires fits { InRange Self.SIGNED Self.BITS (exact_mul (Self.number self) (Self.number rhs) Self.FRACTION) }
-        ensures { Self.number result ≡ exact_mul (Self.number self) (Self.number rhs) Self.FRACTION };
+        requires fits { InRange Self.SIGNED Self.BITS
+            (exact_mul (Self.number self) (Self.number rhs) Self.FRACTION) }
+        ensures { Self.number result
+            ≡ exact_mul (Self.number self) (Self.number rhs) Self.FRACTION };
 
     /// The quotient, rounded toward zero; condition that the divisor is not zero and the answer
     /// fits.
     fn strict_div(self, rhs: Self) -> Self
         requires fraction { Self.FRACTION ≤ Self.BITS }
         requires divisor { Self.number rhs ≢ pos 0 }
-        requires fits { InRange Self.SIGNED Self.BITS (exact_div (Self.number self) (Self.number rhs) Self.FRACTION) }
-        ensures { Self.number result ≡ exact_div (Self.number self) (Self.number rhs) Self.FRACTION };
+        requires fits { InRange Self.SIGNED Self.BITS
+            (exact_div (Self.number self) (Self.number rhs) Self.FRACTION) }
+        ensures { Self.number result
+            ≡ exact_div (Self.number self) (Self.number rhs) Self.FRACTION };
 
     /// One over the number, rounded toward zero; condition that the number is not zero and the
     /// answer fits.
     fn strict_recip(self) -> Self
         requires fraction { Self.FRACTION ≤ Self.BITS }
         requires divisor { Self.number self ≢ pos 0 }
-        requires fits { InRange Self.SIGNED Self.BITS (exact_recip (Self.number self) Self.FRACTION) }
+        requires fits { InRange Self.SIGNED Self.BITS
+            (exact_recip (Self.number self) Self.FRACTION) }
         ensures { Self.number result ≡ exact_recip (Self.number self) Self.FRACTION };
 
     /// The remainder of the quotient that is rounded toward zero; condition that the divisor is not
     /// zero and the answer fits.
     fn strict_rem(self, rhs: Self) -> Self
         requires divisor { Self.number rhs ≢ pos 0 }
-        requires fits { InRange Self.SIGNED Self.BITS (exact_rem (Self.number self) (Self.number rhs)) }
+        requires fits { InRange Self.SIGNED Self.BITS
+            (exact_rem (Self.number self) (Self.number rhs)) }
         ensures { Self.number result ≡ exact_rem (Self.number self) (Self.number rhs) };
 
     /// The Euclidean remainder; condition that the divisor is not zero and the answer fits.
     fn strict_rem_euclid(self, rhs: Self) -> Self
         requires divisor { Self.number rhs ≢ pos 0 }
-        requires fits { InRange Self.SIGNED Self.BITS (exact_rem_euclid (Self.number self) (Self.number rhs)) }
+        requires fits { InRange Self.SIGNED Self.BITS
+            (exact_rem_euclid (Self.number self) (Self.number rhs)) }
         ensures { Self.number result ≡ exact_rem_euclid (Self.number self) (Self.number rhs) };
 
     /// The Euclidean quotient, a whole number; condition that the divisor is not zero and the
@@ -71,31 +78,38 @@ pub trait Strict: Number {
     fn strict_div_euclid(self, rhs: Self) -> Self
         requires fraction { Self.FRACTION ≤ Self.BITS }
         requires divisor { Self.number rhs ≢ pos 0 }
-        requires fits { InRange Self.SIGNED Self.BITS (exact_div_euclid (Self.number self) (Self.number rhs) Self.FRACTION) }
-        ensures { Self.number result ≡ exact_div_euclid (Self.number self) (Self.number rhs) Self.FRACTION };
+        requires fits { InRange Self.SIGNED Self.BITS
+            (exact_div_euclid (Self.number self) (Self.number rhs) Self.FRACTION) }
+        ensures { Self.number result
+            ≡ exact_div_euclid (Self.number self) (Self.number rhs) Self.FRACTION };
 
     /// The distance of both numbers; condition that the answer fits.
     fn strict_dist(self, other: Self) -> Self
-        requires { InRange Self.SIGNED Self.BITS (exact_dist (Self.number self) (Self.number other)) }
+        requires { InRange Self.SIGNED Self.BITS
+            (exact_dist (Self.number self) (Self.number other)) }
         ensures { Self.number result ≡ exact_dist (Self.number self) (Self.number other) };
 
     /// The next multiple of `other`, upward where it is above zero and downward where it is below;
     /// condition that `other` is not zero and the answer fits.
     fn strict_next_multiple_of(self, other: Self) -> Self
         requires divisor { Self.number other ≢ pos 0 }
-        requires fits { InRange Self.SIGNED Self.BITS (exact_next_multiple_of (Self.number self) (Self.number other)) }
-        ensures { Self.number result ≡ exact_next_multiple_of (Self.number self) (Self.number other) };
+        requires fits { InRange Self.SIGNED Self.BITS
+            (exact_next_multiple_of (Self.number self) (Self.number other)) }
+        ensures { Self.number result
+            ≡ exact_next_multiple_of (Self.number self) (Self.number other) };
 
     /// The product by an integer; condition that the answer fits.
     fn strict_mul_int(self, rhs: Self::Bits) -> Self
-        requires { InRange Self.SIGNED Self.BITS (exact_mul_int (Self.number self) (Self.Bits.value rhs)) }
+        requires { InRange Self.SIGNED Self.BITS
+            (exact_mul_int (Self.number self) (Self.Bits.value rhs)) }
         ensures { Self.number result ≡ exact_mul_int (Self.number self) (Self.Bits.value rhs) };
 
     /// The quotient by an integer, rounded toward zero; condition that the divisor is not zero and
     /// the answer fits.
     fn strict_div_int(self, rhs: Self::Bits) -> Self
         requires divisor { Self.Bits.value rhs ≢ pos 0 }
-        requires fits { InRange Self.SIGNED Self.BITS (exact_div_int (Self.number self) (Self.Bits.value rhs)) }
+        requires fits { InRange Self.SIGNED Self.BITS
+            (exact_div_int (Self.number self) (Self.Bits.value rhs)) }
         ensures { Self.number result ≡ exact_div_int (Self.number self) (Self.Bits.value rhs) };
 
     /// The remainder by an integer, of the quotient that is rounded toward zero; condition that the
@@ -103,38 +117,46 @@ pub trait Strict: Number {
     fn strict_rem_int(self, rhs: Self::Bits) -> Self
         requires fraction { Self.FRACTION ≤ Self.BITS }
         requires divisor { Self.Bits.value rhs ≢ pos 0 }
-        requires fits { InRange Self.SIGNED Self.BITS (exact_rem_int (Self.number self) (Self.Bits.value rhs) Self.FRACTION) }
-        ensures { Self.number result ≡ exact_rem_int (Self.number self) (Self.Bits.value rhs) Self.FRACTION };
+        requires fits { InRange Self.SIGNED Self.BITS
+            (exact_rem_int (Self.number self) (Self.Bits.value rhs) Self.FRACTION) }
+        ensures { Self.number result
+            ≡ exact_rem_int (Self.number self) (Self.Bits.value rhs) Self.FRACTION };
 
     /// The Euclidean remainder by an integer; condition that the divisor is not zero and the answer
     /// fits.
     fn strict_rem_euclid_int(self, rhs: Self::Bits) -> Self
         requires fraction { Self.FRACTION ≤ Self.BITS }
         requires divisor { Self.Bits.value rhs ≢ pos 0 }
-        requires fits { InRange Self.SIGNED Self.BITS (exact_rem_euclid_int (Self.number self) (Self.Bits.value rhs) Self.FRACTION) }
-        ensures { Self.number result ≡ exact_rem_euclid_int (Self.number self) (Self.Bits.value rhs) Self.FRACTION };
+        requires fits { InRange Self.SIGNED Self.BITS
+            (exact_rem_euclid_int (Self.number self) (Self.Bits.value rhs) Self.FRACTION) }
+        ensures { Self.number result
+            ≡ exact_rem_euclid_int (Self.number self) (Self.Bits.value rhs) Self.FRACTION };
 
     /// The Euclidean quotient by an integer, a whole number; condition that the divisor is not zero
     /// and the answer fits.
     fn strict_div_euclid_int(self, rhs: Self::Bits) -> Self
         requires fraction { Self.FRACTION ≤ Self.BITS }
         requires divisor { Self.Bits.value rhs ≢ pos 0 }
-        requires fits { InRange Self.SIGNED Self.BITS (exact_div_euclid_int (Self.number self) (Self.Bits.value rhs) Self.FRACTION) }
-        ensures { Self.number result ≡ exact_div_euclid_int (Self.number self) (Self.Bits.value rhs) Self.FRACTION };
+        requires fits { InRange Self.SIGNED Self.BITS
+            (exact_div_euclid_int (Self.number self) (Self.Bits.value rhs) Self.FRACTION) }
+        ensures { Self.number result
+            ≡ exact_div_euclid_int (Self.number self) (Self.Bits.value rhs) Self.FRACTION };
 
     /// The square root, rounded down; condition that the number is not below zero and the answer
     /// fits.
     fn strict_sqrt(self) -> Self
         requires fraction { Self.FRACTION ≤ Self.BITS }
         requires sign { pos 0 ≤ℤ Self.number self }
-        requires fits { InRange Self.SIGNED Self.BITS (exact_sqrt (Self.number self) Self.FRACTION) }
+        requires fits { InRange Self.SIGNED Self.BITS
+            (exact_sqrt (Self.number self) Self.FRACTION) }
         ensures { Self.number result ≡ exact_sqrt (Self.number self) Self.FRACTION };
 
     /// The bits moved up by `rhs` places, without what lies past the width; condition that `rhs` is
     /// below the width.
     fn strict_shl(self, rhs: u32) -> Self
         requires { rhs < Self.BITS }
-        ensures { Self.number result ≡ wrap Self.SIGNED Self.BITS (Self.number self *ℤ pos (2 ^ rhs)) };
+        ensures { Self.number result
+            ≡ wrap Self.SIGNED Self.BITS (Self.number self *ℤ pos (2 ^ rhs)) };
 
     /// The bits moved down by `rhs` places, rounded down; condition that `rhs` is below the width.
     fn strict_shr(self, rhs: u32) -> Self
@@ -230,17 +252,20 @@ pub trait StrictSigned: Strict {
     /// One by the sign of the number: 1, 0 or -1; condition that the answer fits.
     fn strict_signum(self) -> Self
         requires fraction { Self.FRACTION ≤ Self.BITS }
-        requires fits { InRange Self.SIGNED Self.BITS (exact_signum (Self.number self) Self.FRACTION) }
+        requires fits { InRange Self.SIGNED Self.BITS
+            (exact_signum (Self.number self) Self.FRACTION) }
         ensures { Self.number result ≡ exact_signum (Self.number self) Self.FRACTION };
 
     /// The sum with an unsigned number; condition that the answer fits.
     fn strict_add_unsigned(self, rhs: Self::Unsigned) -> Self
-        requires { InRange Self.SIGNED Self.BITS (exact_add (Self.number self) (Self.Unsigned.number rhs)) }
+        requires { InRange Self.SIGNED Self.BITS
+            (exact_add (Self.number self) (Self.Unsigned.number rhs)) }
         ensures { Self.number result ≡ exact_add (Self.number self) (Self.Unsigned.number rhs) };
 
     /// The difference from an unsigned number; condition that the answer fits.
     fn strict_sub_unsigned(self, rhs: Self::Unsigned) -> Self
-        requires { InRange Self.SIGNED Self.BITS (exact_sub (Self.number self) (Self.Unsigned.number rhs)) }
+        requires { InRange Self.SIGNED Self.BITS
+            (exact_sub (Self.number self) (Self.Unsigned.number rhs)) }
         ensures { Self.number result ≡ exact_sub (Self.number self) (Self.Unsigned.number rhs) };
 }
 
@@ -272,12 +297,14 @@ pub trait StrictUnsigned: Strict {
 
     /// The sum with a signed number; condition that the answer fits.
     fn strict_add_signed(self, rhs: Self::Signed) -> Self
-        requires { InRange Self.SIGNED Self.BITS (exact_add (Self.number self) (Self.Signed.number rhs)) }
+        requires { InRange Self.SIGNED Self.BITS
+            (exact_add (Self.number self) (Self.Signed.number rhs)) }
         ensures { Self.number result ≡ exact_add (Self.number self) (Self.Signed.number rhs) };
 
     /// The difference from a signed number; condition that the answer fits.
     fn strict_sub_signed(self, rhs: Self::Signed) -> Self
-        requires { InRange Self.SIGNED Self.BITS (exact_sub (Self.number self) (Self.Signed.number rhs)) }
+        requires { InRange Self.SIGNED Self.BITS
+            (exact_sub (Self.number self) (Self.Signed.number rhs)) }
         ensures { Self.number result ≡ exact_sub (Self.number self) (Self.Signed.number rhs) };
 }
 

@@ -9,8 +9,8 @@ use crate::strict::{Strict, StrictSigned, StrictUnsigned};
 use fixed_num::{Fixed, Held, Number};
 use fixed_word::{RawWord, SignedWord, UnsignedWord, Word};
 
-/// The `unwrapped_` forms of all numbers. Integers and numbers are bits, in units of `2^-F` (the
-/// crate's).
+/// The `unwrapped_` forms of all numbers (the crate's). Answers are bits, in units of `2^-F`; an integer
+/// operand is a whole number. A call that uses F has the condition that it is at most the width.
 pub trait Unwrapped: Number {
     /// The negated number; condition that the answer fits.
     fn unwrapped_neg(self) -> Self
@@ -30,36 +30,43 @@ pub trait Unwrapped: Number {
     /// The product, rounded down; condition that the answer fits.
     fn unwrapped_mul(self, rhs: Self) -> Self
         requires fraction { Self.FRACTION ≤ Self.BITS }
-        requires fits { InRange Self.SIGNED Self.BITS (exact_mul (Self.number self) (Self.number rhs) Self.FRACTION) }
-        ensures { Self.number result ≡ exact_mul (Self.number self) (Self.number rhs) Self.FRACTION };
+        requires fits { InRange Self.SIGNED Self.BITS
+            (exact_mul (Self.number self) (Self.number rhs) Self.FRACTION) }
+        ensures { Self.number result
+            ≡ exact_mul (Self.number self) (Self.number rhs) Self.FRACTION };
 
     /// The quotient, rounded toward zero; condition that the divisor is not zero and the answer
     /// fits.
     fn unwrapped_div(self, rhs: Self) -> Self
         requires fraction { Self.FRACTION ≤ Self.BITS }
         requires divisor { Self.number rhs ≢ pos 0 }
-        requires fits { InRange Self.SIGNED Self.BITS (exact_div (Self.number self) (Self.number rhs) Self.FRACTION) }
-        ensures { Self.number result ≡ exact_div (Self.number self) (Self.number rhs) Self.FRACTION };
+        requires fits { InRange Self.SIGNED Self.BITS
+            (exact_div (Self.number self) (Self.number rhs) Self.FRACTION) }
+        ensures { Self.number result
+            ≡ exact_div (Self.number self) (Self.number rhs) Self.FRACTION };
 
     /// One over the number, rounded toward zero; condition that the number is not zero and the
     /// answer fits.
     fn unwrapped_recip(self) -> Self
         requires fraction { Self.FRACTION ≤ Self.BITS }
         requires divisor { Self.number self ≢ pos 0 }
-        requires fits { InRange Self.SIGNED Self.BITS (exact_recip (Self.number self) Self.FRACTION) }
+        requires fits { InRange Self.SIGNED Self.BITS
+            (exact_recip (Self.number self) Self.FRACTION) }
         ensures { Self.number result ≡ exact_recip (Self.number self) Self.FRACTION };
 
     /// The remainder of the quotient that is rounded toward zero; condition that the divisor is not
     /// zero and the answer fits.
     fn unwrapped_rem(self, rhs: Self) -> Self
         requires divisor { Self.number rhs ≢ pos 0 }
-        requires fits { InRange Self.SIGNED Self.BITS (exact_rem (Self.number self) (Self.number rhs)) }
+        requires fits { InRange Self.SIGNED Self.BITS
+            (exact_rem (Self.number self) (Self.number rhs)) }
         ensures { Self.number result ≡ exact_rem (Self.number self) (Self.number rhs) };
 
     /// The Euclidean remainder; condition that the divisor is not zero and the answer fits.
     fn unwrapped_rem_euclid(self, rhs: Self) -> Self
         requires divisor { Self.number rhs ≢ pos 0 }
-        requires fits { InRange Self.SIGNED Self.BITS (exact_rem_euclid (Self.number self) (Self.number rhs)) }
+        requires fits { InRange Self.SIGNED Self.BITS
+            (exact_rem_euclid (Self.number self) (Self.number rhs)) }
         ensures { Self.number result ≡ exact_rem_euclid (Self.number self) (Self.number rhs) };
 
     /// The Euclidean quotient, a whole number; condition that the divisor is not zero and the
@@ -67,31 +74,38 @@ pub trait Unwrapped: Number {
     fn unwrapped_div_euclid(self, rhs: Self) -> Self
         requires fraction { Self.FRACTION ≤ Self.BITS }
         requires divisor { Self.number rhs ≢ pos 0 }
-        requires fits { InRange Self.SIGNED Self.BITS (exact_div_euclid (Self.number self) (Self.number rhs) Self.FRACTION) }
-        ensures { Self.number result ≡ exact_div_euclid (Self.number self) (Self.number rhs) Self.FRACTION };
+        requires fits { InRange Self.SIGNED Self.BITS
+            (exact_div_euclid (Self.number self) (Self.number rhs) Self.FRACTION) }
+        ensures { Self.number result
+            ≡ exact_div_euclid (Self.number self) (Self.number rhs) Self.FRACTION };
 
     /// The distance of both numbers; condition that the answer fits.
     fn unwrapped_dist(self, other: Self) -> Self
-        requires { InRange Self.SIGNED Self.BITS (exact_dist (Self.number self) (Self.number other)) }
+        requires { InRange Self.SIGNED Self.BITS
+            (exact_dist (Self.number self) (Self.number other)) }
         ensures { Self.number result ≡ exact_dist (Self.number self) (Self.number other) };
 
     /// The next multiple of `other`, upward where it is above zero and downward where it is below;
     /// condition that `other` is not zero and the answer fits.
     fn unwrapped_next_multiple_of(self, other: Self) -> Self
         requires divisor { Self.number other ≢ pos 0 }
-        requires fits { InRange Self.SIGNED Self.BITS (exact_next_multiple_of (Self.number self) (Self.number other)) }
-        ensures { Self.number result ≡ exact_next_multiple_of (Self.number self) (Self.number other) };
+        requires fits { InRange Self.SIGNED Self.BITS
+            (exact_next_multiple_of (Self.number self) (Self.number other)) }
+        ensures { Self.number result
+            ≡ exact_next_multiple_of (Self.number self) (Self.number other) };
 
     /// The product by an integer; condition that the answer fits.
     fn unwrapped_mul_int(self, rhs: Self::Bits) -> Self
-        requires { InRange Self.SIGNED Self.BITS (exact_mul_int (Self.number self) (Self.Bits.value rhs)) }
+        requires { InRange Self.SIGNED Self.BITS
+            (exact_mul_int (Self.number self) (Self.Bits.value rhs)) }
         ensures { Self.number result ≡ exact_mul_int (Self.number self) (Self.Bits.value rhs) };
 
     /// The quotient by an integer, rounded toward zero; condition that the divisor is not zero and
     /// the answer fits.
     fn unwrapped_div_int(self, rhs: Self::Bits) -> Self
         requires divisor { Self.Bits.value rhs ≢ pos 0 }
-        requires fits { InRange Self.SIGNED Self.BITS (exact_div_int (Self.number self) (Self.Bits.value rhs)) }
+        requires fits { InRange Self.SIGNED Self.BITS
+            (exact_div_int (Self.number self) (Self.Bits.value rhs)) }
         ensures { Self.number result ≡ exact_div_int (Self.number self) (Self.Bits.value rhs) };
 
     /// The remainder by an integer, of the quotient that is rounded toward zero; condition that the
@@ -99,38 +113,46 @@ pub trait Unwrapped: Number {
     fn unwrapped_rem_int(self, rhs: Self::Bits) -> Self
         requires fraction { Self.FRACTION ≤ Self.BITS }
         requires divisor { Self.Bits.value rhs ≢ pos 0 }
-        requires fits { InRange Self.SIGNED Self.BITS (exact_rem_int (Self.number self) (Self.Bits.value rhs) Self.FRACTION) }
-        ensures { Self.number result ≡ exact_rem_int (Self.number self) (Self.Bits.value rhs) Self.FRACTION };
+        requires fits { InRange Self.SIGNED Self.BITS
+            (exact_rem_int (Self.number self) (Self.Bits.value rhs) Self.FRACTION) }
+        ensures { Self.number result
+            ≡ exact_rem_int (Self.number self) (Self.Bits.value rhs) Self.FRACTION };
 
     /// The Euclidean remainder by an integer; condition that the divisor is not zero and the answer
     /// fits.
     fn unwrapped_rem_euclid_int(self, rhs: Self::Bits) -> Self
         requires fraction { Self.FRACTION ≤ Self.BITS }
         requires divisor { Self.Bits.value rhs ≢ pos 0 }
-        requires fits { InRange Self.SIGNED Self.BITS (exact_rem_euclid_int (Self.number self) (Self.Bits.value rhs) Self.FRACTION) }
-        ensures { Self.number result ≡ exact_rem_euclid_int (Self.number self) (Self.Bits.value rhs) Self.FRACTION };
+        requires fits { InRange Self.SIGNED Self.BITS
+            (exact_rem_euclid_int (Self.number self) (Self.Bits.value rhs) Self.FRACTION) }
+        ensures { Self.number result
+            ≡ exact_rem_euclid_int (Self.number self) (Self.Bits.value rhs) Self.FRACTION };
 
     /// The Euclidean quotient by an integer, a whole number; condition that the divisor is not zero
     /// and the answer fits.
     fn unwrapped_div_euclid_int(self, rhs: Self::Bits) -> Self
         requires fraction { Self.FRACTION ≤ Self.BITS }
         requires divisor { Self.Bits.value rhs ≢ pos 0 }
-        requires fits { InRange Self.SIGNED Self.BITS (exact_div_euclid_int (Self.number self) (Self.Bits.value rhs) Self.FRACTION) }
-        ensures { Self.number result ≡ exact_div_euclid_int (Self.number self) (Self.Bits.value rhs) Self.FRACTION };
+        requires fits { InRange Self.SIGNED Self.BITS
+            (exact_div_euclid_int (Self.number self) (Self.Bits.value rhs) Self.FRACTION) }
+        ensures { Self.number result
+            ≡ exact_div_euclid_int (Self.number self) (Self.Bits.value rhs) Self.FRACTION };
 
     /// The square root, rounded down; condition that the number is not below zero and the answer
     /// fits.
     fn unwrapped_sqrt(self) -> Self
         requires fraction { Self.FRACTION ≤ Self.BITS }
         requires sign { pos 0 ≤ℤ Self.number self }
-        requires fits { InRange Self.SIGNED Self.BITS (exact_sqrt (Self.number self) Self.FRACTION) }
+        requires fits { InRange Self.SIGNED Self.BITS
+            (exact_sqrt (Self.number self) Self.FRACTION) }
         ensures { Self.number result ≡ exact_sqrt (Self.number self) Self.FRACTION };
 
     /// The bits moved up by `rhs` places, without what lies past the width; condition that `rhs` is
     /// below the width.
     fn unwrapped_shl(self, rhs: u32) -> Self
         requires { rhs < Self.BITS }
-        ensures { Self.number result ≡ wrap Self.SIGNED Self.BITS (Self.number self *ℤ pos (2 ^ rhs)) };
+        ensures { Self.number result
+            ≡ wrap Self.SIGNED Self.BITS (Self.number self *ℤ pos (2 ^ rhs)) };
 
     /// The bits moved down by `rhs` places, rounded down; condition that `rhs` is below the width.
     fn unwrapped_shr(self, rhs: u32) -> Self
@@ -226,17 +248,20 @@ pub trait UnwrappedSigned: Unwrapped {
     /// One by the sign of the number: 1, 0 or -1; condition that the answer fits.
     fn unwrapped_signum(self) -> Self
         requires fraction { Self.FRACTION ≤ Self.BITS }
-        requires fits { InRange Self.SIGNED Self.BITS (exact_signum (Self.number self) Self.FRACTION) }
+        requires fits { InRange Self.SIGNED Self.BITS
+            (exact_signum (Self.number self) Self.FRACTION) }
         ensures { Self.number result ≡ exact_signum (Self.number self) Self.FRACTION };
 
     /// The sum with an unsigned number; condition that the answer fits.
     fn unwrapped_add_unsigned(self, rhs: Self::Unsigned) -> Self
-        requires { InRange Self.SIGNED Self.BITS (exact_add (Self.number self) (Self.Unsigned.number rhs)) }
+        requires { InRange Self.SIGNED Self.BITS
+            (exact_add (Self.number self) (Self.Unsigned.number rhs)) }
         ensures { Self.number result ≡ exact_add (Self.number self) (Self.Unsigned.number rhs) };
 
     /// The difference from an unsigned number; condition that the answer fits.
     fn unwrapped_sub_unsigned(self, rhs: Self::Unsigned) -> Self
-        requires { InRange Self.SIGNED Self.BITS (exact_sub (Self.number self) (Self.Unsigned.number rhs)) }
+        requires { InRange Self.SIGNED Self.BITS
+            (exact_sub (Self.number self) (Self.Unsigned.number rhs)) }
         ensures { Self.number result ≡ exact_sub (Self.number self) (Self.Unsigned.number rhs) };
 }
 
@@ -268,12 +293,14 @@ pub trait UnwrappedUnsigned: Unwrapped {
 
     /// The sum with a signed number; condition that the answer fits.
     fn unwrapped_add_signed(self, rhs: Self::Signed) -> Self
-        requires { InRange Self.SIGNED Self.BITS (exact_add (Self.number self) (Self.Signed.number rhs)) }
+        requires { InRange Self.SIGNED Self.BITS
+            (exact_add (Self.number self) (Self.Signed.number rhs)) }
         ensures { Self.number result ≡ exact_add (Self.number self) (Self.Signed.number rhs) };
 
     /// The difference from a signed number; condition that the answer fits.
     fn unwrapped_sub_signed(self, rhs: Self::Signed) -> Self
-        requires { InRange Self.SIGNED Self.BITS (exact_sub (Self.number self) (Self.Signed.number rhs)) }
+        requires { InRange Self.SIGNED Self.BITS
+            (exact_sub (Self.number self) (Self.Signed.number rhs)) }
         ensures { Self.number result ≡ exact_sub (Self.number self) (Self.Signed.number rhs) };
 }
 

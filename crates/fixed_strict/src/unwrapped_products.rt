@@ -14,15 +14,19 @@ pub trait UnwrappedMulAdd<const G: u32>: Number {
     /// alone may lie outside. Condition: G is at most the width.
     fn unwrapped_mul_add(self, mul: Fixed<Self::Bits, G>, add: Self) -> Self
         requires fraction { G ≤ Self.BITS }
-        requires fits { InRange Self.SIGNED Self.BITS (exact_mul_add (Self.number self) (Self.Bits.value mul.bits) (Self.number add) G) }
-        ensures { Self.number result ≡ exact_mul_add (Self.number self) (Self.Bits.value mul.bits) (Self.number add) G };
+        requires fits { InRange Self.SIGNED Self.BITS
+            (exact_mul_add (Self.number self) (Self.Bits.value mul.bits) (Self.number add) G) }
+        ensures { Self.number result
+            ≡ exact_mul_add (Self.number self) (Self.Bits.value mul.bits) (Self.number add) G };
 }
 
 impl<T: Word, const F: u32, const G: u32> UnwrappedMulAdd<G> for Fixed<T, F> {
     fn unwrapped_mul_add(self, mul: Fixed<T, G>, add: Self) -> Self
         requires fraction { G ≤ T.BITS }
-        requires fits { InRange T.SIGNED T.BITS (exact_mul_add (T.value self.bits) (T.value mul.bits) (T.value add.bits) G) }
-        ensures { T.value result.bits ≡ exact_mul_add (T.value self.bits) (T.value mul.bits) (T.value add.bits) G }
+        requires fits { InRange T.SIGNED T.BITS
+            (exact_mul_add (T.value self.bits) (T.value mul.bits) (T.value add.bits) G) }
+        ensures { T.value result.bits
+            ≡ exact_mul_add (T.value self.bits) (T.value mul.bits) (T.value add.bits) G }
     {
         self.strict_mul_add(mul, add)
     }
@@ -36,16 +40,20 @@ pub trait UnwrappedProducts<const A: u32, const B: u32>: Number {
         requires fraction { Self.FRACTION ≤ Self.BITS }
         requires a { A ≤ Self.BITS }
         requires b { B ≤ Self.BITS }
-        requires fits { InRange Self.SIGNED Self.BITS (exact_add_prod (Self.number self) (Self.Bits.value a.bits) (Self.Bits.value b.bits) Self.FRACTION A B) }
-        ensures { Self.number result ≡ exact_add_prod (Self.number self) (Self.Bits.value a.bits) (Self.Bits.value b.bits) Self.FRACTION A B };
+        requires fits { InRange Self.SIGNED Self.BITS (exact_add_prod (Self.number self)
+            (Self.Bits.value a.bits) (Self.Bits.value b.bits) Self.FRACTION A B) }
+        ensures { Self.number result ≡ exact_add_prod (Self.number self)
+            (Self.Bits.value a.bits) (Self.Bits.value b.bits) Self.FRACTION A B };
 
     /// Stores what `unwrapped_add_prod` answers.
     fn unwrapped_mul_acc(&mut self, a: Fixed<Self::Bits, A>, b: Fixed<Self::Bits, B>)
         requires fraction { Self.FRACTION ≤ Self.BITS }
         requires a { A ≤ Self.BITS }
         requires b { B ≤ Self.BITS }
-        requires fits { InRange Self.SIGNED Self.BITS (exact_add_prod (Self.number self.old) (Self.Bits.value a.bits) (Self.Bits.value b.bits) Self.FRACTION A B) }
-        ensures { Self.number self.new ≡ exact_add_prod (Self.number self.old) (Self.Bits.value a.bits) (Self.Bits.value b.bits) Self.FRACTION A B };
+        requires fits { InRange Self.SIGNED Self.BITS (exact_add_prod (Self.number self.old)
+            (Self.Bits.value a.bits) (Self.Bits.value b.bits) Self.FRACTION A B) }
+        ensures { Self.number self.new ≡ exact_add_prod (Self.number self.old)
+            (Self.Bits.value a.bits) (Self.Bits.value b.bits) Self.FRACTION A B };
 }
 
 impl<T: Word, const F: u32, const A: u32, const B: u32> UnwrappedProducts<A, B> for Fixed<T, F> {
@@ -53,8 +61,10 @@ impl<T: Word, const F: u32, const A: u32, const B: u32> UnwrappedProducts<A, B> 
         requires fraction { F ≤ T.BITS }
         requires a { A ≤ T.BITS }
         requires b { B ≤ T.BITS }
-        requires fits { InRange T.SIGNED T.BITS (exact_add_prod (T.value self.bits) (T.value a.bits) (T.value b.bits) F A B) }
-        ensures { T.value result.bits ≡ exact_add_prod (T.value self.bits) (T.value a.bits) (T.value b.bits) F A B }
+        requires fits { InRange T.SIGNED T.BITS
+            (exact_add_prod (T.value self.bits) (T.value a.bits) (T.value b.bits) F A B) }
+        ensures { T.value result.bits
+            ≡ exact_add_prod (T.value self.bits) (T.value a.bits) (T.value b.bits) F A B }
     {
         self.strict_add_prod(a, b)
     }
@@ -63,8 +73,10 @@ impl<T: Word, const F: u32, const A: u32, const B: u32> UnwrappedProducts<A, B> 
         requires fraction { F ≤ T.BITS }
         requires a { A ≤ T.BITS }
         requires b { B ≤ T.BITS }
-        requires fits { InRange T.SIGNED T.BITS (exact_add_prod (T.value self.old.bits) (T.value a.bits) (T.value b.bits) F A B) }
-        ensures { T.value self.new.bits ≡ exact_add_prod (T.value self.old.bits) (T.value a.bits) (T.value b.bits) F A B }
+        requires fits { InRange T.SIGNED T.BITS
+            (exact_add_prod (T.value self.old.bits) (T.value a.bits) (T.value b.bits) F A B) }
+        ensures { T.value self.new.bits
+            ≡ exact_add_prod (T.value self.old.bits) (T.value a.bits) (T.value b.bits) F A B }
     {
         *self = self.unwrapped_add_prod(a, b);
     }

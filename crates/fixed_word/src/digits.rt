@@ -11,43 +11,47 @@ ghost use Rattle.std.proofs.Common.{inl, inr};
 use crate::ledger::{Ledger, Steps};
 use crate::word::Valued;
 
-/// An unsigned word. Each call is one step in a ledger.
+/// An unsigned word of n bits. Each call is one step in a ledger (this project's own).
 pub trait Digits<L: Ledger>: Valued {
+    /// The word of value 0.
     const ZERO: Self;
 
     ghost ZERO: { Self };
 
+    /// The word of value 1.
     const ONE: Self;
 
     ghost ONE: { Self };
 
-    /// The sum, without what lies past the width.
+    /// The sum, modulo `2^n`.
     fn add(self, other: Self, steps: &mut Steps<L>) -> Self
-        ensures value { Self.value result ≡ wrap false Self.BITS (Self.value self +ℤ Self.value other) }
+        ensures value { Self.value result
+            ≡ wrap false Self.BITS (Self.value self +ℤ Self.value other) }
         ensures in_range { InRange false Self.BITS (Self.value self) }
         ensures ticks { Ticks L.LAST (L.count steps.old.ledger) (L.count steps.new.ledger) };
 
-    /// The difference, plus a power of 2 where it is below 0.
+    /// The difference, modulo `2^n`: plus `2^n` where it is below 0.
     fn sub(self, other: Self, steps: &mut Steps<L>) -> Self
-        ensures value { Self.value result ≡ wrap false Self.BITS (Self.value self -ℤ Self.value other) }
+        ensures value { Self.value result
+            ≡ wrap false Self.BITS (Self.value self -ℤ Self.value other) }
         ensures in_range { InRange false Self.BITS (Self.value self) }
         ensures ticks { Ticks L.LAST (L.count steps.old.ledger) (L.count steps.new.ledger) };
 
-    /// The product by a power of 2, without what lies past the width.
+    /// The value times `2^by`, modulo `2^n`. Condition: `by` is below n.
     fn shl(self, by: u32, steps: &mut Steps<L>) -> Self
         requires { by < Self.BITS }
         ensures value { Self.value result ≡ wrap false Self.BITS (Self.value self *ℤ pos (2 ^ by)) }
         ensures in_range { InRange false Self.BITS (Self.value self) }
         ensures ticks { Ticks L.LAST (L.count steps.old.ledger) (L.count steps.new.ledger) };
 
-    /// The quotient by a power of 2, rounded down.
+    /// The value over `2^by`, rounded down. Condition: `by` is below n.
     fn shr(self, by: u32, steps: &mut Steps<L>) -> Self
         requires { by < Self.BITS }
         ensures value { Self.value result ≡ floor_quotient (Self.value self) (2 ^ by) }
         ensures in_range { InRange false Self.BITS (Self.value self) }
         ensures ticks { Ticks L.LAST (L.count steps.old.ledger) (L.count steps.new.ledger) };
 
-    /// Whether the word is at most the other.
+    /// Whether the value is at most the other's.
     fn at_most(self, other: Self, steps: &mut Steps<L>) -> bool
         ensures value { IsTrue result ↔ (Self.value self ≤ℤ Self.value other) }
         ensures in_range { InRange false Self.BITS (Self.value self) }
@@ -65,7 +69,7 @@ pub trait Digits<L: Ledger>: Valued {
         ensures in_range { InRange false Self.BITS (Self.value self) }
         ensures ticks { Ticks L.LAST (L.count steps.old.ledger) (L.count steps.new.ledger) };
 
-    /// The word of that value; None exactly where there is none.
+    /// The word of that value; None exactly where it does not fit.
     fn literal(number: u64, steps: &mut Steps<L>) -> Option<Self>
         ensures value { IsWordOf Self.value Self.BITS (pos number) result }
         ensures ticks { Ticks L.LAST (L.count steps.old.ledger) (L.count steps.new.ledger) };

@@ -43,5 +43,6 @@ pub fn quotient_law()
     ensures floor { (x : ℤ) (d : ℕ) → 0 < d → IsFloor x d (floor_quotient x d) }
     ensures floor_unique { (x q : ℤ) (d : ℕ) → 0 < d → IsFloor x d q → floor_quotient x d ≡ q }
     ensures trunc { (x d : ℤ) → d ≢ pos 0 → IsTruncated x d (truncated_quotient x d) }
-    ensures euclid { (x d : ℤ) → d ≢ pos 0 → IsEuclidean x d (euclidean_quotient x d) (euclidean_remainder x d) }
+    ensures euclid { (x d : ℤ) → d ≢ pos 0
+        → IsEuclidean x d (euclidean_quotient x d) (euclidean_remainder x d) }
 {}

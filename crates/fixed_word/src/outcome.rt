@@ -5,22 +5,28 @@ ghost use Rattle.fixed_word.specs.Standing.{StandsFor};
 
 use crate::word::Word;
 
-/// Whether a number fits, lies above the range, or lies below it.
+/// Where a number lies beside the range of a word (this project's own).
 #[derive(Clone, Copy, PartialEq, Eq, Debug)]
 pub enum Side {
+    /// In the range.
     Fits,
+    /// Above the greatest value.
     Above,
+    /// Below the least value.
     Below,
 }
 
-/// Stands for a number without holding it.
+/// Stands for a whole number without holding it, since that may need more bits than any word (this
+/// project's own).
 #[derive(Clone, Copy, PartialEq, Eq, Debug)]
 pub struct Outcome<T> {
+    /// The word whose value differs from the number by a multiple of `2^n`.
     pub wrapped: T,
+    /// Where the number lies.
     pub side: Side,
 }
 
-/// The outcome of `magnitude`, or of minus it where `below_zero`.
+/// The outcome that stands for `magnitude`, or for minus it where `below_zero` (this project's own).
 pub fn outcome_of<T: Word>(below_zero: bool, magnitude: u128) -> Outcome<T>
     ensures { StandsFor T.value T.SIGNED T.BITS (with_sign below_zero magnitude) result }
 {
