@@ -34,8 +34,7 @@ pub(crate) fn outcome_as<T: Word>(
     requires b { b.fraction ≤ T.BITS }
     requires c { c.fraction ≤ T.BITS }
     ensures { OutcomeTells T.value T.SIGNED T.BITS
-        (exact_row op (T.value a.bits) (T.value b.bits) (T.value c.bits)
-        a.fraction b.fraction c.fraction) result }
+        (exact_row op (T.value a.bits) (T.value b.bits) (T.value c.bits) a.fraction b.fraction c.fraction) result }
 {
     let x = a.bits;
     let y = b.bits;
