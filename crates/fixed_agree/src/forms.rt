@@ -15,9 +15,13 @@ use fixed_word::{SignedWord, Word};
 /// The answers of four policies on the same operands.
 #[derive(Clone, Copy, Debug, PartialEq, Eq)]
 pub struct Forms {
+    /// The number, or no value.
     pub checked: Answer,
+    /// The wrapped number and its verdict.
     pub overflowing: Answer,
+    /// The wrapped number.
     pub wrapping: Answer,
+    /// The nearest number that fits.
     pub saturating: Answer,
 }
 

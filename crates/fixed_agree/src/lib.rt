@@ -1,9 +1,14 @@
 //! The typed calls and the calculator's machine agree.
 //!
-//! Each function here runs the typed calls of one policy and answers what they answer. Its contract is that the
-//! machine answers just that to the line of that policy and operation, whatever registers of the word hold these
-//! bits and fractions. All operations stand here in each policy under which the calculator offers them. No function
-//! takes memory.
+//! Each function of [`checked`], [`overflowing`], [`wrapping`], [`saturating`] and [`strict`] runs the typed
+//! call of the operation that it is given, on numbers of one word, and answers what that call answers, its
+//! number by its bits. Its contract is that the machine answers just that to the line of that policy and
+//! operation, whatever registers of the word hold these bits and fractions. Those of [`forms`] do so for four
+//! policies at once.
+//!
+//! Conditions: the operation takes these operands and is offered under the policy on the word, and each
+//! fraction is at most the width. All operations stand here in each policy under which the calculator offers
+//! them. No function takes memory. All of this is this project's own.
 #![tactic(auto)]
 
 mod answers;

@@ -10,7 +10,8 @@ use crate::pattern::{pattern_of, rotated, word_of};
 use fixed_word::{RawWord, Valued, Word};
 
 /// A word of n bits as its bit list, of n digits 0 or 1, and its byte list, of n/8 digits from 0 to
-/// 255, both the least digit first (this project's own; the calls are std's of the same names).
+/// 255, both the least digit first (this project's own). The calls are std's of the same names, and `and`,
+/// `or`, `xor`, `shift_left` and `shift_right` std's operators.
 pub trait BitWord: Word {
     /// The array of n/8 bytes.
     type Bytes: Copy;

@@ -15,7 +15,7 @@ use Rattle.fixed_calc.specs.Answers.{answer_text}
 use Rattle.fixed_calc.specs.Text.{ScriptHeader, header_text, header_tokens, ScriptLine, IsLine, line_text}
 use Rattle.fixed_calc.specs.Lines.{line_of, header_of}
 use Rattle.fixed_calc.specs.Machine.{State, Cell, cause, answer, move}
-use Rattle.fixed_calc.specs.Meaning.{Run, Output, Fault, by_cause, step_then, then_of, run_lines, run_of, line_at, header_at, start, zeros, fractions_of, meaning, meaning_with}
+use Rattle.fixed_calc.specs.Meaning.{Run, Output, Fault, by_cause, step_then, then_of, run_lines, run_of, line_of_piece, header_of_piece, start, zeros, fractions_of, meaning, meaning_with}
 use Rattle.fixed_calc.specs.Demo.{ended, demo_header, demo_lines, demo_text, answers_from, demo_answers}
 use Rattle.fixed_calc.proofs.Decimals.{both}
 use Rattle.fixed_calc.proofs.TextsRead.{reads_lines, reads_headers}
@@ -43,12 +43,12 @@ body_ended t =
     ∙ ap (λ b. if b == 10 then Some (take (length t) (ended t)) else None) (get_or-append_seam t 10 [] 0)
     ∙ ap Some (take-append_seam t (10 ∷ []))
 
-line_read : (l : ScriptLine) → IsLine l → line_at (ended (line_text l)) ≡ Some l
-unfolding line_at
+line_read : (l : ScriptLine) → IsLine l → line_of_piece (ended (line_text l)) ≡ Some l
+unfolding line_of_piece
 line_read l is = ap (λ o. then_of o line_of) (body_ended (line_text l)) ∙ (reads_lines (line_text l) l).1 (is, refl)
 
-header_read : (h : ScriptHeader) → header_at (ended (header_text h)) ≡ Some h
-unfolding header_at
+header_read : (h : ScriptHeader) → header_of_piece (ended (header_text h)) ≡ Some h
+unfolding header_of_piece
 header_read h = ap (λ o. then_of o header_of) (body_ended (header_text h)) ∙ (reads_headers (header_text h) h).1 refl
 
 -- ---- lines
@@ -71,7 +71,7 @@ pub record Gives (run : Run) (bytes : List ℕ) : Type 0 where
   pub no_fault : run.fault ≡ None
   pub its_output : run.output ≡ bytes
 
-step_gives : (s : State) (k : ℕ) (p : List ℕ) (l : ScriptLine) (bytes : List ℕ) (next : State → Run) → line_at p ≡ Some l → cause s l k ≡ None → Gives (next (move s l)) bytes → Gives (step_then s k (line_at p) next) (answer_text (answer s l) ++ bytes)
+step_gives : (s : State) (k : ℕ) (p : List ℕ) (l : ScriptLine) (bytes : List ℕ) (next : State → Run) → line_of_piece p ≡ Some l → cause s l k ≡ None → Gives (next (move s l)) bytes → Gives (step_then s k (line_of_piece p) next) (answer_text (answer s l) ++ bytes)
 step_gives s k p l bytes next is none later =
     subst (λ (o : Option ScriptLine). Gives (step_then s k o next) (answer_text (answer s l) ++ bytes)) (sym is)
     (subst (λ (o : Option Cause). Gives (by_cause o s (answer_text (answer s l)) (next (move s l))) (answer_text (answer s l) ++ bytes)) (sym none)

@@ -11,7 +11,7 @@ use Rattle.fixed_calc.specs.Names.{word_name, word_named}
 use Rattle.fixed_calc.specs.Text.{ScriptHeader, header_text, header_tokens}
 use Rattle.fixed_calc.specs.Capped.{cap}
 use Rattle.fixed_calc.specs.Parser.{is_decimal, tokens_of}
-use Rattle.fixed_calc.specs.Headers.{CappedHeader, capped_header, fractions_of, all_decimal}
+use Rattle.fixed_calc.specs.Headers.{CappedHeader, capped_header, capped_fractions, all_decimal}
 use Rattle.fixed_calc.proofs.Decimals.{decimal_of_text, text_of_value, both}
 use Rattle.fixed_calc.proofs.Steps.{named_takes}
 use Rattle.fixed_calc.proofs.Joined.{no_space, all_no_space, split_joined, natural_no_space}
@@ -70,12 +70,12 @@ texts_again (t ∷ ts) e =
     let parts = both (is_decimal t) (all_decimal ts) e in
     ap (λ u. u ∷ map natural_text (map (digits_value 10) ts)) (text_of_value t parts.0) ∙ ap (λ us. t ∷ us) (texts_again ts parts.1)
 
-caps_again : (ts : List (List ℕ)) → fractions_of ts ≡ map cap (map (digits_value 10) ts)
+caps_again : (ts : List (List ℕ)) → capped_fractions ts ≡ map cap (map (digits_value 10) ts)
 caps_again [] = refl
 caps_again (t ∷ ts) = ap (λ ns. cap (digits_value 10 t) ∷ ns) (caps_again ts)
 
 pub header_found : (piece name : List ℕ) (ts : List (List ℕ)) (w : WordName) → tokens_of piece ≡ name ∷ ts → 0 < length ts → word_named name ≡ Some w → all_decimal ts ≡ true
-    → (h : ScriptHeader) × (header_text h ≡ piece) × (record { word = w; fractions = fractions_of ts } ≡ capped_header h)
+    → (h : ScriptHeader) × (header_text h ≡ piece) × (record { word = w; fractions = capped_fractions ts } ≡ capped_header h)
 header_found piece name [] w tokens lt word decimals = absurd (omega arith)
 header_found piece name (t ∷ ts) w tokens lt word decimals =
     let named : word_name w ≡ name = named_takes word_name (I8 ∷ I16 ∷ I32 ∷ I64 ∷ U8 ∷ U16 ∷ U32 ∷ U64 ∷ []) name w word in (

@@ -9,7 +9,7 @@ use Rattle.fixed_calc.specs.declared.names.Policy.{Policy}
 use Rattle.fixed_calc.specs.declared.names.Policy.TheVariants.{Checked, Saturating, Wrapping, Overflowing, Strict}
 use Rattle.fixed_calc.specs.declared.names.Op.{Op}
 use Rattle.fixed_calc.specs.declared.line.Shape.{Shape}
-use Rattle.fixed_calc.specs.declared.line.Shape.TheVariants.{Unary, Binary, ByInt, Ternary}
+use Rattle.fixed_calc.specs.declared.line.Shape.TheVariants.{Unary, Binary, ByInteger, Ternary}
 use Rattle.fixed_calc.specs.declared.line.Line.{Line}
 use Rattle.fixed_calc.specs.declared.line.Line.TheVariants.{Set, One, Two, Int, Three}
 use Rattle.fixed_word.specs.Decimal.{whole_text}
@@ -52,14 +52,14 @@ operands_takes Binary dest policy op a ts line s e =
       ap (λ u. register_text a ∷ u ∷ []) b.1 ∙ ap (λ us. register_text a ∷ t.token ∷ us) (sym done.0) ∙ ap (λ us. register_text a ∷ us) (sym t.is),
       ap denoted (sym done.1) ∙ ap (λ s. of_shape s Binary (Apply dest policy op (TwoRegisters (cap a) t.value))) s ∙ ap (λ v. Some (Apply dest policy op (TwoRegisters (cap a) v))) b.2,
     )
-operands_takes ByInt dest policy op a ts line s e =
+operands_takes ByInteger dest policy op a ts line s e =
     let t = next_some literal_at ts (λ k. at_end k.1 (Int dest policy op (cap a) k.0)) line e in
     let k = literal_takes t.token t.value t.reads in
     let done = end_some t.rest (Int dest policy op (cap a) t.value) line t.goes_on in (
       RegisterAndInt a k.0,
       s,
       ap (λ u. register_text a ∷ u ∷ []) k.1 ∙ ap (λ us. register_text a ∷ t.token ∷ us) (sym done.0) ∙ ap (λ us. register_text a ∷ us) (sym t.is),
-      ap denoted (sym done.1) ∙ ap (λ s. of_shape s ByInt (Apply dest policy op (RegisterAndInt (cap a) (literal_value t.value)))) s ∙ ap (λ v. Some (Apply dest policy op (RegisterAndInt (cap a) v))) k.2,
+      ap denoted (sym done.1) ∙ ap (λ s. of_shape s ByInteger (Apply dest policy op (RegisterAndInt (cap a) (literal_value t.value)))) s ∙ ap (λ v. Some (Apply dest policy op (RegisterAndInt (cap a) v))) k.2,
     )
 operands_takes Ternary dest policy op a ts line s e =
     let t = next_some register_at ts (λ b. next_by register_at b.1 >>= λ c. at_end c.1 (Three dest policy op (cap a) b.0 c.0)) line e in

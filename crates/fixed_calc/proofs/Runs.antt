@@ -12,7 +12,7 @@ use Rattle.fixed_word.specs.Pieces.{pieces}
 use Rattle.fixed_calc.specs.Capped.{cap}
 use Rattle.fixed_calc.specs.Text.{ScriptHeader, ScriptLine}
 use Rattle.fixed_calc.specs.Machine.{State, Cell, answer, move, width}
-use Rattle.fixed_calc.specs.Meaning.{Run, after, stopped, by_cause, step_then, run_lines, run_of, run_pieces, run_from, line_at, header_at, start, has_wide, fractions_of, zeros}
+use Rattle.fixed_calc.specs.Meaning.{Run, after, stopped, by_cause, step_then, run_lines, run_of, run_pieces, run_from, line_of_piece, header_of_piece, start, has_wide, fractions_of, zeros}
 use Rattle.fixed_calc.specs.Rooms.{Space, RunTells, HoldsState}
 use Rattle.fixed_calc.specs.Step.{StepTells, state_in, IsCell}
 use Rattle.fixed_calc.specs.declared.cause.Cause.{Cause}
@@ -20,7 +20,7 @@ use Rattle.fixed_calc.specs.declared.cause.Cause.TheVariants.{Syntax, OutOfRange
 use Rattle.fixed_calc.proofs.Causes.{zero_fits}
 use Rattle.fixed_calc.proofs.Short.{answer_fits}
 
-run_step : (s : State) (k : ℕ) (p : List ℕ) (ps : List (List ℕ)) → run_lines s k (p ∷ ps) ≡ step_then s k (line_at p) (λ t. run_lines t (k + 1) ps)
+run_step : (s : State) (k : ℕ) (p : List ℕ) (ps : List (List ℕ)) → run_lines s k (p ∷ ps) ≡ step_then s k (line_of_piece p) (λ t. run_lines t (k + 1) ps)
 unfolding run_lines
 run_step s k p ps = refl
 
@@ -41,11 +41,11 @@ fault_cells : (s : State) (k : ℕ) (o : Option ScriptLine) (c : Cause) (cells :
 fault_cells s k None c cells h = h.1
 fault_cells s k (Some l) c cells h = h.1
 
-pub run_fault : (answers : List ℕ) (s : State) (k : ℕ) (rest p : List ℕ) (ps : List (List ℕ)) (c : Cause) (cells : List Cell) → pieces rest ≡ p ∷ ps → StepTells s (line_at p) k (Err c) cells
+pub run_fault : (answers : List ℕ) (s : State) (k : ℕ) (rest p : List ℕ) (ps : List (List ℕ)) (c : Cause) (cells : List Cell) → pieces rest ≡ p ∷ ps → StepTells s (line_of_piece p) k (Err c) cells
     → after answers (run_lines s k (pieces rest)) ≡ record { state = Some s; output = answers; fault = Some c }
 run_fault answers s k rest p ps c cells cut h =
     ap (λ qs. after answers (run_lines s k qs)) cut
-    ∙ ap (after answers) (run_step s k p ps ∙ fault_step s k (line_at p) (λ t. run_lines t (k + 1) ps) c cells h)
+    ∙ ap (after answers) (run_step s k p ps ∙ fault_step s k (line_of_piece p) (λ t. run_lines t (k + 1) ps) c cells h)
     ∙ (λ i. record { state = Some s; output = append-nil answers i; fault = Some c })
 
 -- a piece that moves
@@ -55,45 +55,45 @@ move_step word cells cells' k (Some l) next a h =
     let s = state_in word cells in
     ap (λ o. by_cause o s (answer_text (answer s l)) (next (move s l))) h.0 ∙ (λ i. after (answer_text (sym h.1 i)) (next (state_in word (sym h.2 i))))
 
-pub run_moves : (answers : List ℕ) (word : WordName) (cells cells' : List Cell) (k : ℕ) (rest p rest' : List ℕ) (a : Answer) → pieces rest ≡ p ∷ pieces rest' → StepTells (state_in word cells) (line_at p) k (Ok a) cells'
+pub run_moves : (answers : List ℕ) (word : WordName) (cells cells' : List Cell) (k : ℕ) (rest p rest' : List ℕ) (a : Answer) → pieces rest ≡ p ∷ pieces rest' → StepTells (state_in word cells) (line_of_piece p) k (Ok a) cells'
     → after answers (run_lines (state_in word cells) k (pieces rest)) ≡ after (answers ++ answer_text a) (run_lines (state_in word cells') (k + 1) (pieces rest'))
 run_moves answers word cells cells' k rest p rest' a cut h =
     let s = state_in word cells in
     let ps = pieces rest' in
     ap (λ qs. after answers (run_lines s k qs)) cut
-    ∙ ap (after answers) (run_step s k p ps ∙ move_step word cells cells' k (line_at p) (λ t. run_lines t (k + 1) ps) a h)
+    ∙ ap (after answers) (run_step s k p ps ∙ move_step word cells cells' k (line_of_piece p) (λ t. run_lines t (k + 1) ps) a h)
     ∙ after-after answers (answer_text a) (run_lines (state_in word cells') (k + 1) ps)
 
 -- an answer has room
-short_step : (s : State) (k : ℕ) (p : List ℕ) (o : Option ScriptLine) (a : Answer) (cells : List Cell) → line_at p ≡ o → StepTells s o k (Ok a) cells → length (answer_text a) ≤ 2 * length p
+short_step : (s : State) (k : ℕ) (p : List ℕ) (o : Option ScriptLine) (a : Answer) (cells : List Cell) → line_of_piece p ≡ o → StepTells s o k (Ok a) cells → length (answer_text a) ≤ 2 * length p
 short_step s k p None a cells is h = absurd h
 short_step s k p (Some l) a cells is h = omega (arith, answer_fits s p l k is h.0, ap (λ (b : Answer). length (answer_text b)) h.1)
 
-pub move_short : (s : State) (k : ℕ) (p : List ℕ) (a : Answer) (cells : List Cell) → StepTells s (line_at p) k (Ok a) cells → length (answer_text a) ≤ 2 * length p
-move_short s k p a cells h = short_step s k p (line_at p) a cells refl h
+pub move_short : (s : State) (k : ℕ) (p : List ℕ) (a : Answer) (cells : List Cell) → StepTells s (line_of_piece p) k (Ok a) cells → length (answer_text a) ≤ 2 * length p
+move_short s k p a cells h = short_step s k p (line_of_piece p) a cells refl h
 
 -- what a room says that stands where a run ends
 pub told_end : (r : Run) (s : State) (answers : List ℕ) (room : Space) → r ≡ record { state = Some s; output = answers; fault = None } → room.answers ≡ answers → room.word ≡ Some s.word → room.registers ≡ s.registers → RunTells r (Ok (tt {0})) room
 told_end r s answers room e a w g = (ap (λ (x : Run). x.fault) e, record { its_answers = a ∙ sym (ap (λ (x : Run). x.output) e); its_state = subst (λ (st : Option State). HoldsState st room) (sym (ap (λ (x : Run). x.state) e)) (w, g) })
 
-pub told_fault : (r : Run) (s : State) (k : ℕ) (p : List ℕ) (answers : List ℕ) (c : Cause) (room : Space) → r ≡ record { state = Some s; output = answers; fault = Some c } → room.answers ≡ answers → room.word ≡ Some s.word → StepTells s (line_at p) k (Err c) room.registers → RunTells r (Err c) room
+pub told_fault : (r : Run) (s : State) (k : ℕ) (p : List ℕ) (answers : List ℕ) (c : Cause) (room : Space) → r ≡ record { state = Some s; output = answers; fault = Some c } → room.answers ≡ answers → room.word ≡ Some s.word → StepTells s (line_of_piece p) k (Err c) room.registers → RunTells r (Err c) room
 told_fault r s k p answers c room e a w h =
-    (ap (λ (x : Run). x.fault) e, record { its_answers = a ∙ sym (ap (λ (x : Run). x.output) e); its_state = subst (λ (st : Option State). HoldsState st room) (sym (ap (λ (x : Run). x.state) e)) (w, fault_cells s k (line_at p) c room.registers h) })
+    (ap (λ (x : Run). x.fault) e, record { its_answers = a ∙ sym (ap (λ (x : Run). x.output) e); its_state = subst (λ (st : Option State). HoldsState st room) (sym (ap (λ (x : Run). x.state) e)) (w, fault_cells s k (line_of_piece p) c room.registers h) })
 
 -- ---- the header
 pub run_of_nil : (script : List ℕ) → script ≡ [] → run_of script ≡ stopped None (Syntax 1)
 unfolding run_of
 run_of_nil script is = rw is refl
 
-pub run_of_no_header : (script p : List ℕ) (ps : List (List ℕ)) → pieces script ≡ p ∷ ps → header_at p ≡ None → run_of script ≡ stopped None (Syntax 1)
+pub run_of_no_header : (script p : List ℕ) (ps : List (List ℕ)) → pieces script ≡ p ∷ ps → header_of_piece p ≡ None → run_of script ≡ stopped None (Syntax 1)
 unfolding run_of
 run_of_no_header script p ps cut none = ap run_pieces cut ∙ ap (λ h. run_from h ps) none
 
-pub run_of_wide : (script p : List ℕ) (ps : List (List ℕ)) (h : ScriptHeader) → pieces script ≡ p ∷ ps → header_at p ≡ Some h → has_wide h.word (fractions_of h) ≡ true → run_of script ≡ stopped None (OutOfRange 1)
+pub run_of_wide : (script p : List ℕ) (ps : List (List ℕ)) (h : ScriptHeader) → pieces script ≡ p ∷ ps → header_of_piece p ≡ Some h → has_wide h.word (fractions_of h) ≡ true → run_of script ≡ stopped None (OutOfRange 1)
 unfolding run_of
 run_of_wide script p ps h cut is wide = ap run_pieces cut ∙ ap (λ o. run_from o ps) is ∙ ap (λ (b : Bool). if b then stopped None (OutOfRange 1) else run_lines (start h) 2 ps) wide
 
-pub run_of_lines : (script p : List ℕ) (ps : List (List ℕ)) (h : ScriptHeader) → pieces script ≡ p ∷ ps → header_at p ≡ Some h → has_wide h.word (fractions_of h) ≡ false → run_of script ≡ run_lines (start h) 2 ps
+pub run_of_lines : (script p : List ℕ) (ps : List (List ℕ)) (h : ScriptHeader) → pieces script ≡ p ∷ ps → header_of_piece p ≡ Some h → has_wide h.word (fractions_of h) ≡ false → run_of script ≡ run_lines (start h) 2 ps
 unfolding run_of
 run_of_lines script p ps h cut is narrow = ap run_pieces cut ∙ ap (λ o. run_from o ps) is ∙ ap (λ (b : Bool). if b then stopped None (OutOfRange 1) else run_lines (start h) 2 ps) narrow
 

@@ -20,7 +20,7 @@ use Rattle.fixed_word.specs.Format.{wrap, clamp}
 use Rattle.fixed_calc.specs.Projection.{plain, project}
 use Rattle.fixed_calc.specs.Machine.{State, cause, answer, is_signed, width, is_value, row_of, taken}
 use Rattle.fixed_calc.specs.Lines.{line_of, header_of}
-use Rattle.fixed_calc.specs.Meaning.{then_of, line_at, header_at, fractions_of}
+use Rattle.fixed_calc.specs.Meaning.{then_of, line_of_piece, header_of_piece, fractions_of}
 use Rattle.fixed_calc.specs.Rooms.{spaces_in}
 use Rattle.fixed_calc.proofs.Fits.{value_small}
 use Rattle.fixed_calc.proofs.Causes.{IsValued, answer_valued}
@@ -70,8 +70,8 @@ line_front : (p : List ℕ) (o : Option (List ℕ)) (l : ScriptLine) → body p 
 line_front p None l is e = cc
 line_front p (Some q) l is e = omega (arith, body_length p q is, ap length ((reads_lines q l).0 e).1)
 
-pub answer_fits : (s : State) (p : List ℕ) (l : ScriptLine) (k : ℕ) → line_at p ≡ Some l → cause s l k ≡ None → length (answer_text (answer s l)) ≤ 2 * length p
-unfolding line_at
+pub answer_fits : (s : State) (p : List ℕ) (l : ScriptLine) (k : ℕ) → line_of_piece p ≡ Some l → cause s l k ≡ None → length (answer_text (answer s l)) ≤ 2 * length p
+unfolding line_of_piece
 answer_fits s p l k is none = omega (arith, answer_short s l k none, line_front p (body p) l refl is)
 
 -- ---- the header
@@ -95,6 +95,6 @@ header_front : (p : List ℕ) (o : Option (List ℕ)) (h : ScriptHeader) → bod
 header_front p None h is e = cc
 header_front p (Some q) h is e = omega (arith, body_spaces p q is, header_spaces h, ap spaces_in ((reads_headers q h).0 e))
 
-pub header_room : (p : List ℕ) (h : ScriptHeader) → header_at p ≡ Some h → length (fractions_of h) ≤ spaces_in p
-unfolding header_at
+pub header_room : (p : List ℕ) (h : ScriptHeader) → header_of_piece p ≡ Some h → length (fractions_of h) ≤ spaces_in p
+unfolding header_of_piece
 header_room p h is = header_front p (body p) h refl is

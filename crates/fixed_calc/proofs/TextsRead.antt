@@ -7,7 +7,7 @@ use Rattle.std.proofs.lemmas.Option.{same_Some}
 use Rattle.fixed_calc.specs.declared.names.Policy.{Policy}
 use Rattle.fixed_calc.specs.declared.names.Op.{Op}
 use Rattle.fixed_calc.specs.declared.line.Shape.{Shape}
-use Rattle.fixed_calc.specs.declared.line.Shape.TheVariants.{Unary, Binary, ByInt, Ternary}
+use Rattle.fixed_calc.specs.declared.line.Shape.TheVariants.{Unary, Binary, ByInteger, Ternary}
 use Rattle.fixed_word.specs.Decimal.{natural_text, whole_text}
 use Rattle.fixed_calc.specs.Names.{policy_named, op_named}
 use Rattle.fixed_calc.specs.Text.{ScriptHeader, header_text, header_tokens, ScriptLine, SetTo, Apply, OneRegister, TwoRegisters, RegisterAndInt, ThreeRegisters, IsLine, line_text, line_tokens, shape, shape_of}
@@ -21,7 +21,7 @@ use Rattle.fixed_calc.specs.declared.line.Line.{Line}
 use Rattle.fixed_calc.specs.Capped.{capped, denoted}
 use Rattle.fixed_word.specs.Pieces.{body}
 use Rattle.fixed_calc.specs.Headers.{CappedHeader, capped_header}
-use Rattle.fixed_calc.specs.Meaning.{then_of, line_at, header_at}
+use Rattle.fixed_calc.specs.Meaning.{then_of, line_of_piece, header_of_piece}
 use Rattle.fixed_calc.specs.Readings.{LineTells, HeaderTells}
 use Rattle.fixed_calc.specs.Lines.{natural_in, register_in, whole_in, operands_in, apply_in, line_in, header_in, if_its_text, line_of, header_of, ReadsLines, ReadsHeaders, token}
 
@@ -54,7 +54,7 @@ header_back h =
 shaped : (s : Shape) (ts : List (List ℕ)) → s ≡ shape_of (operands_in s ts)
 shaped Unary ts = refl
 shaped Binary ts = refl
-shaped ByInt ts = refl
+shaped ByInteger ts = refl
 shaped Ternary ts = refl
 
 apply_is : (dest : ℕ) (p : Option Policy) (o : Option Op) (ts : List (List ℕ)) (l : ScriptLine) → apply_in dest p o ts ≡ Some l → IsLine l
@@ -105,12 +105,12 @@ none_from piece (Some l) is h = let p = (reads_lines piece l).0 is in absurd (h 
 
 pub line_tells : (piece front : List ℕ) (r : Option Line) → body piece ≡ Some front → IfNone r ((l : ScriptLine) → IsLine l → line_text l ≡ front → ⊥)
     → IfSome r (λ read. (l : ScriptLine) × IsLine l × (line_text l ≡ front) × (denoted read ≡ Some (capped l))) → LineTells piece r
-unfolding line_at
+unfolding line_of_piece
 line_tells piece front None is none found = ap (λ o. then_of o line_of) is ∙ none_from front (line_of front) refl none
 line_tells piece front (Some read) is none found = (found.0, ap (λ o. then_of o line_of) is ∙ (reads_lines front found.0).1 (found.1, found.2), found.3)
 
-pub no_front : (piece : List ℕ) → body piece ≡ None → line_at piece ≡ None
-unfolding line_at
+pub no_front : (piece : List ℕ) → body piece ≡ None → line_of_piece piece ≡ None
+unfolding line_of_piece
 no_front piece is = ap (λ o. then_of o line_of) is
 
 no_header_from : (piece : List ℕ) (o : Option ScriptHeader) → header_of piece ≡ o → ((h : ScriptHeader) → header_text h ≡ piece → ⊥) → o ≡ None
@@ -119,10 +119,10 @@ no_header_from piece (Some l) is h = absurd (h l ((reads_headers piece l).0 is))
 
 pub header_tells : (piece front : List ℕ) (r : Option CappedHeader) → body piece ≡ Some front → IfNone r ((h : ScriptHeader) → header_text h ≡ front → ⊥)
     → IfSome r (λ read. (h : ScriptHeader) × (header_text h ≡ front) × (read ≡ capped_header h)) → HeaderTells piece r
-unfolding header_at
+unfolding header_of_piece
 header_tells piece front None is none found = ap (λ o. then_of o header_of) is ∙ no_header_from front (header_of front) refl none
 header_tells piece front (Some read) is none found = (found.0, ap (λ o. then_of o header_of) is ∙ (reads_headers front found.0).1 found.1, found.2)
 
-pub no_front_header : (piece : List ℕ) → body piece ≡ None → header_at piece ≡ None
-unfolding header_at
+pub no_front_header : (piece : List ℕ) → body piece ≡ None → header_of_piece piece ≡ None
+unfolding header_of_piece
 no_front_header piece is = ap (λ o. then_of o header_of) is

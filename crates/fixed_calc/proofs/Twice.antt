@@ -5,7 +5,7 @@ use Rattle.fixed_word.specs.Pieces.{pieces}
 use Rattle.fixed_calc.specs.Answers.{answer_text}
 use Rattle.fixed_calc.specs.Text.{ScriptHeader, ScriptLine}
 use Rattle.fixed_calc.specs.Machine.{State, answer, cause, move}
-use Rattle.fixed_calc.specs.Meaning.{Run, Meaning, Output, after, stopped, by_cause, step_then, run_lines, run_from, run_pieces, run_of, line_at, header_at, start, has_wide, fractions_of, meaning, meaning_with}
+use Rattle.fixed_calc.specs.Meaning.{Run, Meaning, Output, after, stopped, by_cause, step_then, run_lines, run_from, run_pieces, run_of, line_of_piece, header_of_piece, start, has_wide, fractions_of, meaning, meaning_with}
 use Rattle.fixed_calc.specs.declared.cause.Cause.{Cause}
 use Rattle.fixed_calc.specs.declared.cause.Cause.TheVariants.{OutOfRange}
 use Rattle.fixed_calc.proofs.Cutting.{pieces_joined}
@@ -15,21 +15,21 @@ use Rattle.fixed_calc.proofs.Short.{answer_fits}
 abbrev pub IsTwice : List (List ℕ) → Run → Type 0
 IsTwice ps run = run.fault ≡ None → length run.output ≤ 2 * length (concat ps)
 
-moved_twice : (s : State) (k : ℕ) (p : List ℕ) (ps : List (List ℕ)) (l : ScriptLine) (o : Option Cause) (rest : Run) → line_at p ≡ Some l → cause s l k ≡ o → IsTwice ps rest → IsTwice (p ∷ ps) (by_cause o s (answer_text (answer s l)) rest)
+moved_twice : (s : State) (k : ℕ) (p : List ℕ) (ps : List (List ℕ)) (l : ScriptLine) (o : Option Cause) (rest : Run) → line_of_piece p ≡ Some l → cause s l k ≡ o → IsTwice ps rest → IsTwice (p ∷ ps) (by_cause o s (answer_text (answer s l)) rest)
 moved_twice s k p ps l (Some c) rest is e twice f = cc
 moved_twice s k p ps l None rest is e twice f =
     let short = answer_fits s p l k is e in
     let more : length rest.output ≤ 2 * length (concat ps) = twice f in
     simp length-append (omega (arith, short, more))
 
-step_twice : (s : State) (k : ℕ) (p : List ℕ) (ps : List (List ℕ)) (o : Option ScriptLine) → line_at p ≡ o → ((t : State) → IsTwice ps (run_lines t (k + 1) ps)) → IsTwice (p ∷ ps) (step_then s k o (λ t. run_lines t (k + 1) ps))
+step_twice : (s : State) (k : ℕ) (p : List ℕ) (ps : List (List ℕ)) (o : Option ScriptLine) → line_of_piece p ≡ o → ((t : State) → IsTwice ps (run_lines t (k + 1) ps)) → IsTwice (p ∷ ps) (step_then s k o (λ t. run_lines t (k + 1) ps))
 step_twice s k p ps None is next f = cc
 step_twice s k p ps (Some l) is next f = moved_twice s k p ps l (cause s l k) (run_lines (move s l) (k + 1) ps) is refl (next (move s l)) f
 
 lines_twice : (s : State) (k : ℕ) (ps : List (List ℕ)) → IsTwice ps (run_lines s k ps)
 unfolding run_lines
 lines_twice s k [] f = omega arith
-lines_twice s k (p ∷ ps) f = step_twice s k p ps (line_at p) refl (λ t. lines_twice t (k + 1) ps) f
+lines_twice s k (p ∷ ps) f = step_twice s k p ps (line_of_piece p) refl (λ t. lines_twice t (k + 1) ps) f
 
 header_twice : (p : List ℕ) (ps : List (List ℕ)) (o : Option ScriptHeader) → IsTwice (p ∷ ps) (run_from o ps)
 header_twice p ps None f = cc
@@ -41,7 +41,7 @@ header_twice p ps (Some h) f = by_width (has_wide h.word (fractions_of h)) f
 
 pieces_twice : (ps : List (List ℕ)) → IsTwice ps (run_pieces ps)
 pieces_twice [] f = cc
-pieces_twice (p ∷ ps) f = header_twice p ps (header_at p) f
+pieces_twice (p ∷ ps) f = header_twice p ps (header_of_piece p) f
 
 run_twice : (script : List ℕ) → IsTwice (pieces script) (run_of script)
 unfolding run_of

@@ -1,7 +1,7 @@
 -- Numbers as the code holds them: one of 2 ^ 64 or more is held as 2 ^ 64.
 use Rattle.std.specs.Prelude.{ℕ, suc, ◌^◌, min, ℤ, pos, negsuc, neg_ℤ, if◌then◌else◌, Option, Some, None}
 use Rattle.fixed_calc.specs.declared.line.Shape.{Shape}
-use Rattle.fixed_calc.specs.declared.line.Shape.TheVariants.{Unary, Binary, ByInt, Ternary}
+use Rattle.fixed_calc.specs.declared.line.Shape.TheVariants.{Unary, Binary, ByInteger, Ternary}
 use Rattle.fixed_calc.specs.declared.number.Literal.{Literal}
 use Rattle.fixed_calc.specs.declared.line.Line.{Line}
 use Rattle.fixed_calc.specs.declared.line.Line.TheVariants.{Set, One, Two, Int, Three}
@@ -34,7 +34,7 @@ literal_value l = if l.below_zero then neg_ℤ (pos l.magnitude) else pos l.magn
 abbrev pub of_shape : Shape → Shape → ScriptLine → Option ScriptLine
 of_shape Unary Unary line = Some line
 of_shape Binary Binary line = Some line
-of_shape ByInt ByInt line = Some line
+of_shape ByInteger ByInteger line = Some line
 of_shape Ternary Ternary line = Some line
 of_shape _ _ line = None
 
@@ -43,5 +43,5 @@ abbrev pub denoted : Line → Option ScriptLine
 denoted (Set dest literal) = Some (SetTo dest (literal_value literal))
 denoted (One dest policy op a) = of_shape (shape op) Unary (Apply dest policy op (OneRegister a))
 denoted (Two dest policy op a b) = of_shape (shape op) Binary (Apply dest policy op (TwoRegisters a b))
-denoted (Int dest policy op a literal) = of_shape (shape op) ByInt (Apply dest policy op (RegisterAndInt a (literal_value literal)))
+denoted (Int dest policy op a literal) = of_shape (shape op) ByInteger (Apply dest policy op (RegisterAndInt a (literal_value literal)))
 denoted (Three dest policy op a b c) = of_shape (shape op) Ternary (Apply dest policy op (ThreeRegisters a b c))

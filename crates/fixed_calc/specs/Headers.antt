@@ -17,8 +17,8 @@ abbrev pub capped_header : ScriptHeader → CappedHeader
 capped_header h = record { word = h.word; fractions = map cap (h.first ∷ h.others) }
 
 -- the capped numbers that decimals say
-abbrev pub fractions_of : List (List ℕ) → List ℕ
-fractions_of tokens = map (λ t. cap (digits_value 10 t)) tokens
+abbrev pub capped_fractions : List (List ℕ) → List ℕ
+capped_fractions tokens = map (λ t. cap (digits_value 10 t)) tokens
 
 abbrev pub all_decimal : List (List ℕ) → Bool
 all_decimal tokens = list_all is_decimal tokens

@@ -1,4 +1,5 @@
--- What a call of the program says of its source, its sink and its errors: one fact for each status, and three for all.
+-- What a call of the program says of its source, its sink and its errors: one fact for each status but Usage, which is
+-- told by the words alone; three for all; and four for the words `demo N`.
 -- `source` and `source'`, `sink` and `sink'` are what they tell at entry and at exit.
 use Rattle.std.specs.Prelude.{codes, ◌≡◌, ℕ, ◌+◌, ◌<◌, ◌≤◌, ◌⊎◌, ◌↔◌, ◌≢◌, ◌++◌, List, [], length, take, Option, Some, None, IfSome, ⊤}
 use Rattle.std.specs.Io.KnownBytes.{Appends, Keeps}
@@ -101,7 +102,7 @@ abbrev pub IsComplete : SinkState → SinkState → Meaning → Status → Type 
 IsComplete sink sink' (Output bytes) status = (status ≡ Memory) ⊎ ((status ≡ Done) × Appends sink.taken sink'.taken bytes)
 IsComplete sink sink' (Fault cause) status = (status ≡ Memory) ⊎ (status ≡ Script cause)
 
--- where no count rose or stands at its last value, a script of at most the limit has that status
+-- where neither count of faults rose or stands at its last value, a script of at most the limit has that status
 abbrev pub CompleteTells : SourceState → SourceState → SinkState → SinkState → Status → Type 0
 CompleteTells source source' sink sink' status =
     HasNoFault source.faults source'.faults → HasNoFault sink.faults sink'.faults

@@ -1,4 +1,4 @@
--- The line, and the header, whose text a piece is.
+-- The line, and the header, whose text some bytes are: a piece without its newline.
 use Rattle.std.specs.Prelude.{◌≡◌, ◌↔◌, ℕ, ℤ, pos, neg_ℤ, List, [], drop, get_or, map, Option, Some, None, if◌then◌else◌, codes}
 use Rattle.std.specs.Option.{option_map}
 use Rattle.std.specs.Str.{bytes_eq}
@@ -6,7 +6,7 @@ use Rattle.std.specs.Str.Parse.{digits_value}
 use Rattle.fixed_calc.specs.declared.names.Policy.{Policy}
 use Rattle.fixed_calc.specs.declared.names.Op.{Op}
 use Rattle.fixed_calc.specs.declared.line.Shape.{Shape}
-use Rattle.fixed_calc.specs.declared.line.Shape.TheVariants.{Unary, Binary, ByInt, Ternary}
+use Rattle.fixed_calc.specs.declared.line.Shape.TheVariants.{Unary, Binary, ByInteger, Ternary}
 use Rattle.fixed_calc.specs.Names.{word_named, policy_named, op_named}
 use Rattle.fixed_calc.specs.Text.{ScriptHeader, header_text, ScriptLine, SetTo, Apply, Operands, OneRegister, TwoRegisters, RegisterAndInt, ThreeRegisters, IsLine, line_text, shape}
 use Rattle.fixed_calc.specs.Parser.{tokens_of, has_minus}
@@ -28,7 +28,7 @@ whole_in token = if has_minus token then neg_ℤ (pos (natural_in (drop 1 token)
 abbrev pub operands_in : Shape → List (List ℕ) → Operands
 operands_in Unary ts = OneRegister (register_in (token ts 0))
 operands_in Binary ts = TwoRegisters (register_in (token ts 0)) (register_in (token ts 1))
-operands_in ByInt ts = RegisterAndInt (register_in (token ts 0)) (whole_in (token ts 1))
+operands_in ByInteger ts = RegisterAndInt (register_in (token ts 0)) (whole_in (token ts 1))
 operands_in Ternary ts = ThreeRegisters (register_in (token ts 0)) (register_in (token ts 1)) (register_in (token ts 2))
 
 abbrev pub apply_in : ℕ → Option Policy → Option Op → List (List ℕ) → Option ScriptLine
@@ -44,8 +44,8 @@ line_in ts =
 abbrev pub header_in : List (List ℕ) → Option ScriptHeader
 header_in ts = option_map (λ w. record { word = w; first = natural_in (token ts 1); others = map natural_in (drop 2 ts) }) (word_named (token ts 0))
 
--- ---- the line whose text a piece is
--- what was read, if its text is the piece
+-- ---- the line whose text the bytes are
+-- what was read, if its text is these bytes again
 abbrev pub if_its_text : {A : Type 0} → (A → List ℕ) → List ℕ → Option A → Option A
 if_its_text text piece None = None
 if_its_text text piece (Some x) = if bytes_eq (text x) piece then Some x else None

@@ -15,11 +15,11 @@ abbrev pub then_of : {A B : Type 0} → Option A → (A → Option B) → Option
 then_of None f = None
 then_of (Some x) f = f x
 
-unfoldable pub line_at : List ℕ → Option ScriptLine
-line_at piece = then_of (body piece) line_of
+unfoldable pub line_of_piece : List ℕ → Option ScriptLine
+line_of_piece piece = then_of (body piece) line_of
 
-unfoldable pub header_at : List ℕ → Option ScriptHeader
-header_at piece = then_of (body piece) header_of
+unfoldable pub header_of_piece : List ℕ → Option ScriptHeader
+header_of_piece piece = then_of (body piece) header_of
 
 -- ---- runs
 -- how a run ends: the state, the bytes of all answers, and the first cause
@@ -46,7 +46,7 @@ step_then s k (Some line) next = by_cause (cause s line k) s (answer_text (answe
 
 unfoldable pub run_lines : State → ℕ → List (List ℕ) → Run
 run_lines s k [] = record { state = Some s; output = []; fault = None }
-run_lines s k (p ∷ ps) = step_then s k (line_at p) (λ t. run_lines t (k + 1) ps)
+run_lines s k (p ∷ ps) = step_then s k (line_of_piece p) (λ t. run_lines t (k + 1) ps)
 
 -- registers of bits 0
 abbrev pub zeros : List ℕ → List Cell
@@ -67,7 +67,7 @@ run_from (Some h) ps = if has_wide h.word (fractions_of h) then stopped None (Ou
 
 abbrev pub run_pieces : List (List ℕ) → Run
 run_pieces [] = stopped None (Syntax 1)
-run_pieces (p ∷ ps) = run_from (header_at p) ps
+run_pieces (p ∷ ps) = run_from (header_of_piece p) ps
 
 unfoldable pub run_of : List ℕ → Run
 run_of script = run_pieces (pieces script)

@@ -9,7 +9,7 @@ use denote.Ref.{Bor}
 use Rattle.fixed_calc.specs.declared.names.Policy.{Policy}
 use Rattle.fixed_calc.specs.declared.names.Op.{Op}
 use Rattle.fixed_calc.specs.declared.line.Shape.{Shape}
-use Rattle.fixed_calc.specs.declared.line.Shape.TheVariants.{Unary, Binary, ByInt, Ternary}
+use Rattle.fixed_calc.specs.declared.line.Shape.TheVariants.{Unary, Binary, ByInteger, Ternary}
 use Rattle.fixed_calc.specs.declared.number.Literal.{Literal}
 use Rattle.fixed_calc.specs.declared.line.Line.{Line}
 use Rattle.fixed_calc.specs.declared.line.Line.TheVariants.{Set, One, Two, Int, Three}
@@ -77,7 +77,7 @@ operands_at Unary dest policy op a ts = at_end ts (One dest policy op a)
 operands_at Binary dest policy op a ts = do
   b ← next_by register_at ts
   at_end b.1 (Two dest policy op a b.0)
-operands_at ByInt dest policy op a ts = do
+operands_at ByInteger dest policy op a ts = do
   literal ← next_by literal_at ts
   at_end literal.1 (Int dest policy op a literal.0)
 operands_at Ternary dest policy op a ts = do

@@ -11,6 +11,7 @@ use Rattle.fixed_calc.specs.declared.cause.Cause.{Cause}
 use Rattle.fixed_calc.specs.declared.cause.RunFault.{RunFault}
 use Rattle.fixed_calc.specs.declared.cause.RunFault.TheVariants.{Script, Memory}
 
+-- a room as contracts see it: what it holds, and for how many registers and answer bytes it has room
 pub record Space : Type 0 where
   pub word : Option WordName
   pub registers : List Cell
@@ -44,14 +45,16 @@ pub record IsStarted (h : CappedHeader) (room : Space) : Type 0 where
   pub its_registers : room.registers ≡ zeros h.fractions
   pub no_answers : room.answers ≡ []
 
+-- the room is as before
 pub record KeepsRoom (old new : Space) : Type 0 where
   pub same_register_room : new.register_room ≡ old.register_room
   pub same_answer_room : new.answer_room ≡ old.answer_room
 
--- the spaces of the first piece
+-- how many spaces a piece has
 abbrev pub spaces_in : List ℕ → ℕ
 spaces_in piece = count_by (λ b. b == 32) piece
 
+-- the spaces of the first piece
 abbrev pub spaces_of : List (List ℕ) → ℕ
 spaces_of [] = 0
 spaces_of (p ∷ ps) = spaces_in p

@@ -6,7 +6,7 @@ use Rattle.fixed_calc.specs.declared.names.Policy.{Policy}
 use Rattle.fixed_calc.specs.declared.names.Op.{Op}
 use Rattle.fixed_calc.specs.declared.names.Op.TheVariants.{Neg, Add, Sub, Mul, Div, Recip, MulAdd, AddProd, MulInt, DivInt, DivEuclid, DivEuclidInt, RemEuclidInt, NextMultipleOf, Dist, Sqrt, Abs, Signum, Rem, RemInt, RemEuclid, NextPowerOfTwo}
 use Rattle.fixed_calc.specs.declared.line.Shape.{Shape}
-use Rattle.fixed_calc.specs.declared.line.Shape.TheVariants.{Unary, Binary, ByInt, Ternary}
+use Rattle.fixed_calc.specs.declared.line.Shape.TheVariants.{Unary, Binary, ByInteger, Ternary}
 use Rattle.fixed_calc.specs.Names.{word_name, policy_name, op_name}
 use Rattle.fixed_word.specs.Decimal.{natural_text, whole_text}
 
@@ -38,25 +38,25 @@ shape Div = Binary
 shape Recip = Unary
 shape MulAdd = Ternary
 shape AddProd = Ternary
-shape MulInt = ByInt
-shape DivInt = ByInt
+shape MulInt = ByInteger
+shape DivInt = ByInteger
 shape DivEuclid = Binary
-shape DivEuclidInt = ByInt
-shape RemEuclidInt = ByInt
+shape DivEuclidInt = ByInteger
+shape RemEuclidInt = ByInteger
 shape NextMultipleOf = Binary
 shape Dist = Binary
 shape Sqrt = Unary
 shape Abs = Unary
 shape Signum = Unary
 shape Rem = Binary
-shape RemInt = ByInt
+shape RemInt = ByInteger
 shape RemEuclid = Binary
 shape NextPowerOfTwo = Unary
 
 abbrev pub shape_of : Operands → Shape
 shape_of (OneRegister a) = Unary
 shape_of (TwoRegisters a b) = Binary
-shape_of (RegisterAndInt a k) = ByInt
+shape_of (RegisterAndInt a k) = ByInteger
 shape_of (ThreeRegisters a b c) = Ternary
 
 -- the operands are those of the operation

@@ -11,7 +11,8 @@ pub enum Cause {
     OutOfRange(u64),
     /// The registers of the line that have to have one fraction do not.
     FractionMismatch(u64),
-    /// A divisor, an operand of `recip` or a step is zero, and the policy is not checked.
+    /// A divisor, the operand of `recip`, or the second operand of `next_multiple_of` is zero, and the policy
+    /// is not checked.
     ZeroDivisor(u64),
     /// The operand of `sqrt` is below zero, and the policy is not checked.
     NegativeRoot(u64),

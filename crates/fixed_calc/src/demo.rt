@@ -10,7 +10,7 @@ use crate::decimal::decimal_into;
 use std::alloc::{AllocError, Global};
 use std::marker::Model;
 
-/// The bytes of a script.
+/// The bytes of a script that was made. Contracts see it as a list of bytes.
 #[derive(Drop)]
 pub struct Script {
     bytes: Vec<u8>,
@@ -114,7 +114,8 @@ fn push_line(script: &mut Vec<u8>, draw: u64) -> Result<(), AllocError>
 }
 
 /// The script of a demonstration of so many lines, or want of memory: a header of eight registers of 64
-/// bits with 32 fraction bits, and lines that a generator of numbers draws (this project's own).
+/// bits with 32 fraction bits, and lines that a generator of numbers draws. Condition: `lines` is from 1 to
+/// 1,000,000.
 pub fn demo_script(alloc: Global, lines: u32) -> Result<Script, AllocError>
     requires some { 1 ≤ lines }
     requires most { lines ≤ most_lines }

@@ -4,7 +4,7 @@ ghost use Rattle.std.specs.Prelude.{◌≡◌, IsTrue, IfSome, IfNone, List, ℕ
 ghost use Rattle.std.specs.Iterator.{YieldsFirst, item_count};
 ghost use Rattle.fixed_calc.specs.Text.{ScriptHeader, header_text};
 ghost use Rattle.fixed_calc.specs.Parser.{tokens_of};
-ghost use Rattle.fixed_calc.specs.Headers.{capped_header, fractions_of, all_decimal};
+ghost use Rattle.fixed_calc.specs.Headers.{capped_header, capped_fractions, all_decimal};
 
 use crate::names::{WordName, word_of};
 use crate::number::{is_decimal, value_of};
@@ -22,11 +22,11 @@ pub struct Header<'a> {
 impl<'a> Model for Header<'a> {
     ghost use Rattle.std.specs.Prelude.{IsTrue};
     ghost use Rattle.fixed_calc.specs.Parser.{tokens_of};
-    ghost use Rattle.fixed_calc.specs.Headers.{CappedHeader, fractions_of, all_decimal};
+    ghost use Rattle.fixed_calc.specs.Headers.{CappedHeader, capped_fractions, all_decimal};
 
     ghost Value = { CappedHeader };
 
-    ghost view = { λ h. record { word = h.word; fractions = fractions_of (tokens_of h.fractions.now) } };
+    ghost view = { λ h. record { word = h.word; fractions = capped_fractions (tokens_of h.fractions.now) } };
 
     ghost invariant = { λ h. IsTrue (all_decimal (tokens_of h.fractions.now)) };
 }
@@ -57,11 +57,11 @@ pub struct Fractions<'a> {
 
 impl<'a> Model for Fractions<'a> {
     ghost use Rattle.std.specs.Prelude.{IsTrue, List, ℕ};
-    ghost use Rattle.fixed_calc.specs.Headers.{fractions_of, all_decimal};
+    ghost use Rattle.fixed_calc.specs.Headers.{capped_fractions, all_decimal};
 
     ghost Value = { List ℕ };
 
-    ghost view = { λ f. fractions_of f.tokens };
+    ghost view = { λ f. capped_fractions f.tokens };
 
     ghost invariant = { λ f. IsTrue (all_decimal f.tokens) };
 }
@@ -96,8 +96,7 @@ fn all_decimal(bytes: &[u8]) -> bool
     true
 }
 
-/// The header whose text the piece is, without its newline; None exactly where no header has that text
-/// (this project's own).
+/// The header whose text the piece is, without its newline; None exactly where no header has that text.
 pub fn parse_header(piece: &[u8]) -> Option<Header<'_>>
     // None exactly where the piece is no header's text.
     ensures none { IfNone result ((header : ScriptHeader) → header_text header ≡ piece.now → ⊥) }

@@ -19,7 +19,7 @@ pub fn text_law()
     ensures pieces { PiecesJoin }
 {}
 
-/// The model reads a line, or a header, in a piece exactly where the piece is its text.
+/// The model reads a line, or a header, in bytes exactly where they are its text.
 pub fn reading_law()
     ensures lines { ReadsLines }
     ensures headers { ReadsHeaders }

@@ -3,7 +3,7 @@
 //!
 //! [`calc_main`] does all that the program does; [`run`] runs a script in memory, and [`run_in`] runs
 //! it in a [`Room`] that was made for it, without asking for memory. [`demo_script`] makes a large valid
-//! script.
+//! script. All of this is this project's own.
 #![tactic(auto)]
 
 mod answer;

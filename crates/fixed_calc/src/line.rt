@@ -14,7 +14,7 @@ use crate::tokens::Tokens;
 pub(crate) enum Shape {
     Unary,
     Binary,
-    ByInt,
+    ByInteger,
     Ternary,
 }
 
@@ -71,7 +71,8 @@ pub(crate) fn shape_of(op: Op) -> Shape
         | Op::Dist
         | Op::Rem
         | Op::RemEuclid => Shape::Binary,
-        Op::MulInt | Op::DivInt | Op::DivEuclidInt | Op::RemEuclidInt | Op::RemInt => Shape::ByInt,
+        Op::MulInt | Op::DivInt | Op::DivEuclidInt | Op::RemEuclidInt | Op::RemInt =>
+            Shape::ByInteger,
         Op::MulAdd | Op::AddProd => Shape::Ternary,
     }
 }
@@ -118,7 +119,7 @@ fn operands_of(dest: u128, policy: Policy, op: Op, a: u128, tokens: &mut Tokens<
                 },
             )
         }
-        Shape::ByInt => {
+        Shape::ByInteger => {
             let literal = tokens.literal()?;
             at_end(
                 tokens,
@@ -176,8 +177,7 @@ fn read_line(mut tokens: Tokens<'_>) -> Option<Line>
     apply_of(dest, policy, &mut tokens)
 }
 
-/// The line whose text the piece is, without its newline; None exactly where no line has that text (this
-/// project's own).
+/// The line whose text the piece is, without its newline; None exactly where no line has that text.
 pub fn parse_line(piece: &[u8]) -> Option<Line>
     // None exactly where the piece is no line's text.
     ensures none { IfNone result

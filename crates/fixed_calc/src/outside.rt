@@ -17,7 +17,7 @@ pub enum Refusal {
     Memory,
 }
 
-/// Where the script comes from (this project's own).
+/// Where the script comes from.
 pub trait Source {
     /// The bytes left, where the source tells them, and a count of its faults.
     ghost state: { Self → SourceState };
@@ -31,14 +31,14 @@ pub trait Source {
         ensures faults { TellsFaults (state self.old).faults (state self.new).faults result };
 }
 
-/// Where the answers, or the line for the errors, go (this project's own).
+/// Where the answers, or the line for the errors, go.
 pub trait Sink {
     /// The bytes taken, where the sink tells them, and its counts of faults and of shortages of memory.
     ghost state: { Self → SinkState };
 
-    /// Takes a prefix of the piece, of at least one byte where the piece has one. `Failed` comes only
-    /// where the count of faults rose or stands at its last value, and `Memory` where that of
-    /// shortages did.
+    /// Takes a prefix of the bytes, at least one where there is one. `Failed` comes only where the count
+    /// of faults rose or stands at its last value, and `Memory` where that of shortages did. A refusal
+    /// takes nothing.
     fn write(&mut self, bytes: &[u8]) -> Result<usize, Refusal>
         ensures within { IfOk result (λ k. k ≤ length bytes.now) }
         ensures some { 0 < length bytes.now → IfOk result (λ k. 0 < k) }

@@ -2,7 +2,7 @@
 
 ghost use Rattle.std.specs.Prelude.{◌≡◌, None};
 ghost use Rattle.std.specs.List.{All};
-ghost use Rattle.fixed_calc.specs.Meaning.{line_at};
+ghost use Rattle.fixed_calc.specs.Meaning.{line_of_piece};
 ghost use Rattle.fixed_calc.specs.Readings.{LineTells, HeaderTells};
 ghost use Rattle.fixed_calc.specs.Step.{IsCell, StepTells, cells_of, state_in};
 
@@ -34,7 +34,7 @@ pub(crate) fn run_piece(
 ) -> Result<Answer, Cause>
     requires { All (IsCell word) (cells_of registers.old) }
     ensures tells { StepTells (state_in word (cells_of registers.old))
-        (line_at piece.now) number result (cells_of registers.new) }
+        (line_of_piece piece.now) number result (cells_of registers.new) }
     ensures kept { All (IsCell word) (cells_of registers.new) }
 {
     match read_line(piece) {

@@ -66,7 +66,7 @@ fn push_fractions(registers: &mut Vec<Register>, header: &Header<'_>)
 }
 
 /// Where a script runs: the word of its header, its registers and the bytes of its answers, with room that
-/// was made for it (this project's own). Contracts see it as a `Space`: what it holds, and for how many
+/// was made for it. Contracts see it as a `Space`: what it holds, and for how many
 /// registers and answer bytes there is room.
 #[derive(Drop)]
 pub struct Room {
@@ -88,7 +88,7 @@ impl Model for Room {
     ghost invariant = { λ r. IsRoom r.word (cells_of r.registers.items) × (r.most ≤ vec_capacity r.registers) };
 }
 
-/// The bytes of all answers, one a line (this project's own). Contracts see it as a list of bytes.
+/// The bytes of all answers, one a line. Contracts see it as a list of bytes.
 #[derive(Drop)]
 pub struct Answers {
     held: Buffer,
@@ -112,14 +112,14 @@ impl Answers {
 }
 
 impl Room {
-    ghost use Rattle.fixed_calc.specs.Meaning.{line_at};
+    ghost use Rattle.fixed_calc.specs.Meaning.{line_of_piece};
     ghost use Rattle.fixed_calc.specs.Capped.{denoted};
     ghost use Rattle.fixed_calc.specs.Machine.{cell_at};
     ghost use Rattle.fixed_calc.specs.Rooms.{IsEmptySpace, IsStarted, KeepsTheRest, KeepsRoom, Suffices, spaces};
     ghost use Rattle.fixed_calc.specs.Step.{StepTells, state_in};
 
     /// A room without a header, registers and answers, for as many registers as the script's first piece has
-    /// spaces and for twice the script's length of answer bytes; or want of memory (this project's own).
+    /// spaces and for twice the script's length of answer bytes; or want of memory.
     pub fn for_script(alloc: Global, script: &[u8]) -> Result<Room, AllocError>
         ensures { IfOk result
             (λ room. IsEmptySpace (spaces script.now) (2 * length script.now) room) }
@@ -133,8 +133,7 @@ impl Room {
         })
     }
 
-    /// Whether the room is for at least as many registers and answer bytes as `for_script` makes room for
-    /// (this project's own).
+    /// Whether the room is for at least as many registers and answer bytes as `for_script` makes room for.
     pub fn suffices(&self, script: &[u8]) -> bool
         ensures { IsTrue result ↔ Suffices script.now self.now }
     {
@@ -151,7 +150,7 @@ impl Room {
 
     /// Declares the registers of a header, with bits 0, and no answers. Condition: there is room for its
     /// fractions. `OutOfRange(1)` exactly where a fraction exceeds the width; then there is no header, no
-    /// register and no answer (this project's own).
+    /// register and no answer.
     pub fn declare(&mut self, header: &Header<'_>) -> Result<(), Cause>
         requires { length header.now.fractions ≤ self.old.register_room }
         ensures ok { OnOk result ((is_wide header.now.word header.now.fractions ≡ false)
@@ -185,7 +184,7 @@ impl Room {
     pub(crate) fn step_piece(&mut self, piece: &[u8], number: u64) -> Result<Answer, Cause>
         requires { IsSome self.old.word }
         ensures tells { IfSome self.old.word (λ word. StepTells (state_in word self.old.registers)
-            (line_at piece.now) number result self.new.registers) }
+            (line_of_piece piece.now) number result self.new.registers) }
         ensures kept { KeepsTheRest self.old self.new }
     {
         let word = self.word.unwrap();
@@ -243,8 +242,9 @@ impl Room {
 }
 
 /// Runs one line of a script: its answer, with the number stored in its register, or its cause with that
-/// line number and all registers as they were. Condition: a header was declared. It takes no memory (this
-/// project's own).
+/// line number and all registers as they were. A line whose operation takes other operands has the cause
+/// `Syntax`. The header and the answers in the room stay. Condition: a header was declared. It takes no
+/// memory.
 pub fn step(room: &mut Room, line: &Line, number: u64) -> Result<Answer, Cause>
     requires { IsSome room.old.word }
     ensures tells { IfSome room.old.word (λ word. StepTells

@@ -54,8 +54,8 @@ fn run_lines(word: WordName, lines: &[u8], room: &mut Room) -> Result<(), Cause>
 }
 
 /// Runs a script in a room that suffices for it, from a fresh start, and asks for no memory. Ok with all
-/// answers in the room, or the first line's cause with the registers and answers of the lines before it
-/// in the room (this project's own).
+/// answers in the room, or the first cause with the registers and answers of the lines before it in the
+/// room.
 pub fn run_in(script: &[u8], room: &mut Room) -> Result<(), Cause>
     requires { Suffices script.now room.old }
     ensures tells { RunTells (run_of script.now) result room.new }
@@ -76,8 +76,7 @@ pub fn run_in(script: &[u8], room: &mut Room) -> Result<(), Cause>
     }
 }
 
-/// Runs a script: its answers, its first cause, or want of memory. On a fault nothing is handed out (this
-/// project's own).
+/// Runs a script: its answers, its first cause, or want of memory. On a fault nothing is handed out.
 pub fn run(alloc: Global, script: &[u8]) -> Result<Answers, RunFault>
     ensures { MeaningTells (meaning script.now) result }
 {

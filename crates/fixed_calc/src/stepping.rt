@@ -26,7 +26,7 @@ fn is_shaped(line: &Line) -> bool
         Line::Set { .. } => true,
         Line::One { op, .. } => shape_of(*op) == Shape::Unary,
         Line::Two { op, .. } => shape_of(*op) == Shape::Binary,
-        Line::Int { op, .. } => shape_of(*op) == Shape::ByInt,
+        Line::Int { op, .. } => shape_of(*op) == Shape::ByInteger,
         Line::Three { op, .. } => shape_of(*op) == Shape::Ternary,
     }
 }
@@ -58,7 +58,7 @@ fn is_offered(word: WordName, policy: Policy, op: Op) -> bool
     }
 }
 
-/// Whether the policy has the operation of the line.
+/// Whether the operation of the line is not offered under its policy on the word.
 #[tactic(auto, unfolding(crate::specs::Machine::is_unoffered))]
 fn is_unoffered(word: WordName, line: &Line) -> bool
     ensures { result ≡ unoffered word (seen line.now) }

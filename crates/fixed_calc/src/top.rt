@@ -107,13 +107,14 @@ fn status_of<S: Source, K: Sink>(
 }
 
 /// With no words: reads a script from `source`, runs it, and writes its whole output to `sink`, or the
-/// line of what stopped it to `errors`. With the words `demo N`: reads nothing, makes the script of
-/// `demo_script`, runs it, and writes how many lines it has, how many answers have no value and how many a
-/// verdict that is true.
+/// line of what stopped it to `errors`. With the words `demo N`, N the decimal of a number from 1 to
+/// 1,000,000: reads nothing, makes the script of `demo_script`, runs it, and writes how many lines it has,
+/// how many answers have no value and how many a verdict that is true. With any other words: `Usage`, and
+/// nothing is read and nothing written to `sink`.
 ///
 /// The clauses say, status by status, what was read and written. What a script means is defined by
 /// the register machine of this crate's definitions, in which each line takes the exact number of its
-/// operation. This project's own.
+/// operation and projects it by its policy.
 pub fn calc_main<S: Source, K: Sink, E: Sink>(
     alloc: Global,
     words: &[String],

@@ -1,5 +1,6 @@
-//! The examples of the guide for users: a filter, a controller, a ledger and an invoice, each in a few lines over
-//! the typed calls and the operators, with the property that it was written for as its contract.
+//! The examples of the guide for users: a filter, a controller, a ledger and an invoice, each in a few
+//! lines over the typed calls and the operators, with the property that it was written for as its contract.
+//! This project's own.
 #![tactic(auto)]
 
 pub mod controller;

@@ -1,5 +1,6 @@
 -- The exact number of each operation: a whole number of units of the result, without a bound.
--- a, b, c and m are the operands' bits, k an integer, f the fraction of a, g and h those of the other factors.
+-- a, b, c and m are the operands' bits, k an integer, f the fraction of the operation's numbers, and g and h those of
+-- factors with a fraction of their own.
 -- A row is that number, or nothing where the operation has none.
 use Rattle.std.specs.Prelude.{◌^◌, ◌+◌, ◌*◌, ◌+ℤ◌, ◌-ℤ◌, ◌*ℤ◌, ℕ, ℤ, pos, neg_ℤ, negsuc, zero, suc, unsigned_abs, nat_le, Option, Some, None, if◌then◌else◌}
 use Rattle.fixed_word.specs.Quotient.{floor_quotient, truncated_quotient, euclidean_quotient, euclidean_remainder}

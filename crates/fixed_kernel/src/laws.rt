@@ -11,8 +11,9 @@ ghost use Rattle.fixed_kernel.specs.Laws.{IsFromZero, IsNextMultiple, IsNextPowe
 ghost use Rattle.fixed_kernel.specs.Rows.{exact_abs, exact_dist, exact_div, exact_div_euclid, exact_div_euclid_int, exact_div_int, exact_mul, exact_neg, exact_next_multiple_of, exact_next_power_of_two, exact_recip, exact_rem, exact_rem_euclid, exact_rem_euclid_int, exact_rem_int, exact_signum, exact_sqrt};
 ghost use Rattle.fixed_kernel.specs.Rows.{row_div, row_div_euclid, row_div_euclid_int, row_div_int, row_next_multiple_of, row_recip, row_rem, row_rem_euclid, row_rem_euclid_int, row_rem_int, row_sqrt};
 
-/// The remainders fit on every word, though the integer of `rem_int` may be far outside the range
-/// as a number of units; a Euclidean remainder is at least 0 and below the magnitude of its divisor.
+/// `rem`, `rem_int` and `rem_euclid` fit on every word, though the integer of `rem_int` may be far outside
+/// the range as a number of units; a Euclidean remainder is at least 0 and below the magnitude of its
+/// divisor. (`rem_euclid_int` fits on unsigned words.)
 pub fn remainder_law()
     ensures rem { (s : Bool) (n : ℕ) (a b : ℤ) → InRange s n a → b ≢ pos 0
         → InRange s n (exact_rem a b) }

@@ -1,11 +1,16 @@
 //! The operations of fixed-point numbers on their bits, at run time.
 //!
-//! Each function answers an [`Outcome`](fixed_word::Outcome) that stands for the exact number of its
-//! operation: what is left of it in the word, and whether it fits, lies above or lies below. Bits and
+//! Each function `.._of` answers an [`Outcome`](fixed_word::Outcome) that stands for the exact number of
+//! its operation: what is left of it in the word, and whether it fits, lies above or lies below. Bits and
 //! numbers are whole numbers of units of `2^-frac`. No function takes memory.
-//! The condition of each is that its fractions are at most the word's width and its divisor is not 0.
-//! These functions are this project's own. [`overflowing_mul`], [`overflowing_div`] and
-//! [`overflowing_mul_add`], which answer the word that is left and a verdict, are the crate's.
+//!
+//! Conditions: fractions are at most the width n, a divisor is not 0, the operand of a root is not below
+//! 0; `abs_of` and `signum_of` are for signed words, `next_power_of_two_of` for unsigned ones, the mixed
+//! sums for two words of one width.
+//!
+//! The functions are this project's own, but for [`overflowing_mul`], [`overflowing_div`],
+//! [`overflowing_mul_add`] and [`round_to_zero_of`], which answer words: those are the crate's. In
+//! docstrings "the crate" is the Rust crate `fixed`.
 #![tactic(auto)]
 
 pub mod laws;

@@ -41,9 +41,8 @@ pub fn overflowing_div<T: Word>(lhs: T, rhs: T, frac_nbits: u32) -> (T, bool)
 }
 
 /// `lhs mul / 2^frac_nbits`, rounded down, plus `add`, without what lies past the width, and whether
-/// the sum does not fit; the product alone may lie past it. All are bits, and a length below 0 moves
-/// the product up; the condition is that it is from minus the width to twice the width. (The crate's
-/// `overflowing_mul_add`.)
+/// the sum does not fit; the product alone may lie past it. All are bits, and a `frac_nbits` below 0
+/// moves the product up. Condition: `frac_nbits` is from -n to 2n. (The crate's `overflowing_mul_add`.)
 pub fn overflowing_mul_add<T: Word>(lhs: T, mul: T, add: T, frac_nbits: i32) -> (T, bool)
     requires lower { neg_ℤ (pos T.BITS) ≤ℤ frac_nbits }
     requires upper { frac_nbits ≤ℤ pos (2 * T.BITS) }

@@ -4,7 +4,7 @@ ghost use Rattle.std.specs.Prelude.{◌≡◌, ◌<◌, ◌≤◌, ℕ, MatchOpt
 
 use std::marker::Model;
 
-/// A base, which is at least 2. Contracts see it as the number.
+/// A base, which is at least 2 (the crate's). Contracts see it as the number.
 #[derive(Clone, Copy, Debug)]
 pub struct Base {
     base: u32,

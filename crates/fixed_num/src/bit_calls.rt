@@ -144,7 +144,7 @@ impl<T: BitWord, const F: u32> Fixed<T, F> {
         self.bits.trailing_zeros()
     }
 
-    /// Bit i goes to place `i + n` modulo the width.
+    /// Bit i goes to place `i + n` modulo the width, for the parameter n.
     pub fn rotate_left(self, n: u32) -> Self
         ensures { IsRotated n (bit_list T.BITS (T.value self.bits))
             (bit_list T.BITS (T.value result.bits)) }
@@ -154,8 +154,8 @@ impl<T: BitWord, const F: u32> Fixed<T, F> {
         }
     }
 
-    /// Bit i goes to place `i - n` modulo the width, so that a rotation to the left by n brings it
-    /// back.
+    /// Bit i goes to place `i - n` modulo the width, for the parameter n, so that a rotation to the left by
+    /// n brings it back.
     pub fn rotate_right(self, n: u32) -> Self
         ensures { IsRotated n (bit_list T.BITS (T.value result.bits))
             (bit_list T.BITS (T.value self.bits)) }

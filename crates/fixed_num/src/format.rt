@@ -88,7 +88,7 @@ pub trait Number: Held {
     /// The number of the same fraction over the signed word of the same width.
     type Signed: Held;
 
-    /// How many bits stand behind the point.
+    /// How many bits stand behind the point, as `Constants::FRAC_NBITS`.
     const FRACTION: u32;
 
     ghost FRACTION: { ℕ };
@@ -121,8 +121,8 @@ impl<T: RawWord, const F: u32> Default for Fixed<T, F> {
     }
 }
 
-/// The constants of a format. They stand in a trait, since contracts see no inherent constant of a
-/// generic type.
+/// The constants of a format (the crate's). They stand in a trait, since contracts see no inherent
+/// constant of a generic type.
 pub trait Constants: Sized {
     /// The number 0.
     const ZERO: Self;

@@ -26,7 +26,7 @@ pub fn order_law<T: RawWord, const F: u32>(x: Fixed<T, F>, y: Fixed<T, F>)
 {}
 
 /// A number that is cast to the word of the other sign and back is the number. (That bits and bytes
-/// read back give the number is a law of the crate of bits.)
+/// read back give the number is a law of `fixed_bits`.)
 pub fn cast_law()
     ensures { (s t : Bool) (n : ℕ) (x : ℤ) → IsWidth n → InRange s n x → wrap s n (wrap t n x) ≡ x }
 {}

@@ -2,7 +2,8 @@
 //!
 //! `Fixed<T, F>` stands for its bits times `2^-F`. The calls speak of the bits as a whole number, in
 //! units of `2^-F`. Below, n is the width of the word T. The calls are the crate's of the same names,
-//! but where one is said to be this project's own. No call takes memory.
+//! but where one is said to be this project's own. No call takes memory. In docstrings "the crate" is the
+//! Rust crate `fixed`.
 #![tactic(auto)]
 
 mod bit_calls;

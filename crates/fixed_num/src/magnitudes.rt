@@ -1,4 +1,4 @@
-//! Calls on the number itself: its size, its sign, its mean with another, and its shifts.
+//! Calls on the number itself: its magnitude, its sign, its mean with another, and its shifts.
 
 ghost use Rattle.std.specs.Prelude.{◌≡◌, ◌≤◌, ◌^◌, ◌↔◌, ◌<ℤ◌, ◌+ℤ◌, ◌-ℤ◌, ◌*ℤ◌, ℕ, IsTrue, pos, unsigned_abs};
 ghost use Rattle.fixed_word.specs.Format.{wrap};
@@ -11,7 +11,7 @@ use fixed_kernel::round_to_zero_of;
 use fixed_word::{RawWord, SignedWord, UnsignedWord, Word};
 
 impl<T: Word, const F: u32> Fixed<T, F> {
-    /// The size of the difference, which always fits the unsigned number.
+    /// The magnitude of the difference, which always fits the unsigned number.
     pub fn abs_diff(self, other: Self) -> Fixed<T::Unsigned, F>
         ensures { T.Unsigned.value result.bits
             ≡ pos (unsigned_abs (T.value self.bits -ℤ T.value other.bits)) }
@@ -104,7 +104,7 @@ impl<T: SignedWord, const F: u32> Fixed<T, F> {
         }
     }
 
-    /// The size of the number, which always fits the unsigned number.
+    /// The magnitude of the number, which always fits the unsigned number.
     pub fn unsigned_abs(self) -> Fixed<T::Unsigned, F>
         ensures { T.Unsigned.value result.bits ≡ pos (unsigned_abs (T.value self.bits)) }
     {
@@ -113,7 +113,7 @@ impl<T: SignedWord, const F: u32> Fixed<T, F> {
         }
     }
 
-    /// The size of the difference, which always fits the unsigned number.
+    /// The magnitude of the difference, which always fits the unsigned number.
     pub fn unsigned_dist(self, other: Self) -> Fixed<T::Unsigned, F>
         ensures { T.Unsigned.value result.bits
             ≡ pos (unsigned_abs (T.value self.bits -ℤ T.value other.bits)) }

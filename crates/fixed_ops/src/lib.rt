@@ -1,7 +1,8 @@
 //! Operations of fixed-point numbers by their plain names, and sums and products of slices.
 //!
 //! Each call gives the number of its row under the condition that the row is defined and its number fits.
-//! The operators between numbers stand with the number type. No call takes memory.
+//! The operators between numbers stand with the number type. Below, n is the width of the word, and "the
+//! crate" is the Rust crate `fixed`. No call takes memory.
 #![tactic(auto)]
 
 pub mod laws;

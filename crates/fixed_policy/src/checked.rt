@@ -270,7 +270,7 @@ pub trait CheckedSigned: Checked {
         ensures { option_map Self.number result ≡ checked Self.SIGNED Self.BITS
             (Some (exact_add (Self.number self) (Self.Unsigned.number rhs))) };
 
-    /// The difference from an unsigned number; None exactly where it does not fit.
+    /// The number minus an unsigned one; None exactly where it does not fit.
     fn checked_sub_unsigned(self, rhs: Self::Unsigned) -> Option<Self>
         ensures { option_map Self.number result ≡ checked Self.SIGNED Self.BITS
             (Some (exact_sub (Self.number self) (Self.Unsigned.number rhs))) };
@@ -307,7 +307,7 @@ pub trait CheckedUnsigned: Checked {
         ensures { option_map Self.number result ≡ checked Self.SIGNED Self.BITS
             (Some (exact_add (Self.number self) (Self.Signed.number rhs))) };
 
-    /// The difference from a signed number; None exactly where it does not fit.
+    /// The number minus a signed one; None exactly where it does not fit.
     fn checked_sub_signed(self, rhs: Self::Signed) -> Option<Self>
         ensures { option_map Self.number result ≡ checked Self.SIGNED Self.BITS
             (Some (exact_sub (Self.number self) (Self.Signed.number rhs))) };

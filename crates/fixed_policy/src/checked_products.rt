@@ -43,7 +43,7 @@ pub trait CheckedProducts<const A: u32, const B: u32>: Number {
             ≡ checked Self.SIGNED Self.BITS (Some (exact_add_prod (Self.number self)
             (Self.Bits.value a.bits) (Self.Bits.value b.bits) Self.FRACTION A B)) };
 
-    /// Stores what `checked_add_prod` answers; where that is None the number stays.
+    /// Stores what `checked_add_prod` answers, under its condition; where that is None the number stays.
     fn checked_mul_acc(&mut self, a: Fixed<Self::Bits, A>, b: Fixed<Self::Bits, B>) -> Option<()>
         requires fraction { Self.FRACTION ≤ Self.BITS }
         requires a { A ≤ Self.BITS }

@@ -210,7 +210,7 @@ pub trait OverflowingSigned: Overflowing {
         ensures { Some (Self.number result.0, result.1) ≡ overflowing Self.SIGNED Self.BITS
             (Some (exact_add (Self.number self) (Self.Unsigned.number rhs))) };
 
-    /// The difference from an unsigned number, wrapped, and whether it does not fit.
+    /// The number minus an unsigned one, wrapped, and whether it does not fit.
     fn overflowing_sub_unsigned(self, rhs: Self::Unsigned) -> (Self, bool)
         ensures { Some (Self.number result.0, result.1) ≡ overflowing Self.SIGNED Self.BITS
             (Some (exact_sub (Self.number self) (Self.Unsigned.number rhs))) };
@@ -241,7 +241,7 @@ pub trait OverflowingUnsigned: Overflowing {
         ensures { Some (Self.number result.0, result.1) ≡ overflowing Self.SIGNED Self.BITS
             (Some (exact_add (Self.number self) (Self.Signed.number rhs))) };
 
-    /// The difference from a signed number, wrapped, and whether it does not fit.
+    /// The number minus a signed one, wrapped, and whether it does not fit.
     fn overflowing_sub_signed(self, rhs: Self::Signed) -> (Self, bool)
         ensures { Some (Self.number result.0, result.1) ≡ overflowing Self.SIGNED Self.BITS
             (Some (exact_sub (Self.number self) (Self.Signed.number rhs))) };

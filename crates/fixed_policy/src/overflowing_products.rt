@@ -42,7 +42,7 @@ pub trait OverflowingProducts<const A: u32, const B: u32>: Number {
             ≡ overflowing Self.SIGNED Self.BITS (Some (exact_add_prod (Self.number self)
             (Self.Bits.value a.bits) (Self.Bits.value b.bits) Self.FRACTION A B)) };
 
-    /// Stores what `overflowing_add_prod` answers, and answers its verdict.
+    /// Stores what `overflowing_add_prod` answers, under its condition, and answers its verdict.
     fn overflowing_mul_acc(&mut self, a: Fixed<Self::Bits, A>, b: Fixed<Self::Bits, B>) -> bool
         requires fraction { Self.FRACTION ≤ Self.BITS }
         requires a { A ≤ Self.BITS }

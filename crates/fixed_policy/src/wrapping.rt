@@ -200,7 +200,7 @@ pub trait WrappingSigned: Wrapping {
         ensures { Some (Self.number result) ≡ wrapping Self.SIGNED Self.BITS
             (Some (exact_add (Self.number self) (Self.Unsigned.number rhs))) };
 
-    /// The difference from an unsigned number, wrapped.
+    /// The number minus an unsigned one, wrapped.
     fn wrapping_sub_unsigned(self, rhs: Self::Unsigned) -> Self
         ensures { Some (Self.number result) ≡ wrapping Self.SIGNED Self.BITS
             (Some (exact_sub (Self.number self) (Self.Unsigned.number rhs))) };
@@ -236,7 +236,7 @@ pub trait WrappingUnsigned: Wrapping {
         ensures { Some (Self.number result) ≡ wrapping Self.SIGNED Self.BITS
             (Some (exact_add (Self.number self) (Self.Signed.number rhs))) };
 
-    /// The difference from a signed number, wrapped.
+    /// The number minus a signed one, wrapped.
     fn wrapping_sub_signed(self, rhs: Self::Signed) -> Self
         ensures { Some (Self.number result) ≡ wrapping Self.SIGNED Self.BITS
             (Some (exact_sub (Self.number self) (Self.Signed.number rhs))) };

@@ -41,7 +41,7 @@ pub trait WrappingProducts<const A: u32, const B: u32>: Number {
             ≡ wrapping Self.SIGNED Self.BITS (Some (exact_add_prod (Self.number self)
             (Self.Bits.value a.bits) (Self.Bits.value b.bits) Self.FRACTION A B)) };
 
-    /// Stores what `wrapping_add_prod` answers.
+    /// Stores what `wrapping_add_prod` answers, under its condition.
     fn wrapping_mul_acc(&mut self, a: Fixed<Self::Bits, A>, b: Fixed<Self::Bits, B>)
         requires fraction { Self.FRACTION ≤ Self.BITS }
         requires a { A ≤ Self.BITS }

@@ -1,4 +1,4 @@
-//! Standard input, output and error as a source, a sink and errors. They tell no bytes.
+//! Standard input, output and error as a source, a sink and errors. They tell no bytes. This project's own.
 
 ghost use Rattle.std.specs.Prelude.{◌≡◌, ◌≤◌, ◌<◌, None, IfErr, IfOk, length, take};
 ghost use Rattle.std.specs.Io.KnownBytes.{Appends, ReadConsumes, WriteAppends};
@@ -45,8 +45,8 @@ impl<R: Read> Source for StdSource<R> {
     }
 }
 
-/// A writer, as standard output. Each failed write, each empty take of a piece and each failed flush
-/// raises its count of faults.
+/// A writer, as standard output. Each failed write, each write that takes none of some bytes and each
+/// failed flush raises its count of faults.
 #[derive(Drop)]
 pub struct StdSink<W> {
     writer: W,

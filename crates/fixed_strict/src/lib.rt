@@ -1,7 +1,9 @@
 //! The policies that stay in range: saturating, and strict, which is for numbers that fit.
 //!
-//! Each function reads an [`Outcome`](fixed_word::Outcome) and answers for the number that it stands
-//! for, whichever that is. No function takes memory.
+//! The functions `.._of` read an [`Outcome`](fixed_word::Outcome) and answer for the number that it stands
+//! for, whichever that is; they are this project's own. The traits have the typed calls of
+//! [`Fixed`](fixed_num::Fixed), each named by its policy and its operation; the unwrapped forms answer what
+//! the strict ones do. Below, "the crate" is the Rust crate `fixed`. No function takes memory.
 #![tactic(auto)]
 
 mod numbers;

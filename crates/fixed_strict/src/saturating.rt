@@ -185,7 +185,7 @@ pub trait SaturatingSigned: Saturating {
         ensures { Some (Self.number result) ≡ saturating Self.SIGNED Self.BITS
             (Some (exact_add (Self.number self) (Self.Unsigned.number rhs))) };
 
-    /// The difference from an unsigned number, held at the ends.
+    /// The number minus an unsigned one, held at the ends.
     fn saturating_sub_unsigned(self, rhs: Self::Unsigned) -> Self
         ensures { Some (Self.number result) ≡ saturating Self.SIGNED Self.BITS
             (Some (exact_sub (Self.number self) (Self.Unsigned.number rhs))) };
@@ -216,7 +216,7 @@ pub trait SaturatingUnsigned: Saturating {
         ensures { Some (Self.number result) ≡ saturating Self.SIGNED Self.BITS
             (Some (exact_add (Self.number self) (Self.Signed.number rhs))) };
 
-    /// The difference from a signed number, held at the ends.
+    /// The number minus a signed one, held at the ends.
     fn saturating_sub_signed(self, rhs: Self::Signed) -> Self
         ensures { Some (Self.number result) ≡ saturating Self.SIGNED Self.BITS
             (Some (exact_sub (Self.number self) (Self.Signed.number rhs))) };

@@ -41,7 +41,7 @@ pub trait SaturatingProducts<const A: u32, const B: u32>: Number {
             ≡ saturating Self.SIGNED Self.BITS (Some (exact_add_prod (Self.number self)
             (Self.Bits.value a.bits) (Self.Bits.value b.bits) Self.FRACTION A B)) };
 
-    /// Stores what `saturating_add_prod` answers.
+    /// Stores what `saturating_add_prod` answers, under its condition.
     fn saturating_mul_acc(&mut self, a: Fixed<Self::Bits, A>, b: Fixed<Self::Bits, B>)
         requires fraction { Self.FRACTION ≤ Self.BITS }
         requires a { A ≤ Self.BITS }

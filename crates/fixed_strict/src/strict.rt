@@ -262,7 +262,7 @@ pub trait StrictSigned: Strict {
             (exact_add (Self.number self) (Self.Unsigned.number rhs)) }
         ensures { Self.number result ≡ exact_add (Self.number self) (Self.Unsigned.number rhs) };
 
-    /// The difference from an unsigned number; condition that the answer fits.
+    /// The number minus an unsigned one; condition that the answer fits.
     fn strict_sub_unsigned(self, rhs: Self::Unsigned) -> Self
         requires { InRange Self.SIGNED Self.BITS
             (exact_sub (Self.number self) (Self.Unsigned.number rhs)) }
@@ -301,7 +301,7 @@ pub trait StrictUnsigned: Strict {
             (exact_add (Self.number self) (Self.Signed.number rhs)) }
         ensures { Self.number result ≡ exact_add (Self.number self) (Self.Signed.number rhs) };
 
-    /// The difference from a signed number; condition that the answer fits.
+    /// The number minus a signed one; condition that the answer fits.
     fn strict_sub_signed(self, rhs: Self::Signed) -> Self
         requires { InRange Self.SIGNED Self.BITS
             (exact_sub (Self.number self) (Self.Signed.number rhs)) }

@@ -45,7 +45,7 @@ pub trait UnwrappedProducts<const A: u32, const B: u32>: Number {
         ensures { Self.number result ≡ exact_add_prod (Self.number self)
             (Self.Bits.value a.bits) (Self.Bits.value b.bits) Self.FRACTION A B };
 
-    /// Stores what `unwrapped_add_prod` answers.
+    /// Stores what `unwrapped_add_prod` answers, under its condition.
     fn unwrapped_mul_acc(&mut self, a: Fixed<Self::Bits, A>, b: Fixed<Self::Bits, B>)
         requires fraction { Self.FRACTION ≤ Self.BITS }
         requires a { A ≤ Self.BITS }
