@@ -106,6 +106,7 @@ unfoldable pub power_over : ℕ → ℕ
 power_over zero = 1
 power_over (suc n) = if nat_le (suc n) (power_over n) then power_over n else 2 * power_over n
 
+-- for a of at least 0: it is an operation of unsigned words alone
 abbrev pub exact_next_power_of_two : ℤ → ℤ
 exact_next_power_of_two a = pos (power_over (unsigned_abs a))
 
