@@ -2,7 +2,7 @@
 use Rattle.std.proofs.Common.{◌≡◌, ℕ, ℤ, Bool, true, false, not, Option, Some, None, ap, if◌then◌else◌}
 use Rattle.fixed_word.specs.Format.{IsWidth, fits, wrap}
 use Rattle.fixed_word.specs.Policies.{checked, saturating, wrapping, overflowing}
-use Rattle.fixed_word.specs.Wraps.{width_pos, wrap_same}
+use Rattle.fixed_word.proofs.Wraps.{width_pos, wrap_same}
 use Rattle.fixed_word.proofs.Standings.{clamp_same}
 use Rattle.fixed_calc.specs.OneNumber.{AllSame, OnlyWrapped}
 use Rattle.fixed_calc.proofs.Fits.{in_range}
