@@ -10,7 +10,7 @@ use Rattle.fixed_calc.specs.Machine.{Taken, row_of}
 use Rattle.fixed_calc.specs.Projection.{plain, project}
 use Rattle.fixed_calc.proofs.Fits.{in_range}
 use Rattle.fixed_word.specs.Format.{IsWidth, fits, wrap}
-use Rattle.fixed_word.specs.Wraps.{width_pos, wrap_same}
+use Rattle.fixed_word.proofs.Wraps.{width_pos, wrap_same}
 use Rattle.fixed_agree.specs.declared.forms.Forms.{Forms}
 use Rattle.fixed_agree.specs.Agreement.{MachineAnswers}
 use Rattle.fixed_agree.specs.Forms.{FormsAgree}

@@ -7,7 +7,7 @@ use Rattle.std.specs.Int.{Width, cast_signed, cast_unsigned, w8, w16, w32, w64, 
 use Rattle.std.specs.List.{slice_index}
 use mir.Val.{bits, SFits}
 use Rattle.fixed_word.specs.Format.{IsWidth, modulo, wrap}
-use Rattle.fixed_word.specs.Wraps.{width_pos}
+use Rattle.fixed_word.proofs.Wraps.{width_pos}
 use Rattle.fixed_bits.specs.Digits.{byte_list, lowest_digits}
 use Rattle.fixed_bits.proofs.Words.{modulo_wrap}
 

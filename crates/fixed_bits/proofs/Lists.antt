@@ -8,7 +8,7 @@ use Rattle.std.proofs.lemmas.Nat.Bits.{bit_at-suc, bit_at_cat_low}
 use Rattle.std.proofs.Math.Nat.{pow-suc, pow-zero, mul_comm}
 use Rattle.std.specs.Int.{bit_at}
 use Rattle.fixed_word.specs.Format.{Congruent, IsWidth, modulo}
-use Rattle.fixed_word.specs.Wraps.{modulo_is, modulo_unique, plus_times}
+use Rattle.fixed_word.proofs.Wraps.{modulo_is, modulo_unique, plus_times}
 use Rattle.fixed_bits.specs.Digits.{number_of, lowest_digits, IsDigitList}
 
 pub length_lowest : (b k x : ℕ) → length (lowest_digits b k x) ≡ k

@@ -6,7 +6,7 @@ use Rattle.std.proofs.lemmas.Nat.{pow_pos, div-add-mod', shl_whole}
 use Rattle.std.proofs.Math.Nat.{div-le_self, pow-le-pow_right}
 use Rattle.fixed_word.specs.Format.{IsWidth, InRange, lowest, highest, modulo, wrap, with_sign}
 use Rattle.fixed_word.specs.Quotient.{floor_quotient}
-use Rattle.fixed_word.specs.Wraps.{magnitude_fits, modulo_below, wrap_in_range, width_pos, wrap-wrap, wrap_same, wrap_unsigned}
+use Rattle.fixed_word.proofs.Wraps.{magnitude_fits, modulo_below, wrap_in_range, width_pos, wrap-wrap, wrap_same, wrap_unsigned}
 use Rattle.fixed_bits.specs.Digits.{bit_list, byte_list, lowest_digits}
 use Rattle.fixed_bits.proofs.Lists.{byte_base, lowest_mod, same_number}
 

@@ -2,7 +2,7 @@
 use Rattle.std.proofs.Common.{◌≡◌, ◌^◌, ◌<◌, ◌≤ℤ◌, ◌<ℤ◌, ℕ, ℤ, Bool, true, false, IsTrue, pos, neg_ℤ, unsigned_abs, inl, inr, arith, refl}
 use Rattle.std.proofs.lemmas.Int.{ints}
 use Rattle.fixed_word.specs.Format.{IsWidth, fits, InRange, lowest, highest, wrap, clamp, with_sign}
-use Rattle.fixed_word.specs.Wraps.{wrap_in_range, width_pos}
+use Rattle.fixed_word.proofs.Wraps.{wrap_in_range, width_pos}
 use Rattle.fixed_word.proofs.Sides.{lowest_sign, highest_sign}
 use Rattle.fixed_calc.specs.declared.names.WordName.{WordName}
 use Rattle.fixed_calc.specs.declared.names.WordName.TheVariants.{I8, I16, I32, I64, U8, U16, U32, U64}

@@ -1,14 +1,14 @@
 -- All policies answer the same number where it fits.
-use Rattle.std.proofs.Common.{◌≡◌, ℕ, ℤ, Bool, true, false, not, Option, Some, None, ap, if◌then◌else◌}
+use Rattle.std.proofs.Common.{◌≡◌, ℕ, ℤ, Bool, true, false, not, Option, Some, None, ap, refl, if◌then◌else◌}
 use Rattle.fixed_word.specs.Format.{IsWidth, fits, wrap}
 use Rattle.fixed_word.specs.Policies.{checked, saturating, wrapping, overflowing}
-use Rattle.fixed_word.specs.Wraps.{width_pos, wrap_same}
+use Rattle.fixed_word.proofs.Wraps.{width_pos, wrap_same}
 use Rattle.fixed_word.proofs.Standings.{clamp_same}
-use Rattle.fixed_calc.specs.OneNumber.{AllSame, OnlyWrapped}
+use Rattle.fixed_calc.specs.OneNumber.{WhereItFits, WhereItMisses}
 use Rattle.fixed_calc.proofs.Fits.{in_range}
 
-pub all_same : (s : Bool) (n : ℕ) (x : ℤ) → IsWidth n → fits s n x ≡ true → AllSame s n x
-all_same s n x w e =
+pub where_it_fits : (s : Bool) (n : ℕ) (x : ℤ) → IsWidth n → fits s n x ≡ true → WhereItFits s n x
+where_it_fits s n x w e =
     let r = in_range s n x e in
     let same = wrap_same s n x (width_pos n w) r in
     record {
@@ -18,8 +18,10 @@ all_same s n x w e =
       by_overflowing = λ i. Some (same i, not (e i));
     }
 
-pub only_wrapped : (s : Bool) (n : ℕ) (x : ℤ) → fits s n x ≡ false → OnlyWrapped s n x
-only_wrapped s n x e = record {
+pub where_it_misses : (s : Bool) (n : ℕ) (x : ℤ) → fits s n x ≡ false → WhereItMisses s n x
+where_it_misses s n x e = record {
   by_checked = ap (λ (b : Bool). if b then Some x else None) e;
+  by_saturating = refl;
+  by_wrapping = refl;
   by_overflowing = λ i. Some (wrap s n x, not (e i));
 }

@@ -50,6 +50,13 @@ impl Buffer {
         self.held.as_slice()
     }
 
+    /// The bytes, for good.
+    pub(crate) fn into_bytes(self) -> Vec<u8>
+        ensures { result.items ≡ self.bytes }
+    {
+        self.held
+    }
+
     /// Takes all bytes out; the room stays.
     pub(crate) fn clear(&mut self)
         ensures { self.new ≡ record { bytes = []; room = self.old.room } }

@@ -10,7 +10,7 @@ use crate::decimal::decimal_into;
 use std::alloc::{AllocError, Global};
 use std::marker::Model;
 
-/// The bytes of a script that was made. Contracts see it as a list of bytes.
+/// The bytes of a script. Contracts see it as a list of bytes.
 #[derive(Drop)]
 pub struct Script {
     bytes: Vec<u8>,
@@ -25,11 +25,25 @@ impl Model for Script {
 }
 
 impl Script {
+    /// A script of these bytes. It takes no memory.
+    pub fn new(bytes: Vec<u8>) -> Script
+        ensures { result ≡ bytes.items }
+    {
+        Script { bytes }
+    }
+
     /// The bytes.
     pub fn as_bytes(&self) -> &[u8]
         ensures { result.now ≡ self.now }
     {
         &self.bytes
+    }
+
+    /// The bytes, for good. It takes no memory.
+    pub fn into_bytes(self) -> Vec<u8>
+        ensures { result.items ≡ self }
+    {
+        self.bytes
     }
 }
 

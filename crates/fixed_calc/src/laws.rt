@@ -8,7 +8,7 @@ ghost use Rattle.fixed_calc.specs.Demo.{demo_answers, demo_text};
 ghost use Rattle.fixed_calc.specs.Laws.{OneHeader, OneLine, OneWholeNumber, PiecesJoin};
 ghost use Rattle.fixed_calc.specs.Lines.{ReadsHeaders, ReadsLines};
 ghost use Rattle.fixed_calc.specs.Meaning.{Output, meaning, run_of};
-ghost use Rattle.fixed_calc.specs.OneNumber.{AllSame, OnlyWrapped};
+ghost use Rattle.fixed_calc.specs.OneNumber.{WhereItFits, WhereItMisses};
 
 /// Two lines with one text are equal, and so are two headers and two whole numbers. The pieces of a
 /// script, one after another, are the script.
@@ -38,10 +38,11 @@ pub fn output_law()
 {}
 
 /// Where a number fits, checked, saturating, wrapping and overflowing all answer it, as strict does.
-/// Where it does not, checked answers nothing and overflowing the wrapped number with its verdict.
+/// Where it does not, checked answers nothing, saturating the nearest number that fits, wrapping the
+/// residue, and overflowing the residue with the verdict.
 pub fn policy_law()
-    ensures fits { (s : Bool) (n : ℕ) (x : ℤ) → IsWidth n → fits s n x ≡ true → AllSame s n x }
-    ensures misses { (s : Bool) (n : ℕ) (x : ℤ) → fits s n x ≡ false → OnlyWrapped s n x }
+    ensures fits { (s : Bool) (n : ℕ) (x : ℤ) → IsWidth n → fits s n x ≡ true → WhereItFits s n x }
+    ensures misses { (s : Bool) (n : ℕ) (x : ℤ) → fits s n x ≡ false → WhereItMisses s n x }
 {}
 
 /// The script of a demonstration has no cause, however many lines it has. Its output is the texts of its

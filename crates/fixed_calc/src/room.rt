@@ -91,7 +91,7 @@ impl Model for Room {
 /// The bytes of all answers, one a line. Contracts see it as a list of bytes.
 #[derive(Drop)]
 pub struct Answers {
-    held: Buffer,
+    bytes: Vec<u8>,
 }
 
 impl Model for Answers {
@@ -99,15 +99,29 @@ impl Model for Answers {
 
     ghost Value = { List ℕ };
 
-    ghost view = { λ a. a.held.bytes };
+    ghost view = { λ a. a.bytes.items };
 }
 
 impl Answers {
+    /// Answers of these bytes. It takes no memory.
+    pub fn new(bytes: Vec<u8>) -> Answers
+        ensures { result ≡ bytes.items }
+    {
+        Answers { bytes }
+    }
+
     /// The bytes.
     pub fn as_bytes(&self) -> &[u8]
         ensures { result.now ≡ self.now }
     {
-        self.held.bytes()
+        &self.bytes
+    }
+
+    /// The bytes, for good. It takes no memory.
+    pub fn into_bytes(self) -> Vec<u8>
+        ensures { result.items ≡ self }
+    {
+        self.bytes
     }
 }
 
@@ -202,6 +216,28 @@ impl Room {
         self.answers.push(answer);
     }
 
+    /// The word of the declared header, if there is one: the test of the condition of `step`.
+    pub fn word(&self) -> Option<WordName>
+        ensures { result ≡ self.now.word }
+    {
+        self.word
+    }
+
+    /// Whether there is room for the header's fractions: the test of the condition of `declare`.
+    pub fn has_room_for(&self, header: &Header<'_>) -> bool
+        ensures { IsTrue result ↔ (length header.now.fractions ≤ self.now.register_room) }
+    {
+        let mut left = self.most;
+        let mut fractions = header.fractions();
+        while fractions.next().is_some() {
+            if left == 0 {
+                return false;
+            }
+            left -= 1;
+        }
+        true
+    }
+
     /// How many registers there are.
     pub fn registers(&self) -> usize
         ensures { result ≡ length self.now.registers }
@@ -237,7 +273,7 @@ impl Room {
     pub fn into_answers(self) -> Answers
         ensures { result ≡ self.answers }
     {
-        Answers { held: self.answers }
+        Answers::new(self.answers.into_bytes())
     }
 }
 

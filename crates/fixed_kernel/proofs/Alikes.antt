@@ -6,7 +6,7 @@ use borrow.Author.Differences.{sum_is_lem}
 use Rattle.fixed_word.specs.declared.outcome.Outcome.{Outcome}
 use Rattle.fixed_word.specs.Format.{IsWidth, lowest, highest, Congruent, wrap, with_sign}
 use Rattle.fixed_word.specs.Standing.{StandsFor, side_of}
-use Rattle.fixed_word.specs.Wraps.{width_pos, neg-times, wrap_in_range, wrap_congruent, wrap_unique}
+use Rattle.fixed_word.proofs.Wraps.{width_pos, neg-times, wrap_in_range, wrap_congruent, wrap_unique}
 use Rattle.fixed_word.proofs.Sides.{side_above, side_below}
 use Rattle.std.proofs.lemmas.Bool.{cases_lt}
 use Rattle.fixed_word.specs.Quotient.{truncated_quotient}

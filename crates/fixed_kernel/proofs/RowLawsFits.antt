@@ -7,7 +7,7 @@ use Rattle.std.proofs.lemmas.Bool.{cases_lt}
 use Rattle.std.proofs.Math.Nat.{pow-le-pow_right}
 use Rattle.fixed_word.specs.Format.{IsWidth, lowest, highest, InRange}
 use Rattle.fixed_word.specs.Quotient.{euclidean_quotient}
-use Rattle.fixed_word.specs.Wraps.{double, width_pos}
+use Rattle.fixed_word.proofs.Wraps.{double, width_pos}
 use Rattle.fixed_word.proofs.Nearest.{cases_int}
 use Rattle.fixed_word.proofs.Sides.{lowest_sign, highest_sign}
 use Rattle.fixed_root.specs.Root.{IsRoot, root_of}

@@ -3,7 +3,7 @@ use Rattle.std.proofs.Common.{◌≡◌, ◌≤ℤ◌, ℕ, ℤ, Bool, false, po
 use Rattle.std.proofs.lemmas.Int.{ints}
 use Rattle.std.specs.Prelude.{unsigned_abs}
 use Rattle.fixed_word.specs.Format.{IsWidth, InRange, wrap}
-use Rattle.fixed_word.specs.Wraps.{magnitude_fits, width_pos}
+use Rattle.fixed_word.proofs.Wraps.{magnitude_fits, width_pos}
 use Rattle.fixed_root.specs.Root.{IsRoot, root_of}
 use Rattle.fixed_root.proofs.RootLaws.{root_is}
 

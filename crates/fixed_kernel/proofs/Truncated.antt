@@ -7,7 +7,7 @@ use Rattle.std.proofs.Math.IntN.{*ℤ_comm}
 use Rattle.std.proofs.Math.Nat.{mul_comm, mod-eq_of_lt, pow-le-pow_right}
 use Rattle.fixed_word.specs.Format.{IsWidth, InRange, lowest, highest, wrap, with_sign}
 use Rattle.fixed_word.specs.Quotient.{truncated_quotient}
-use Rattle.fixed_word.specs.Wraps.{magnitude_fits, neg-times, wrap_in_range, width_pos, wrap_same}
+use Rattle.fixed_word.proofs.Wraps.{magnitude_fits, neg-times, wrap_in_range, width_pos, wrap_same}
 
 -- toward zero the number stays in range
 smaller_fits : (s : Bool) (n : ℕ) (b : Bool) (m k : ℕ) → InRange s n (with_sign b m) → k ≤ m → InRange s n (with_sign b k)

@@ -4,7 +4,7 @@ use Rattle.std.proofs.lemmas.Int.{ints}
 use Rattle.std.proofs.lemmas.Nat.{pow_pos, shl_below, div-add-mod', mod_below, mul-le}
 use Rattle.fixed_word.specs.Format.{IsWidth, InRange, wrap}
 use Rattle.fixed_word.specs.Quotient.{floor_quotient}
-use Rattle.fixed_word.specs.Wraps.{magnitude_fits, width_pos, wrap_same}
+use Rattle.fixed_word.proofs.Wraps.{magnitude_fits, width_pos, wrap_same}
 use Rattle.fixed_logs.specs.Logarithm.{IsLog}
 use Rattle.fixed_logs.proofs.LogLaws.{log_of_raised, log_of_whole}
 

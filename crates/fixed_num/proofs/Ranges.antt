@@ -7,7 +7,7 @@ use Rattle.std.proofs.lemmas.Nat.{pow_pos, pow-add, one_shl}
 use Rattle.std.proofs.Math.Nat.{pow-le-pow_right, div-eq_of_lt, mul_assoc}
 use Rattle.fixed_word.specs.Format.{IsWidth, InRange, lowest, highest, wrap, with_sign, modulo}
 use Rattle.fixed_word.specs.Quotient.{floor_quotient}
-use Rattle.fixed_word.specs.Wraps.{magnitude_fits, neg-times, range_len, width_pos, wrap_alike, wrap_in_range, wrap_same}
+use Rattle.fixed_word.proofs.Wraps.{magnitude_fits, neg-times, range_len, width_pos, wrap_alike, wrap_in_range, wrap_same}
 use Rattle.fixed_word.proofs.Sides.{lowest_sign, highest_sign}
 use Rattle.fixed_bits.specs.Digits.{bit_list, lowest_digits}
 use Rattle.fixed_bits.proofs.Words.{modulo_wrap, at_most_64, sign_is, left_is, right_below, right_above}

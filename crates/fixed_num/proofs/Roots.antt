@@ -2,7 +2,7 @@
 use Rattle.std.proofs.Common.{◌≡◌, ◌≤ℤ◌, ℕ, ℤ, Bool, false, pos, nat_abs, ap, sym, subst, ◌∙◌, arith}
 use Rattle.std.proofs.lemmas.Int.{ints}
 use Rattle.fixed_word.specs.Format.{IsWidth, InRange, wrap, highest}
-use Rattle.fixed_word.specs.Wraps.{magnitude_fits, width_pos, wrap_same}
+use Rattle.fixed_word.proofs.Wraps.{magnitude_fits, width_pos, wrap_same}
 use Rattle.fixed_word.proofs.Sides.{lowest_sign}
 use Rattle.fixed_root.specs.Root.{IsRoot, root_of}
 use Rattle.fixed_root.proofs.RootLaws.{root_is}

@@ -10,7 +10,7 @@ use Rattle.fixed_bits.proofs.Words.{sign_is}
 use Rattle.std.proofs.lemmas.Bool.Decides.{Decides-eqb}
 use Rattle.std.specs.Prelude.{◌==◌}
 use Rattle.fixed_word.specs.Format.{IsWidth, InRange, with_sign, wrap}
-use Rattle.fixed_word.specs.Wraps.{width_pos, wrap_same}
+use Rattle.fixed_word.proofs.Wraps.{width_pos, wrap_same}
 use Rattle.fixed_num.proofs.Ranges.{from_zero}
 use Rattle.fixed_num.specs.Sizes.{HasSignedSize, HasSize, IsHighestOne, IsHighestPower, IsLeast, IsPower}
 

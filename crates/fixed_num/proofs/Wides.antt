@@ -10,7 +10,7 @@ use Rattle.std.proofs.Math.IntN.{*ℤ_comm}
 use Rattle.std.proofs.Math.Nat.{mul_comm, div-le_self, mul-div-le}
 use Rattle.fixed_word.specs.Format.{IsWidth, InRange, lowest, wrap, with_sign}
 use Rattle.fixed_word.specs.Quotient.{truncated_quotient}
-use Rattle.fixed_word.specs.Wraps.{double, neg-times, width_pos, wrap_same}
+use Rattle.fixed_word.proofs.Wraps.{double, neg-times, width_pos, wrap_same}
 use Rattle.fixed_word.proofs.QuotientLaws.{truncated_quotient_is}
 
 -- ---- sizes of products

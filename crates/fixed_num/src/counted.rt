@@ -20,7 +20,7 @@ impl<T: Word, const F: u32> Fixed<T, F> {
         requires fits { root_of (T.value self.bits) F ≤ℤ highest T.SIGNED T.BITS }
         ensures root { IsRoot (T.value self.bits) F (T.value result.bits) }
         ensures ticks { RisesAtMost
-            (16 * T.BITS + 32) (L.count steps.old.ledger) (L.count steps.new.ledger) }
+            (16 * T.BITS + 32) steps.old steps.new }
     {
         Fixed {
             bits: T::from_unsigned(root(self.bits.to_unsigned(), F, steps)),

@@ -98,6 +98,22 @@ pub trait Number: Held {
     ghost BITS: { ℕ };
 }
 
+impl<T: RawWord, const F: u32> Fixed<T, F> {
+    /// The number with these bits.
+    pub fn from_bits(bits: T) -> Self
+        ensures { result.bits ≡ bits }
+    {
+        Fixed { bits }
+    }
+
+    /// The bits.
+    pub fn to_bits(self) -> T
+        ensures { result ≡ self.bits }
+    {
+        self.bits
+    }
+}
+
 impl<T: Word, const F: u32> Number for Fixed<T, F> {
     type Unsigned = Fixed<T::Unsigned, F>;
 

@@ -15,8 +15,7 @@ fn log_of<L: Ledger, D: Digits<L>>(val: D, frac: u32, base: Base, steps: &mut St
     requires fraction { frac ≤ D.BITS }
     requires base { 2 ≤ base }
     ensures value { IsLog (nat_abs (D.value val)) frac base result }
-    ensures ticks { RisesAtMost (12 * log2 D.BITS + 16)
-        (L.count steps.old.ledger) (L.count steps.new.ledger) }
+    ensures ticks { RisesAtMost (12 * log2 D.BITS + 16) steps.old steps.new }
 {
     match part_of(val, frac, steps) {
         Part::Whole(whole) => int_part(whole, base, steps),
@@ -96,7 +95,7 @@ impl<T: Word, const F: u32> Fixed<T, F> {
         requires base { 2 ≤ base }
         ensures value { IsLog (nat_abs (T.value self.bits)) F base result }
         ensures ticks { RisesAtMost
-            (12 * log2 T.BITS + 16) (L.count steps.old.ledger) (L.count steps.new.ledger) }
+            (12 * log2 T.BITS + 16) steps.old steps.new }
     {
         match Base::new(base) {
             Some(base) => log_of(above_zero(self.bits), F, base, steps),

@@ -4,8 +4,11 @@ mod logarithms;
 mod operators;
 
 use super::*;
+use crate::laws::order_law;
 use fixed_bits::BitWord;
 use fixed_word::{Count, Narrow, RawWord, SignedWord, Steps, UnsignedWord, Word, outcome_of};
+use std::cmp::Ordering;
+use std::hash::{DefaultHasher, Hash, Hasher};
 use std::mem::size_of;
 
 /// The answers of the calls of one operand that are the same for both signs, as numbers of bits.
@@ -57,7 +60,15 @@ fn bits_of_every_byte(rt: HostRuntime) {
         assert_eq!(rt; bit_answers(x), want, "of {byte}");
         assert_eq!(rt; bit_answers(x.cast_signed()), want, "of {byte} with a sign");
         assert_eq!(rt; x.cast_signed().cast_unsigned(), x, "of {byte} and back");
-        assert_eq!(rt; Fixed::from_le_bytes(x.to_le_bytes()), x, "bytes of {byte}");
+        assert_eq!(rt; x.to_le_bytes(), [byte], "bytes of {byte}");
+        assert_eq!(rt; Fixed::from_le_bytes([byte]), x, "from {byte}");
+        let signed = x.cast_signed();
+        assert_eq!(rt; signed.to_le_bytes(), [byte], "bytes of {byte} with a sign");
+        assert_eq!(rt;
+            Fixed::from_le_bytes([byte]),
+            signed,
+            "from {byte} with a sign"
+        );
     }
 }
 
@@ -137,6 +148,8 @@ fn sizes_of_every_byte(rt: HostRuntime) {
             "of {byte}"
         );
         assert_eq!(rt; rounded(signed), wide / 16 * 16, "of {signed}");
+        let magnitude = FixedI8::<4>::from_bits(signed).unsigned_abs().bits;
+        assert_eq!(rt; magnitude as i32, wide.max(-wide), "of {signed}");
         let whole = FixedU8::<4>::from_bits(byte).round_to_zero().bits;
         assert_eq!(rt; whole as u32, byte as u32 / 16 * 16, "of {byte}");
     }
@@ -175,6 +188,7 @@ fn distances(rt: HostRuntime) {
         let x = FixedI8::<4>::from_bits(a);
         let y = FixedI8::<4>::from_bits(b);
         assert_eq!(rt; x.abs_diff(y).bits, want, "of {a} and {b}");
+        assert_eq!(rt; x.unsigned_dist(y).bits, want, "of {a} and {b}");
         assert_eq!(rt; y.unsigned_dist(x).bits, want, "of {b} and {a}");
     }
     assert_eq!(rt;
@@ -230,6 +244,8 @@ fn wide_results(rt: HostRuntime) {
     assert_eq!(rt; product.bits, -32640);
     let quotient: FixedI16<6> = FixedI8::<3>::from_bits(37).wide_div(FixedI8::<5>::from_bits(1));
     assert_eq!(rt; quotient.bits, 9472);
+    let quotient: FixedU16<6> = FixedU8::<3>::from_bits(255).wide_div(FixedU8::<5>::from_bits(7));
+    assert_eq!(rt; quotient.bits, 9325);
     let quotient: FixedI16<6> = FixedI8::<3>::from_bits(-37).wide_div_unsigned(FixedU8::<
         5,
     >::from_bits(1));
@@ -252,9 +268,11 @@ fn bytes_and_constants(rt: HostRuntime) {
     assert_eq!(rt; x.to_be_bytes(), [0x12, 0x34]);
     assert_eq!(rt; x.to_le_bytes(), [0x34, 0x12]);
     assert_eq!(rt; FixedI8::<4>::one().bits, 16);
+    assert_eq!(rt; FixedU8::<7>::one().bits, 128);
     assert_eq!(rt; FixedI8::<4>::neg_one().bits, -16);
     assert_eq!(rt; FixedI8::<7>::neg_one(), FixedI8::<7>::MIN);
     assert_eq!(rt; FixedU16::<3>::int_nbits(), 13);
+    assert_eq!(rt; FixedI32::<5>::int_nbits(), 27);
     assert_eq!(rt; FixedU8::<2>::default(), FixedU8::<2>::ZERO);
     assert_eq!(rt; FixedI32::<2>::DELTA.to_bits(), 1);
     assert_eq!(rt; FixedU64::<2>::MAX.bits, u64::MAX);
@@ -268,6 +286,10 @@ fn bytes_and_constants(rt: HostRuntime) {
     assert_eq!(rt; mask.const_bitand(other).bits, 8);
     assert_eq!(rt; mask.const_bitor(other).bits, 14);
     assert_eq!(rt; mask.const_bitxor(other).bits, 6);
+    let (mask, other) = (FixedI8::<4>::from_bits(-4), FixedI8::from_bits(10));
+    assert_eq!(rt; mask.const_bitand(other).bits, 8);
+    assert_eq!(rt; mask.const_bitor(other).bits, -2);
+    assert_eq!(rt; mask.const_bitxor(other).bits, -10);
     assert_eq!(rt; size_of::<FixedI64<7>>(), 8);
     assert_eq!(rt; size_of::<FixedU8<7>>(), 1);
 }
@@ -311,8 +333,42 @@ fn widened<T: Narrow>(x: T) -> T::Double {
 fn through_bounds(rt: HostRuntime) {
     let x = FixedI8::<4> { bits: -5 };
     assert_eq!(rt; held_again(x), (x, 4));
+    let x = FixedU16::<9> { bits: 65535 };
+    assert_eq!(rt; held_again(x), (x, 9));
     assert_eq!(rt; widened(-128_i8), -128_i16);
+    assert_eq!(rt; widened(-32768_i16), -32768_i32);
+    assert_eq!(rt; widened(-2147483648_i32), -2147483648_i64);
+    assert_eq!(rt; widened(255_u8), 255_u16);
+    assert_eq!(rt; widened(65535_u16), 65535_u32);
     assert_eq!(rt; widened(4294967295_u32), 4294967295_u64);
     let exact: FixedU8<4> = exact_number(outcome_of(false, 200));
     assert_eq!(rt; exact, FixedU8::<4> { bits: 200 });
+}
+
+/// The hash by std's hasher.
+fn hash_of<N: Hash>(x: &N) -> u64 {
+    let mut state = DefaultHasher::new();
+    x.hash(&mut state);
+    state.finish()
+}
+
+#[test]
+fn order_and_hashes(rt: HostRuntime) {
+    for (a, b, order) in [
+        (-128_i8, 127, Ordering::Less),
+        (-1, 0, Ordering::Less),
+        (5, 5, Ordering::Equal),
+        (0, -1, Ordering::Greater),
+    ] {
+        let (x, y) = (FixedI8::<4>::from_bits(a), FixedI8::<4>::from_bits(b));
+        assert_eq!(rt; x.cmp(&y), order, "{a} and {b}");
+        assert_eq!(rt; x.partial_cmp(&y), Some(order), "{a} and {b}");
+        assert_eq!(rt; hash_of(&x), hash_of(&a), "of {a}");
+        assert_eq!(rt; hash_of(&x) == hash_of(&y), a == b, "of {a} and {b}");
+        order_law(x, y);
+    }
+    let (x, y) = (FixedU64::<64>::ZERO, FixedU64::<64>::MAX);
+    assert_eq!(rt; x.cmp(&y), Ordering::Less);
+    assert_eq!(rt; hash_of(&y), hash_of(&u64::MAX));
+    order_law(x, y);
 }

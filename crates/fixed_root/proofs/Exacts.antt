@@ -3,8 +3,8 @@ use Rattle.std.proofs.Common.{◌≡◌, ◌+◌, ◌-◌, ◌*◌, ◌/◌, ◌
 use Rattle.std.proofs.lemmas.Int.{ints}
 use Rattle.fixed_word.specs.Format.{IsWidth, wrap}
 use Rattle.fixed_word.specs.Quotient.{floor_quotient}
-use Rattle.fixed_word.specs.Wraps.{wrap_same, width_pos}
-use Rattle.fixed_word.specs.WordLaws.{low_bits}
+use Rattle.fixed_word.proofs.Wraps.{wrap_same, width_pos}
+use Rattle.fixed_word.proofs.Casts.{low_bits}
 use Rattle.fixed_root.specs.Root.{nat}
 
 -- the word of a number that fits

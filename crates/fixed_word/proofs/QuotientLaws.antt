@@ -5,7 +5,7 @@ use Rattle.std.proofs.lemmas.Nat.{div-add-mod', mod_below, mul-le}
 use borrow.Author.Differences.{up, down}
 use Rattle.std.proofs.lemmas.Bool.{cases_lt}
 use Rattle.fixed_word.specs.Quotient.{floor_quotient, truncated_quotient, euclidean_quotient, euclidean_remainder, IsFloor, IsTruncated, IsEuclidean}
-use Rattle.fixed_word.specs.Wraps.{suc_times}
+use Rattle.fixed_word.proofs.Wraps.{suc_times}
 
 pub floor_quotient_is : (x : ℤ) (d : ℕ) → 0 < d → IsFloor x d (floor_quotient x d)
 floor_quotient_is (pos a) d h =

@@ -6,7 +6,7 @@ use Rattle.fixed_word.specs.declared.outcome.Outcome.{Outcome}
 use Rattle.fixed_word.specs.Format.{IsWidth, InRange, clamp}
 use Rattle.fixed_word.specs.Standing.{StandsFor, side_of}
 use Rattle.fixed_word.specs.Policies.{checked}
-use Rattle.fixed_word.specs.Wraps.{wrap_same, width_pos}
+use Rattle.fixed_word.proofs.Wraps.{wrap_same, width_pos}
 
 pub range_from_side : (s : Bool) (n : ℕ) (x : ℤ) → side_of s n x ≡ Fits → InRange s n x
 range_from_side s n x e = grind (arith, ints)

@@ -6,5 +6,4 @@ pub mod Decimal
 pub mod Pieces
 pub mod Digit
 pub mod Ticks
-pub mod Wraps
 pub mod WordLaws

@@ -1,20 +1,29 @@
 //! Families of the crate's own tests, by the operators and the plain calls.
 //!
-//! An operator asks that its number fits, which no table of values shows. So each is called where the
-//! checked call of its row answers a number; where that answers none, there is no answer here.
+//! An operator asks that its number fits, which no table of values shows. So each is called where
+//! the checked call of its row answers a number; where that answers none, there is no answer here.
 
 ghost use Rattle.std.specs.Prelude.{◌≤◌};
 
-use fixed_num::{Fixed, FixedI16, FixedI32, FixedU16, FixedU32, FixedU64};
+use fixed_num::{Fixed, FixedI16, FixedI32, FixedU16, FixedU32};
 use fixed_ops::Plain;
 use fixed_policy::Checked;
-use fixed_word::{RawWord, Word};
+use fixed_word::{RawWord, SignedWord, Word};
 use std::process::Abort;
 
 /// The number with these bits, as far as the word holds them.
 fn number<T: Word, const F: u32>(bits: i64) -> Fixed<T, F> {
     Fixed {
         bits: T::residue(bits < 0, bits.unsigned_abs() as u128),
+    }
+}
+
+/// The negated number by `-`.
+#[tactic(auto, using(crate::proofs::Guarded::guarded))]
+fn negated<T: SignedWord, const F: u32>(x: Fixed<T, F>) -> Option<Fixed<T, F>> {
+    match x.checked_neg() {
+        Some(_) => Some(-x),
+        None => None,
     }
 }
 
@@ -76,6 +85,24 @@ fn multiple<T: Word, const F: u32>(x: Fixed<T, F>, k: T) -> Option<Fixed<T, F>> 
     }
 }
 
+/// The product of an integer and a signed number.
+#[tactic(auto, using(crate::proofs::Guarded::guarded))]
+fn multiple_signed<const F: u32>(k: i16, x: FixedI16<F>) -> Option<FixedI16<F>> {
+    match x.checked_mul_int(k) {
+        Some(_) => Some(k * x),
+        None => None,
+    }
+}
+
+/// The product of an integer and an unsigned number.
+#[tactic(auto, using(crate::proofs::Guarded::guarded))]
+fn multiple_unsigned<const F: u32>(k: u16, x: FixedU16<F>) -> Option<FixedU16<F>> {
+    match x.checked_mul_int(k) {
+        Some(_) => Some(k * x),
+        None => None,
+    }
+}
+
 /// The quotient by an integer.
 #[tactic(auto, using(crate::proofs::Guarded::guarded))]
 fn part<T: Word, const F: u32>(x: Fixed<T, F>, k: T) -> Option<Fixed<T, F>> {
@@ -107,17 +134,6 @@ fn rest_from_zero<T: Word, const F: u32>(x: Fixed<T, F>, k: T) -> Option<Fixed<T
     }
 }
 
-/// The square root.
-#[tactic(auto, using(crate::proofs::Guarded::guarded))]
-fn root<T: Word, const F: u32>(x: Fixed<T, F>) -> Option<Fixed<T, F>>
-    requires { F ≤ T.BITS }
-{
-    match x.checked_sqrt() {
-        Some(_) => Some(x.sqrt()),
-        None => None,
-    }
-}
-
 /// The quotient of whole numbers, rounded toward zero; 0 for a divisor of 0.
 fn over(x: i64, d: i64) -> i64 {
     x.checked_div(d).unwrap_or(0)
@@ -136,6 +152,7 @@ macro_rules! seven_places {
         assert_eq!($rt; remainder(p, q), Some(number(left)));
         assert_eq!($rt; multiple(p, k), Some(number(x.wrapping_mul($b))));
         assert_eq!($rt; part(p, k), Some(number(over(x, $b))));
+        assert_eq!($rt; rest(p, k), Some(number(left)));
         if <$word>::SIGNED || $b < $a {
             assert_eq!($rt; difference(p, q), Some(number(x.wrapping_sub(y))));
         }
@@ -144,10 +161,20 @@ macro_rules! seven_places {
 
 fn signed_places(rt: &impl Abort, a: i64, b: i64) {
     seven_places!(rt, i16, a, b);
+    let units = a.wrapping_mul(128);
+    let (x, k) = (number::<i16, 7>(units), number::<i16, 7>(b).bits);
+    assert_eq!(rt; negated(x), Some(number(units.wrapping_neg())));
+    assert_eq!(rt; multiple_signed(k, x), Some(number(units.wrapping_mul(b))));
 }
 
 fn unsigned_places(rt: &impl Abort, a: i64, b: i64) {
     seven_places!(rt, u16, a, b);
+    let units = a.wrapping_mul(128);
+    let (x, k) = (number::<u16, 7>(units), number::<u16, 7>(b).bits);
+    assert_eq!(rt;
+        multiple_unsigned(k, x),
+        Some(number(units.wrapping_mul(b)))
+    );
 }
 
 #[test]
@@ -163,7 +190,16 @@ fn sixteen_bits(rt: HostRuntime) {
 /// The operators on bits, and the shifts by four places.
 #[test]
 fn bits_of_sixteen(rt: HostRuntime) {
-    for (a, b) in [(1536_i16, 640), (640, -1536), (-1536, 640), (-640, -1536)] {
+    for (a, b) in [
+        (1536_i16, 640),
+        (1536, -640),
+        (-1536, 640),
+        (-1536, -640),
+        (640, 1536),
+        (640, -1536),
+        (-640, 1536),
+        (-640, -1536),
+    ] {
         let (p, q) = (FixedI16::<7> { bits: a }, FixedI16::<7> { bits: b });
         assert_eq!(rt;
             [(!p).bits, (p & q).bits, (p | q).bits, (p ^ q).bits],
@@ -265,6 +301,24 @@ fn divided<const F: u32>(rt: &impl Abort, a: u32, k: u32)
     );
 }
 
+/// The quotient and the remainder of signed bits by an integer.
+fn divided_signed<const F: u32>(rt: &impl Abort, a: i32, k: i32)
+    requires { F ≤ 32 }
+{
+    let x = FixedI32::<F> { bits: a };
+    let moved = (k as i128).wrapping_mul(1 << F);
+    assert_eq!(rt;
+        part(x, k).map(|q| q.bits),
+        a.checked_div(k),
+        "{a} over {k}"
+    );
+    assert_eq!(rt;
+        rest(x, k).map(|r| r.bits as i128),
+        (a as i128).checked_rem(moved),
+        "{a} by {k} at {F}"
+    );
+}
+
 #[test]
 fn whole_divisors(rt: HostRuntime) {
     let values = [
@@ -281,33 +335,28 @@ fn whole_divisors(rt: HostRuntime) {
     }
 }
 
-/// The root of the greatest number, and of 2 where that fits: the bits of the root of 2.
 #[test]
-fn roots(rt: HostRuntime) {
-    const ROOT_OF_TWO: u64 = 0xB504_F333_F9DE_6484;
-    assert_eq!(rt;
-        root(FixedU64::<64> { bits: u64::MAX }).map(|r| r.bits),
-        Some(u64::MAX)
-    );
-    assert_eq!(rt;
-        root(FixedU32::<32> { bits: u32::MAX }).map(|r| r.bits),
-        Some(u32::MAX)
-    );
-    assert_eq!(rt; root(FixedI32::<32> { bits: i32::MAX }), None);
-    assert_eq!(rt;
-        root(FixedU64::<62> { bits: 1 << 63 }).map(|r| r.bits),
-        Some(ROOT_OF_TWO >> 1)
-    );
-    assert_eq!(rt;
-        root(FixedU64::<32> { bits: 1 << 33 }).map(|r| r.bits),
-        Some(ROOT_OF_TWO >> 31)
-    );
-    assert_eq!(rt;
-        root(FixedI32::<29> { bits: 1 << 30 }).map(|r| r.bits),
-        Some((ROOT_OF_TWO >> 34) as i32)
-    );
-    assert_eq!(rt;
-        root(FixedU16::<7> { bits: 1 << 8 }).map(|r| r.bits),
-        Some((ROOT_OF_TWO >> 56) as u16)
-    );
+fn whole_divisors_with_a_sign(rt: HostRuntime) {
+    let values = [
+        i32::MIN,
+        -2147483647,
+        -5555,
+        -80,
+        -1,
+        0,
+        1,
+        100,
+        5555,
+        2147483646,
+        i32::MAX,
+    ];
+    for a in values {
+        for k in values {
+            divided_signed::<0>(&rt, a, k);
+            divided_signed::<1>(&rt, a, k);
+            divided_signed::<16>(&rt, a, k);
+            divided_signed::<31>(&rt, a, k);
+            divided_signed::<32>(&rt, a, k);
+        }
+    }
 }

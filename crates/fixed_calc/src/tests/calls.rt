@@ -1,9 +1,9 @@
 //! The calls below the top one.
 
-ghost use Rattle.std.specs.Prelude.{◌≡◌, ◌≤◌, IsSome, length, true};
+ghost use Rattle.std.specs.Prelude.{IsSome};
 
 use crate::{
-    Answer, Cause, Header, Line, Literal, Op, Policy, Room, RunFault, Status, WordName,
+    Answer, Answers, Cause, Line, Literal, Op, Policy, Room, RunFault, Script, Status, WordName,
     parse_header, parse_line, run_in, step,
 };
 use std::process::Abort;
@@ -296,17 +296,6 @@ fn step_each(rt: &impl Abort, room: &mut Room)
     assert_eq!(rt; room.answers(), b"".as_slice(), "a step adds no answer");
 }
 
-/// Whether the header has at most three fractions.
-fn has_three_at_most(header: &Header<'_>) -> bool
-    ensures { result ≡ true → length header.now.fractions ≤ 3 }
-{
-    let mut fractions = header.fractions();
-    if fractions.next().is_none() || fractions.next().is_none() || fractions.next().is_none() {
-        return true;
-    }
-    fractions.next().is_none()
-}
-
 /// Asserts that declaring the header has this result and leaves so many registers.
 fn declares(
     rt: &impl Abort,
@@ -314,13 +303,10 @@ fn declares(
     text: &str,
     expected: Result<(), Cause>,
     registers: usize,
-)
-    requires { 3 ≤ room.old.register_room }
-    ensures { 3 ≤ room.new.register_room }
-{
+) {
     match parse_header(text.as_bytes()) {
         Some(header) => {
-            if has_three_at_most(&header) {
+            if room.has_room_for(&header) {
                 assert_eq!(rt; room.declare(&header), expected, "{text}");
             } else {
                 assert!(rt; false, "{text}");
@@ -336,13 +322,18 @@ fn declares(
 fn steps_by_hand(rt: HostRuntime) -> Result<(), Fail> {
     let alloc = rt.alloc();
     let mut room = Room::for_script(alloc, b"i8 4 4 2\n")?;
+    assert_eq!(rt; room.word(), None);
+    match parse_header(b"i8 4 4 2 1") {
+        Some(header) => assert!(rt; !room.has_room_for(&header), "four fractions"),
+        None => assert!(rt; false, "a header"),
+    }
     declares(&rt, &mut room, "i8 9", Err(Cause::OutOfRange(1)), 0);
     declares(&rt, &mut room, "u8 8 8", Ok(()), 2);
     declares(&rt, &mut room, "i8 8 9 8", Err(Cause::OutOfRange(1)), 0);
     declares(&rt, &mut room, "i8 4 4 2", Ok(()), 3);
     match parse_header(b"i8 4 4 2") {
         Some(header) => {
-            if has_three_at_most(&header) && room.declare(&header).is_ok() {
+            if room.has_room_for(&header) && room.declare(&header).is_ok() {
                 step_each(&rt, &mut room);
             } else {
                 assert!(rt; false, "a header that fits");
@@ -350,9 +341,23 @@ fn steps_by_hand(rt: HostRuntime) -> Result<(), Fail> {
         }
         None => assert!(rt; false, "a header"),
     }
+    assert_eq!(rt; room.word(), Some(WordName::I8));
     if 2 < room.registers() {
         assert_eq!(rt; room.fraction_at(2), 2);
     }
+    Ok(())
+}
+
+/// Bytes go into a script and into answers, and come out again.
+#[test]
+fn bytes_in_and_out(rt: HostRuntime) -> Result<(), Fail> {
+    let alloc = rt.alloc();
+    let script = Script::new(b"i8 4\n".to_vec(alloc)?);
+    assert_eq!(rt; script.as_bytes(), b"i8 4\n".as_slice());
+    assert_eq!(rt; script.into_bytes().as_slice(), b"i8 4\n".as_slice());
+    let answers = Answers::new(b"5\n".to_vec(alloc)?);
+    assert_eq!(rt; answers.as_bytes(), b"5\n".as_slice());
+    assert_eq!(rt; answers.into_bytes().as_slice(), b"5\n".as_slice());
     Ok(())
 }
 

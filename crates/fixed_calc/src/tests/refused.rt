@@ -187,6 +187,7 @@ fn no_lines(rt: HostRuntime) -> Result<(), Fail> {
         b"i8 4\nr0 Set 1\n",
         b"i8 4\nr0 checked\n",
         b"i8 4\nr0 checked foo r0 r0\n",
+        b"i32 16\nr0 checked foo r0 r0\n",
         b"i8 4\nr0 check add r0 r0\n",
         b"i8 4\nr0 add r0 r0\n",
         b"i8 4\nr0 checked add r0\n",

@@ -16,6 +16,8 @@ fn every_product(rt: HostRuntime) {
                 let number = moved((c as i64).wrapping_mul(d as i64), -frac);
                 let found = product(c, d, places).map(|found| (found.0 as i64, found.1));
                 assert_eq!(rt; found, Some(left_of(number, true)), "{c} by {d} at {frac}");
+                let found = signed_byte(answer(Op::Mul, c, d, places));
+                assert_eq!(rt; found, Some(left_of(number, true)), "{c} by {d} at {frac}");
             }
         }
     }

@@ -72,7 +72,10 @@ fn unsigned_bytes(rt: HostRuntime) {
 #[test]
 fn signed_words_of_32_bits(rt: HostRuntime) {
     for (op, a, b, frac, wrapped, side) in [
-        (Op::Div, -2147483648_i32, 1, 32, 0, Below),
+        (Op::Add, 2147483647_i32, 1, 16, -2147483648, Above),
+        (Op::Add, -2147483648, -1, 16, 2147483647, Below),
+        (Op::Add, 2147483647, -2147483648, 16, -1, Fits),
+        (Op::Div, -2147483648, 1, 32, 0, Below),
         (Op::Div, -2147483648, -2147483648, 32, 0, Above),
         (Op::Div, -2147483647, -2147483648, 32, -2, Above),
         (Op::Div, -2147483647, -1, 32, 0, Above),

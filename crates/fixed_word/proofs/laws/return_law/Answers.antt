@@ -1,5 +1,5 @@
 use Rattle.std.proofs.Common.{◌∙◌, true, false}
-use Rattle.fixed_word.specs.Wraps.{width_pos, wrap-wrap, wrap_same}
+use Rattle.fixed_word.proofs.Wraps.{width_pos, wrap-wrap, wrap_same}
 use Rattle.fixed_word.proofs.laws.return_law.Goals as goal
 
 pub returns : goal.returns

@@ -1,5 +1,5 @@
 use Rattle.std.proofs.Common.{false}
-use Rattle.fixed_word.specs.Wraps.{width_pos}
+use Rattle.fixed_word.proofs.Wraps.{width_pos}
 use Rattle.fixed_num.proofs.Ranges.{bits_wrap}
 use Rattle.fixed_num.proofs.format.Fixed.cast_unsigned.Goals as goal
 

@@ -1,6 +1,6 @@
 use Rattle.std.specs.Int.{w16}
 use Rattle.fixed_word.specs.Format.{with_sign}
-use Rattle.fixed_word.specs.WordLaws.{signed_bits}
+use Rattle.fixed_word.proofs.Casts.{signed_bits}
 use Rattle.fixed_word.proofs.words.I16RawWord.residue.Goals as goal
 
 pub returns : goal.returns

@@ -1,6 +1,6 @@
 use Rattle.std.specs.Int.{w64}
 use Rattle.fixed_word.specs.Format.{with_sign}
-use Rattle.fixed_word.specs.WordLaws.{signed_bits}
+use Rattle.fixed_word.proofs.Casts.{signed_bits}
 use Rattle.fixed_word.proofs.words.I64RawWord.residue.Goals as goal
 
 pub returns : goal.returns
