@@ -380,9 +380,18 @@ fn powers(rt: HostRuntime) {
     assert_eq!(rt; u8_of::<4>(0).unwrapped_next_power_of_two(), u8_of(1));
 }
 
+/// The root of 2.
+fn root_of_two() -> Fixed<i8, 4> {
+    i8_of::<4>(32).unwrapped_sqrt()
+}
+
+/// The root of the greatest number below 1.
+fn greatest_root() -> Fixed<u8, 8> {
+    u8_of::<8>(255).unwrapped_sqrt()
+}
+
 #[test]
-#[tactic(auto, unfolding(fixed_root::specs::Root::root_of, fixed_root::specs::Root::root_below))]
 fn roots(rt: HostRuntime) {
-    assert_eq!(rt; i8_of::<4>(32).unwrapped_sqrt(), i8_of(22));
-    assert_eq!(rt; u8_of::<8>(255).unwrapped_sqrt(), u8_of(255));
+    assert_eq!(rt; root_of_two(), i8_of(22));
+    assert_eq!(rt; greatest_root(), u8_of(255));
 }
