@@ -68,7 +68,8 @@ fn raised<const A: u32, const B: u32, N: PlainProducts<A, B>>(
 
 #[test]
 fn through_bounds(rt: HostRuntime) {
-    assert_eq!(rt; inverse(i8_of::<4>(-32)), i8_of(-8));
+    assert_eq!(rt; inverse(i8_of::<4>(-24)), i8_of(-10));
+    assert_eq!(rt; inverse(u8_of::<4>(7)), u8_of(36));
     assert_eq!(rt; magnitude(i8_of::<4>(-127)), i8_of(127));
     assert_eq!(rt; moved(u8_of::<4>(48), i8_of(-48)), u8_of(0));
     assert_eq!(rt;
@@ -76,8 +77,16 @@ fn through_bounds(rt: HostRuntime) {
         i8_of(63)
     );
     assert_eq!(rt;
+        scaled(u8_of::<4>(255), u8_of::<8>(255), u8_of(1)),
+        u8_of(255)
+    );
+    assert_eq!(rt;
         raised(i8_of::<4>(3), i8_of::<0>(2), i8_of::<4>(-5)),
         i8_of(-7)
+    );
+    assert_eq!(rt;
+        raised(u8_of::<4>(1), u8_of::<8>(255), u8_of::<4>(255)),
+        u8_of(255)
     );
 }
 
@@ -105,6 +114,29 @@ fn unsigned_numbers(rt: HostRuntime) {
     let mut sum = u8_of::<4>(7);
     sum.mul_acc(u8_of::<4>(40), u8_of::<8>(128));
     assert_eq!(rt; sum, u8_of(27));
+}
+
+#[test]
+fn multiply_adds_and_products(rt: HostRuntime) {
+    assert_eq!(rt;
+        i8_of::<4>(127).mul_add(i8_of::<4>(-24), i8_of(127)),
+        i8_of(-64)
+    );
+    assert_eq!(rt;
+        u8_of::<4>(200).mul_add(u8_of::<4>(17), u8_of(43)),
+        u8_of(255)
+    );
+    assert_eq!(rt;
+        i8_of::<4>(3).add_prod(i8_of::<4>(3), i8_of::<4>(-5)),
+        i8_of(2)
+    );
+    assert_eq!(rt;
+        u8_of::<8>(5).add_prod(u8_of::<4>(1), u8_of::<0>(15)),
+        u8_of(245)
+    );
+    let mut sum = i8_of::<4>(-128);
+    sum.mul_acc(i8_of::<4>(-64), i8_of::<4>(-32));
+    assert_eq!(rt; sum, i8_of(0));
 }
 
 #[test]
