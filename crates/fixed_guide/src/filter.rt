@@ -1,6 +1,9 @@
 //! A low-pass filter that never overshoots.
 
-ghost use Rattle.std.specs.Prelude.{◌^◌, ◌≤ℤ◌, pos};
+ghost use Rattle.std.specs.Prelude.{◌≡◌, ◌^◌, ◌≤ℤ◌, ◌-ℤ◌, Some, pos, true};
+ghost use Rattle.fixed_word.specs.Format.{clamp};
+ghost use Rattle.fixed_word.specs.Policies.{saturating};
+ghost use Rattle.fixed_kernel.specs.Rows.{exact_add_prod};
 ghost use Rattle.fixed_guide.specs.Between.{IsBetween};
 
 use fixed_num::FixedI32;
@@ -17,7 +20,10 @@ pub type Gain = FixedI32<30>;
 pub fn low_pass(level: Level, sample: Level, gain: Gain) -> Level
     requires from_zero { pos 0 ≤ℤ gain.bits }
     requires to_one { gain.bits ≤ℤ pos (2 ^ 30) }
-    ensures { IsBetween level.bits sample.bits result.bits }
+    ensures between { IsBetween level.bits sample.bits result.bits }
+    // The gain's part of the distance, which is held at the ends, rounded down.
+    ensures step { Some result.bits ≡ saturating true 32 (Some (exact_add_prod level.bits
+        (clamp true 32 (sample.bits -ℤ level.bits)) gain.bits 16 16 30)) }
 {
     let distance = sample.saturating_sub(level);
     level.saturating_add_prod(distance, gain)
