@@ -1,14 +1,13 @@
 -- Operations on numbers, digit by digit.
-use Rattle.std.proofs.Common.{◌≡◌, ◌+◌, ◌-◌, ◌*◌, ◌/◌, ◌%◌, ◌^◌, ◌<◌, ◌≤◌, ℕ, zero, suc, List, [], ◌∷◌, length, map, get_or, min, max, reverse, refl, ap, sym, subst, ◌∙◌, arith, inl, inr}
+use Rattle.std.proofs.Common.{◌≡◌, ◌+◌, ◌-◌, ◌*◌, ◌/◌, ◌%◌, ◌^◌, ◌<◌, ◌≤◌, ℕ, zero, suc, List, [], ◌∷◌, length, get_or, min, max, reverse, refl, ap, sym, ◌∙◌, arith, inl, inr}
 use Rattle.std.proofs.lemmas.Bool.{cases_lt}
 use Rattle.std.proofs.lemmas.List.{get_or-map, get_or-reverse}
 use Rattle.std.proofs.Math.ListN.{length-map, length-reverse}
-use Rattle.std.proofs.lemmas.Nat.{pow_pos, pow-add, shr-shr, shr_below, shl_whole, or_shifted, mod_below}
+use Rattle.std.proofs.lemmas.Nat.{shr-shr, shr_below, shl_whole, or_shifted, mod_below}
 use Rattle.std.proofs.lemmas.Nat.Bits.{bit_at-suc, bit_at_and, bit_at_or, bit_at_xor, bit_at_not, bit_at_cat_low, bit_at_cat_high}
 use Rattle.std.proofs.Math.Nat.{add-mod-mod, add-mod_right, mod-eq_of_lt}
 use Rattle.std.specs.Int.{bit_at, w64, reverse_bits_onto}
 use Rattle.std.specs.Prelude.{bit_and, bit_or, bit_xor}
-use Rattle.std.specs.List.{slice_index}
 use Rattle.fixed_bits.specs.Digits.{IsRotated, complement, differ, lowest_digits, zip_with}
 use Rattle.fixed_bits.proofs.Lists.{length_lowest, digit_at, same_digits}
 

@@ -1,13 +1,12 @@
 -- The bytes of words, as std gives them.
-use Rattle.std.proofs.Common.{◌≡◌, ◌+◌, ◌-◌, ◌*◌, ◌/◌, ◌%◌, ◌^◌, ◌<◌, ◌≤◌, ℕ, ℤ, zero, suc, Bool, true, false, pos, List, [], ◌∷◌, length, get_or, reverse, refl, ap, sym, subst, ◌∙◌, arith}
-use Rattle.std.proofs.lemmas.Int.{ints, to_z-of_z}
+use Rattle.std.proofs.Common.{◌≡◌, ◌/◌, ◌%◌, ◌^◌, ◌<◌, ℕ, ℤ, zero, suc, Bool, true, false, pos, List, [], ◌∷◌, length, get_or, reverse, refl, ap, sym, ◌∙◌, arith}
+use Rattle.std.proofs.lemmas.Int.{to_z-of_z}
 use Rattle.std.proofs.Math.Nat.{pow-suc, div-div-eq-div-mul, mod-eq_of_lt}
 use Rattle.std.proofs.lemmas.Nat.{le_bytes_2, le_bytes_4, le_bytes_8, be_bytes_2, be_bytes_4, be_bytes_8}
-use Rattle.std.specs.Int.{Width, cast_signed, cast_unsigned, w8, w16, w32, w64, w128, byte_len, byte_at, bytes_low_first, bytes_high_first, to_le_bytes, to_be_bytes, from_le_bytes, from_be_bytes}
+use Rattle.std.specs.Int.{Width, cast_signed, cast_unsigned, w8, w16, w32, w64, w128, byte_len, byte_at, bytes_low_first, to_le_bytes, to_be_bytes, from_le_bytes, from_be_bytes}
 use Rattle.std.specs.List.{slice_index}
 use mir.Val.{bits, SFits}
-use Rattle.fixed_word.specs.Format.{IsWidth, modulo, wrap}
-use Rattle.fixed_word.proofs.Wraps.{width_pos}
+use Rattle.fixed_word.specs.Format.{modulo, wrap}
 use Rattle.fixed_bits.specs.Digits.{byte_list, lowest_digits}
 use Rattle.fixed_bits.proofs.Words.{modulo_wrap}
 

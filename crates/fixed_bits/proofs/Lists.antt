@@ -1,13 +1,13 @@
 -- Lists of the digits of a number, and the lists that stand for a number.
-use Rattle.std.proofs.Common.{◌≡◌, ◌+◌, ◌-◌, ◌*◌, ◌/◌, ◌%◌, ◌^◌, ◌<◌, ◌≤◌, ◌+ℤ◌, ◌-ℤ◌, ◌*ℤ◌, ℕ, ℤ, zero, suc, Bool, pos, negsuc, List, [], ◌∷◌, length, map, get_or, refl, ap, sym, subst, ◌∙◌, arith, inl, inr}
+use Rattle.std.proofs.Common.{◌≡◌, ◌+◌, ◌*◌, ◌/◌, ◌%◌, ◌^◌, ◌<◌, ◌+ℤ◌, ◌*ℤ◌, ℕ, ℤ, zero, suc, pos, List, [], ◌∷◌, length, get_or, refl, ap, sym, subst, ◌∙◌, arith, inl, inr}
 use Rattle.std.specs.List.{All}
 use Rattle.std.proofs.lemmas.Int.{ints}
 use Rattle.std.proofs.lemmas.Grind.{same_number_lists}
-use Rattle.std.proofs.lemmas.Nat.{pow_pos, div-add-mod', mod-mul-add, div-mul-add, mod_below, mul-add-lt}
+use Rattle.std.proofs.lemmas.Nat.{div-add-mod', mod-mul-add, div-mul-add, mod_below, mul-add-lt}
 use Rattle.std.proofs.lemmas.Nat.Bits.{bit_at-suc, bit_at_cat_low}
 use Rattle.std.proofs.Math.Nat.{pow-suc, pow-zero, mul_comm}
 use Rattle.std.specs.Int.{bit_at}
-use Rattle.fixed_word.specs.Format.{Congruent, IsWidth, modulo}
+use Rattle.fixed_word.specs.Format.{IsWidth, modulo}
 use Rattle.fixed_word.proofs.Wraps.{modulo_is, modulo_unique, plus_times}
 use Rattle.fixed_bits.specs.Digits.{number_of, lowest_digits, IsDigitList}
 

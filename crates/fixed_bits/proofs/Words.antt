@@ -1,10 +1,10 @@
 -- The lists of the numbers of words.
-use Rattle.std.proofs.Common.{◌≡◌, ◌+◌, ◌-◌, ◌*◌, ◌/◌, ◌%◌, ◌^◌, ◌<◌, ◌≤◌, ◌+ℤ◌, ◌-ℤ◌, ◌*ℤ◌, ◌<ℤ◌, ◌≤ℤ◌, ℕ, ℤ, zero, suc, Bool, true, false, pos, negsuc, neg_ℤ, nat_abs, refl, ap, sym, subst, ◌∙◌, arith, inl, inr}
+use Rattle.std.proofs.Common.{◌≡◌, ◌+◌, ◌-◌, ◌*◌, ◌/◌, ◌%◌, ◌^◌, ◌<◌, ◌≤◌, ◌*ℤ◌, ◌<ℤ◌, ℕ, ℤ, zero, suc, Bool, true, false, pos, negsuc, nat_abs, refl, ap, sym, ◌∙◌, arith}
 use Rattle.std.specs.Prelude.{◌↔◌, IsTrue}
 use Rattle.std.proofs.lemmas.Int.{ints}
-use Rattle.std.proofs.lemmas.Nat.{pow_pos, div-add-mod', shl_whole}
+use Rattle.std.proofs.lemmas.Nat.{pow_pos, shl_whole}
 use Rattle.std.proofs.Math.Nat.{div-le_self, pow-le-pow_right}
-use Rattle.fixed_word.specs.Format.{IsWidth, InRange, lowest, highest, modulo, wrap, with_sign}
+use Rattle.fixed_word.specs.Format.{IsWidth, InRange, modulo, wrap, with_sign}
 use Rattle.fixed_word.specs.Quotient.{floor_quotient}
 use Rattle.fixed_word.proofs.Wraps.{magnitude_fits, modulo_below, wrap_in_range, width_pos, wrap-wrap, wrap_same, wrap_unsigned}
 use Rattle.fixed_bits.specs.Digits.{bit_list, byte_list, lowest_digits}

@@ -20,7 +20,7 @@ fn greatest_power<L: Ledger, D: Digits<L>>(val: D, base: D, steps: &mut Steps<L>
         result.exponent
         (nat_abs (D.value result.power)) }
     ensures ticks { (d : ℕ) → nat_abs (D.value val) < nat_abs (D.value base) ^ 2 ^ d
-        → RisesAtMost (4 * d + 1) steps.old steps.new }
+        → RisesAtMost (4 * d + 1) (L.count steps.old) (L.count steps.new) }
 {
     let starts = is_at_most(base, val, steps);
     if !starts {
@@ -63,7 +63,7 @@ fn greatest_product<L: Ledger, D: Digits<L>>(val: D, base: D, steps: &mut Steps<
         result.exponent
         (nat_abs (D.value result.power)) }
     ensures ticks { (d : ℕ) → 2 ^ D.BITS ≤ nat_abs (D.value base) ^ 2 ^ d
-        → RisesAtMost (3 * d + 1) steps.old steps.new }
+        → RisesAtMost (3 * d + 1) (L.count steps.old) (L.count steps.new) }
 {
     match product(val, base, steps) {
         None => Power {
@@ -98,7 +98,7 @@ fn greatest_product<L: Ledger, D: Digits<L>>(val: D, base: D, steps: &mut Steps<
 pub fn int_part<L: Ledger, D: Digits<L>>(val: D, base: Base, steps: &mut Steps<L>) -> i32
     requires { D.value val ≢ pos 0 }
     ensures value { IsLog (nat_abs (D.value val)) 0 base result }
-    ensures ticks { RisesAtMost (4 * log2 D.BITS + 4) steps.old steps.new }
+    ensures ticks { RisesAtMost (4 * log2 D.BITS + 4) (L.count steps.old) (L.count steps.new) }
 {
     let number = base.get();
     if is_at_most(val, D::ONE, steps) {
@@ -115,7 +115,7 @@ pub fn int_part<L: Ledger, D: Digits<L>>(val: D, base: Base, steps: &mut Steps<L
 pub fn frac_part<L: Ledger, D: Digits<L>>(val: D, base: Base, steps: &mut Steps<L>) -> i32
     requires { D.value val ≢ pos 0 }
     ensures value { IsLog (nat_abs (D.value val)) D.BITS base result }
-    ensures ticks { RisesAtMost (4 * log2 D.BITS + 4) steps.old steps.new }
+    ensures ticks { RisesAtMost (4 * log2 D.BITS + 4) (L.count steps.old) (L.count steps.new) }
 {
     let number = base.get();
     let _in_range = is_at_most(val, D::ONE, steps);

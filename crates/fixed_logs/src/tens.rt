@@ -48,7 +48,7 @@ fn raised<L: Ledger, D: Digits<L>>(from: Power<D>, ten: &Ten, steps: &mut Steps<
     ensures value { (a : ℕ) → IsRaised
         (2 ^ D.BITS) a from.exponent (nat_abs (D.value from.power)) (2 * ten.now.exponent)
         → IsRaised (2 ^ D.BITS) a result.exponent (nat_abs (D.value result.power)) ten.now.exponent }
-    ensures ticks { RisesAtMost 2 steps.old steps.new }
+    ensures ticks { RisesAtMost 2 (L.count steps.old) (L.count steps.new) }
 {
     let Some(word) = word_of(ten.power, steps) else {
         return from;
@@ -67,7 +67,7 @@ fn raised<L: Ledger, D: Digits<L>>(from: Power<D>, ten: &Ten, steps: &mut Steps<
 pub fn frac_log10_part<L: Ledger, D: Digits<L>>(val: D, steps: &mut Steps<L>) -> i32
     requires { D.value val ≢ pos 0 }
     ensures value { IsLog (nat_abs (D.value val)) D.BITS 10 result }
-    ensures ticks { RisesAtMost (4 * log2 D.BITS + 4) steps.old steps.new }
+    ensures ticks { RisesAtMost (4 * log2 D.BITS + 4) (L.count steps.old) (L.count steps.new) }
 {
     let _in_range = is_at_most(val, D::ONE, steps);
     let mut found = Power {
@@ -85,7 +85,7 @@ pub fn frac_log10_part<L: Ledger, D: Digits<L>>(val: D, steps: &mut Steps<L>) ->
 pub fn int_log10_part<L: Ledger, D: Digits<L>>(val: D, steps: &mut Steps<L>) -> i32
     requires { D.value val ≢ pos 0 }
     ensures value { IsLog (nat_abs (D.value val)) 0 10 result }
-    ensures ticks { RisesAtMost (4 * log2 D.BITS + 4) steps.old steps.new }
+    ensures ticks { RisesAtMost (4 * log2 D.BITS + 4) (L.count steps.old) (L.count steps.new) }
 {
     int_part(val, Base::TEN, steps)
 }

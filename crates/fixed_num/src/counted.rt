@@ -19,8 +19,7 @@ impl<T: Word, const F: u32> Fixed<T, F> {
         requires defined { pos 0 ≤ℤ T.value self.bits }
         requires fits { root_of (T.value self.bits) F ≤ℤ highest T.SIGNED T.BITS }
         ensures root { IsRoot (T.value self.bits) F (T.value result.bits) }
-        ensures ticks { RisesAtMost
-            (16 * T.BITS + 32) steps.old steps.new }
+        ensures ticks { RisesAtMost (16 * T.BITS + 32) (L.count steps.old) (L.count steps.new) }
     {
         Fixed {
             bits: T::from_unsigned(root(self.bits.to_unsigned(), F, steps)),

@@ -15,7 +15,7 @@ fn log_of<L: Ledger, D: Digits<L>>(val: D, frac: u32, base: Base, steps: &mut St
     requires fraction { frac ≤ D.BITS }
     requires base { 2 ≤ base }
     ensures value { IsLog (nat_abs (D.value val)) frac base result }
-    ensures ticks { RisesAtMost (12 * log2 D.BITS + 16) steps.old steps.new }
+    ensures ticks { RisesAtMost (12 * log2 D.BITS + 16) (L.count steps.old) (L.count steps.new) }
 {
     match part_of(val, frac, steps) {
         Part::Whole(whole) => int_part(whole, base, steps),
@@ -95,7 +95,7 @@ impl<T: Word, const F: u32> Fixed<T, F> {
         requires base { 2 ≤ base }
         ensures value { IsLog (nat_abs (T.value self.bits)) F base result }
         ensures ticks { RisesAtMost
-            (12 * log2 T.BITS + 16) steps.old steps.new }
+            (12 * log2 T.BITS + 16) (L.count steps.old) (L.count steps.new) }
     {
         match Base::new(base) {
             Some(base) => log_of(above_zero(self.bits), F, base, steps),

@@ -17,7 +17,7 @@ pub(crate) fn part_of<L: Ledger, D: Digits<L>>(val: D, frac: u32, steps: &mut St
     requires above_zero { 1 ≤ nat_abs (D.value val) }
     requires fraction { frac ≤ D.BITS }
     ensures value { IsPart D.value D.BITS (nat_abs (D.value val)) frac result }
-    ensures ticks { RisesAtMost 3 steps.old steps.new }
+    ensures ticks { RisesAtMost 3 (L.count steps.old) (L.count steps.new) }
 {
     if frac == D::BITS {
         return Part::Raised(val);
@@ -33,7 +33,7 @@ pub(crate) fn part_of<L: Ledger, D: Digits<L>>(val: D, frac: u32, steps: &mut St
 /// Whether a word is at least 1.
 fn is_at_least_one<L: Ledger, D: Digits<L>>(a: D, steps: &mut Steps<L>) -> bool
     ensures value { IsTrue result ↔ (1 ≤ nat_abs (D.value a)) }
-    ensures ticks { RisesAtMost 1 steps.old steps.new }
+    ensures ticks { RisesAtMost 1 (L.count steps.old) (L.count steps.new) }
 {
     D::ONE.at_most(a, steps)
 }
@@ -42,7 +42,7 @@ fn is_at_least_one<L: Ledger, D: Digits<L>>(a: D, steps: &mut Steps<L>) -> bool
 fn lowered<L: Ledger, D: Digits<L>>(a: D, by: u32, steps: &mut Steps<L>) -> D
     requires { by < D.BITS }
     ensures value { nat_abs (D.value result) ≡ nat_abs (D.value a) / 2 ^ by }
-    ensures ticks { RisesAtMost 1 steps.old steps.new }
+    ensures ticks { RisesAtMost 1 (L.count steps.old) (L.count steps.new) }
 {
     a.shr(by, steps)
 }
@@ -52,7 +52,7 @@ fn raised<L: Ledger, D: Digits<L>>(a: D, by: u32, steps: &mut Steps<L>) -> D
     requires by { by < D.BITS }
     requires fits { nat_abs (D.value a) * 2 ^ by < 2 ^ D.BITS }
     ensures value { nat_abs (D.value result) ≡ nat_abs (D.value a) * 2 ^ by }
-    ensures ticks { RisesAtMost 1 steps.old steps.new }
+    ensures ticks { RisesAtMost 1 (L.count steps.old) (L.count steps.new) }
 {
     a.shl(by, steps)
 }

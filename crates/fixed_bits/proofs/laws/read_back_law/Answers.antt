@@ -1,7 +1,4 @@
 use Rattle.fixed_bits.proofs.Words.{same_from_bits, same_from_bytes}
-use Rattle.fixed_bits.proofs.Bits.{and_list}
-use Rattle.fixed_bits.proofs.Counts.{ones_list}
-use Rattle.fixed_bits.proofs.ByteLists.{le_word}
 use Rattle.fixed_bits.proofs.laws.read_back_law.Goals as goal
 
 pub returns-clause-bits : goal.returns-clause-bits

@@ -1,4 +1,4 @@
-use Rattle.std.proofs.Common.{ℕ, ◌≤◌, ◌-◌, ◌/◌, ◌^◌, ap, ◌∙◌, arith}
+use Rattle.std.proofs.Common.{ℕ, ◌≤◌, ◌-◌, ◌/◌, ◌^◌, ap, ◌∙◌}
 use Rattle.fixed_bits.proofs.Words.{at_most_64}
 use Rattle.fixed_bits.proofs.Bits.{reverse_list}
 use Rattle.fixed_bits.proofs.bit_word.BitWord.reverse_bits.Goals as goal

@@ -1,4 +1,3 @@
-use Rattle.std.proofs.Common.{◌∙◌}
 use Rattle.fixed_word.proofs.Wraps.{width_pos}
 use Rattle.fixed_bits.proofs.Bits.{rotate_left_list}
 use Rattle.fixed_bits.proofs.bit_word.BitWord.rotate_left.Goals as goal

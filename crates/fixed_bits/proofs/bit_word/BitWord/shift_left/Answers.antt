@@ -1,4 +1,3 @@
-use Rattle.std.proofs.Common.{◌∙◌}
 use Rattle.fixed_bits.proofs.Words.{left_is}
 use Rattle.fixed_bits.proofs.bit_word.BitWord.shift_left.Goals as goal
 

@@ -1,4 +1,4 @@
-use Rattle.std.proofs.Common.{◌≤◌, arith}
+use Rattle.std.proofs.Common.{◌≤◌}
 use Rattle.fixed_bits.proofs.Words.{at_most_64}
 use Rattle.fixed_bits.proofs.Counts.{trailing_list}
 use Rattle.fixed_bits.proofs.bit_word.BitWord.trailing_zeros.Goals as goal

@@ -1,4 +1,4 @@
-use Rattle.std.proofs.Common.{ℕ, List, reverse, rules, ap, ◌∙◌}
+use Rattle.std.proofs.Common.{rules, ◌∙◌}
 use Rattle.std.specs.Int.{w8}
 use mir.Val.{SFits}
 use Rattle.fixed_bits.proofs.ByteLists.{bytes_in_signed}

@@ -1,4 +1,4 @@
-use Rattle.std.proofs.Common.{arith, rules}
+use Rattle.std.proofs.Common.{rules}
 use Rattle.fixed_bits.proofs.ByteLists.{be_back_4}
 use Rattle.fixed_bits.proofs.bytes.U32BitWord.from_be_bytes.Goals as goal
 

@@ -1,4 +1,4 @@
-use Rattle.std.proofs.Common.{arith, rules}
+use Rattle.std.proofs.Common.{rules}
 use Rattle.fixed_bits.proofs.ByteLists.{be_back_8}
 use Rattle.fixed_bits.proofs.bytes.U64BitWord.from_be_bytes.Goals as goal
 

@@ -1,4 +1,4 @@
-use Rattle.std.proofs.Common.{arith, rules}
+use Rattle.std.proofs.Common.{rules}
 use Rattle.fixed_bits.proofs.ByteLists.{le_back_1}
 use Rattle.fixed_bits.proofs.bytes.U8BitWord.from_le_bytes.Goals as goal
 
