@@ -1,5 +1,5 @@
 -- One more pair of a dot product.
-use Rattle.std.proofs.Common.{◌≡◌, ◌+◌, ◌<◌, ℕ, suc, ℤ, Bool, Option, Some, None, List, ◌∷◌, length, get_or, drop, map, sym, ap, ◌∙◌, arith, add-one, drop-cons}
+use Rattle.std.proofs.Common.{◌≡◌, ◌+◌, ◌<◌, ℕ, suc, ℤ, Bool, Some, None, List, ◌∷◌, length, get_or, drop, map, sym, ap, ◌∙◌, arith, add-one, drop-cons}
 use Rattle.std.specs.Option.{option_and_then}
 use Rattle.std.proofs.lemmas.List.{get_or-map, length-map}
 use Rattle.fixed_word.specs.Policies.{checked}
