@@ -6,6 +6,7 @@ ghost use Rattle.fixed_calc.specs.Outside.{TellsFaults, TellsRefusals, next_coun
 
 use fixed_calc::{Failed, Refusal, Sink, Source};
 use std::io::{Read, Write};
+use std::marker::Model;
 
 /// A reader, as standard input. Each failed read raises its count of faults.
 #[derive(Drop)]
@@ -14,10 +15,19 @@ pub struct StdSource<R> {
     faults: u64,
 }
 
+impl<R> Model for StdSource<R> {
+    ghost use Rattle.fixed_prog.specs.Device.{Device};
+
+    ghost Value = { Device R };
+
+    ghost view = { λ s. record { device = s.reader; faults = s.faults } };
+}
+
 impl<R: Read> StdSource<R> {
     /// The source of a reader, with no faults so far.
     pub fn new(reader: R) -> StdSource<R>
-        ensures { result.faults ≡ 0 }
+        ensures device { result.device ≡ reader }
+        ensures faults { result.faults ≡ 0 }
     {
         StdSource { reader, faults: 0 }
     }
@@ -33,7 +43,7 @@ impl<R: Read> Source for StdSource<R> {
         ensures raised { IfErr result (λ _. self.new.faults ≡ next_count self.old.faults) }
         // What the reader gave, where it tells its bytes.
         ensures given { ReadConsumes
-            (R.remaining self.old.reader) (R.remaining self.new.reader) result buf.new }
+            (R.remaining self.old.device) (R.remaining self.new.device) result buf.new }
     {
         match self.reader.read(buf) {
             Ok(count) => Ok(count),
@@ -53,10 +63,19 @@ pub struct StdSink<W> {
     faults: u64,
 }
 
+impl<W> Model for StdSink<W> {
+    ghost use Rattle.fixed_prog.specs.Device.{Device};
+
+    ghost Value = { Device W };
+
+    ghost view = { λ s. record { device = s.writer; faults = s.faults } };
+}
+
 impl<W: Write> StdSink<W> {
     /// The sink of a writer, with no faults so far.
     pub fn new(writer: W) -> StdSink<W>
-        ensures { result.faults ≡ 0 }
+        ensures device { result.device ≡ writer }
+        ensures faults { result.faults ≡ 0 }
     {
         StdSink { writer, faults: 0 }
     }
@@ -76,7 +95,7 @@ impl<W: Write> Sink for StdSink<W> {
         ensures raised { IfErr result (λ _. self.new.faults ≡ next_count self.old.faults) }
         // What the writer took, where it tells its bytes.
         ensures taken { IfOk result (λ k. Appends
-            (W.contents self.old.writer) (W.contents self.new.writer) (take k bytes.now)) }
+            (W.contents self.old.device) (W.contents self.new.device) (take k bytes.now)) }
     {
         match self.writer.write(bytes) {
             Ok(count) => {
@@ -97,10 +116,19 @@ pub struct StdErrors<W> {
     sink: StdSink<W>,
 }
 
+impl<W> Model for StdErrors<W> {
+    ghost use Rattle.fixed_prog.specs.Device.{Device};
+
+    ghost Value = { Device W };
+
+    ghost view = { λ s. s.sink };
+}
+
 impl<W: Write> StdErrors<W> {
     /// The errors of a writer, with no faults so far.
     pub fn new(writer: W) -> StdErrors<W>
-        ensures { result.sink.faults ≡ 0 }
+        ensures device { result.device ≡ writer }
+        ensures faults { result.faults ≡ 0 }
     {
         StdErrors {
             sink: StdSink::new(writer),
@@ -109,21 +137,20 @@ impl<W: Write> StdErrors<W> {
 }
 
 impl<W: Write> Sink for StdErrors<W> {
-    ghost state = { λ s. record { taken = None; faults = s.sink.faults; shortages = 0 } };
+    ghost state = { λ s. record { taken = None; faults = s.faults; shortages = 0 } };
 
     fn write(&mut self, bytes: &[u8]) -> Result<usize, Refusal>
         ensures within { IfOk result (λ k. k ≤ length bytes.now) }
         ensures some { 0 < length bytes.now → IfOk result (λ k. 0 < k) }
         ensures bytes { WriteAppends None None result bytes.now }
         ensures counts { TellsRefusals
-            (record { taken = None; faults = self.old.sink.faults; shortages = 0 })
-            (record { taken = None; faults = self.new.sink.faults; shortages = 0 }) result }
+            (record { taken = None; faults = self.old.faults; shortages = 0 })
+            (record { taken = None; faults = self.new.faults; shortages = 0 }) result }
         ensures refused { IfErr result (λ refusal. refusal ≡ Refusal.Failed) }
-        ensures raised { IfErr result
-            (λ _. self.new.sink.faults ≡ next_count self.old.sink.faults) }
+        ensures raised { IfErr result (λ _. self.new.faults ≡ next_count self.old.faults) }
         // What the writer took, where it tells its bytes.
-        ensures taken { IfOk result (λ k. Appends (W.contents self.old.sink.writer)
-            (W.contents self.new.sink.writer) (take k bytes.now)) }
+        ensures taken { IfOk result (λ k. Appends
+            (W.contents self.old.device) (W.contents self.new.device) (take k bytes.now)) }
     {
         self.sink.write(bytes)
     }
