@@ -1,7 +1,6 @@
 -- All policies answer the same number where it fits.
-use Rattle.std.proofs.Common.{◌≡◌, ℕ, ℤ, Bool, true, false, not, Option, Some, None, ap, refl, if◌then◌else◌}
+use Rattle.std.proofs.Common.{◌≡◌, ℕ, ℤ, Bool, true, false, not, Some, None, ap, refl, if◌then◌else◌}
 use Rattle.fixed_word.specs.Format.{IsWidth, fits, wrap}
-use Rattle.fixed_word.specs.Policies.{checked, saturating, wrapping, overflowing}
 use Rattle.fixed_word.proofs.Wraps.{width_pos, wrap_same}
 use Rattle.fixed_word.proofs.Standings.{clamp_same}
 use Rattle.fixed_calc.specs.OneNumber.{WhereItFits, WhereItMisses}

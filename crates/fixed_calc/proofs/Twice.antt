@@ -1,11 +1,11 @@
 -- The output of a script is at most twice as long as the script.
-use Rattle.std.proofs.Common.{◌≡◌, ◌+◌, ◌*◌, ◌≤◌, ℕ, Bool, true, false, List, [], ◌∷◌, ◌++◌, length, length-append, Option, Some, None, refl, sym, ap, arith, if◌then◌else◌}
+use Rattle.std.proofs.Common.{◌≡◌, ◌+◌, ◌*◌, ◌≤◌, ℕ, Bool, true, false, List, [], ◌∷◌, length, length-append, Option, Some, None, refl, ap, arith, if◌then◌else◌}
 use Rattle.std.specs.List.{concat}
 use Rattle.fixed_word.specs.Pieces.{pieces}
 use Rattle.fixed_calc.specs.Answers.{answer_text}
 use Rattle.fixed_calc.specs.Text.{ScriptHeader, ScriptLine}
 use Rattle.fixed_calc.specs.Machine.{State, answer, cause, move}
-use Rattle.fixed_calc.specs.Meaning.{Run, Meaning, Output, after, stopped, by_cause, step_then, run_lines, run_from, run_pieces, run_of, line_of_piece, header_of_piece, start, has_wide, fractions_of, meaning, meaning_with}
+use Rattle.fixed_calc.specs.Meaning.{Run, Output, stopped, by_cause, step_then, run_lines, run_from, run_pieces, run_of, line_of_piece, header_of_piece, start, has_wide, fractions_of, meaning, meaning_with}
 use Rattle.fixed_calc.specs.declared.cause.Cause.{Cause}
 use Rattle.fixed_calc.specs.declared.cause.Cause.TheVariants.{OutOfRange}
 use Rattle.fixed_calc.proofs.Cutting.{pieces_joined}

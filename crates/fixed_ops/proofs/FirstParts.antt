@@ -1,5 +1,5 @@
 -- A walk through a list, and its first parts.
-use Rattle.std.proofs.Common.{◌≡◌, ◌↔◌, ◌<◌, ◌≤◌, ℕ, ℤ, zero, suc, Bool, List, [], ◌∷◌, fold, length, take, arith}
+use Rattle.std.proofs.Common.{◌↔◌, ◌<◌, ◌≤◌, ℕ, ℤ, zero, suc, Bool, List, [], ◌∷◌, fold, length, take, arith}
 use Rattle.fixed_word.specs.Format.{InRange}
 use Rattle.fixed_ops.specs.Folds.{EachFits}
 

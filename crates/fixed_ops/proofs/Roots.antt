@@ -1,5 +1,5 @@
 -- Roots of signed numbers with whole bits fit.
-use Rattle.std.proofs.Common.{◌≡◌, ◌<◌, ◌≤ℤ◌, ℕ, ℤ, pos, Bool, true, false, IsTrue, refl, arith}
+use Rattle.std.proofs.Common.{◌≡◌, ◌<◌, ◌≤ℤ◌, ℕ, ℤ, pos, Bool, true, false, refl, arith}
 use Rattle.fixed_word.specs.Format.{InRange, IsWidth, fits}
 use Rattle.fixed_word.proofs.Nearest.{fits_is}
 use Rattle.fixed_kernel.specs.Rows.{exact_sqrt}
