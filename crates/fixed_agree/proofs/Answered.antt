@@ -1,9 +1,6 @@
 -- The machine's answer to a line is what the policy makes of the line's row.
 use Rattle.std.proofs.Common.{◌≡◌, ℕ, Bool, true, false, [], ◌∷◌, refl, sym, inl, inr}
-use Rattle.fixed_calc.specs.declared.names.WordName.{WordName}
-use Rattle.fixed_calc.specs.declared.names.WordName.TheVariants.{I8, I16, I32, I64, U8, U16, U32, U64}
-use Rattle.fixed_calc.specs.declared.names.Policy.{Policy}
-use Rattle.fixed_calc.specs.declared.names.Op.{Op}
+use Rattle.fixed_calc.specs.Types.{WordName, I8, I16, I32, I64, U8, U16, U32, U64, Policy, Op}
 use Rattle.fixed_calc.specs.declared.answer.Answer.{Answer}
 use Rattle.fixed_calc.specs.Text.{ThreeRegisters}
 use Rattle.fixed_calc.specs.Machine.{State, Taken, row_of, answer, is_signed, width}

@@ -1,8 +1,7 @@
 -- Where the machine answers a value under checked, the row is defined and its number fits.
 use Rattle.std.proofs.Common.{◌≡◌, ℕ, ℤ, Bool, true, false, Option, Some, None, if◌then◌else◌, refl}
 use Rattle.fixed_word.specs.Format.{IsWidth, fits}
-use Rattle.fixed_calc.specs.declared.names.Policy.TheVariants.{Checked}
-use Rattle.fixed_calc.specs.declared.names.Op.{Op}
+use Rattle.fixed_calc.specs.Types.{Checked, Op}
 use Rattle.fixed_calc.specs.declared.answer.Answer.TheVariants.{Bits}
 use Rattle.fixed_calc.specs.Machine.{Taken, row_of}
 use Rattle.fixed_calc.specs.Projection.{plain, project}

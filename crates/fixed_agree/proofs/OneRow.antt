@@ -1,9 +1,7 @@
 -- Four policies on one row.
 use Rattle.std.proofs.Common.{◌≡◌, ℕ, ℤ, Bool, true, false, not, Option, Some, None, if◌then◌else◌, refl, ap, sym, ◌∙◌}
 use Rattle.std.specs.Prelude.{IsSome}
-use Rattle.fixed_calc.specs.declared.names.Policy.TheVariants.{Checked, Saturating, Wrapping, Overflowing}
-use Rattle.fixed_calc.specs.declared.names.Op.{Op}
-use Rattle.fixed_calc.specs.declared.names.Op.TheVariants.{MulAdd, AddProd}
+use Rattle.fixed_calc.specs.Types.{Checked, Saturating, Wrapping, Overflowing, Op, MulAdd, AddProd}
 use Rattle.fixed_calc.specs.Rows.{exact}
 use Rattle.fixed_calc.specs.declared.answer.Answer.TheVariants.{Absent, Bits}
 use Rattle.fixed_calc.specs.Machine.{Taken, row_of}

@@ -1,7 +1,6 @@
 -- What the machine answers to a line, by what the line's registers hold.
 use Rattle.std.specs.Prelude.{◌≡◌, ℕ, ℤ, pos, Bool, true, false, Option, Some, None}
-use Rattle.fixed_calc.specs.declared.names.Policy.{Policy}
-use Rattle.fixed_calc.specs.declared.names.Op.{Op}
+use Rattle.fixed_calc.specs.Types.{Policy, Op}
 use Rattle.fixed_calc.specs.declared.answer.Answer.{Answer}
 use Rattle.fixed_calc.specs.Text.{Operands, OneRegister, TwoRegisters, RegisterAndInt, Apply, shape, shape_of}
 use Rattle.fixed_calc.specs.Machine.{State, Cell, Taken, taken, empty_cell, integer, is_signed, width, answer}

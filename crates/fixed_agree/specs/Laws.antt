@@ -1,9 +1,7 @@
 -- The laws of the agreement.
 use Rattle.std.specs.Prelude.{◌≡◌, ◌↔◌, ℕ, ℤ, Bool, Option, None, IsSome}
 use Rattle.std.specs.Bool.{⊤}
-use Rattle.fixed_calc.specs.declared.names.Policy.{Policy}
-use Rattle.fixed_calc.specs.declared.names.Policy.TheVariants.{Checked, Strict}
-use Rattle.fixed_calc.specs.declared.names.Op.{Op}
+use Rattle.fixed_calc.specs.Types.{Policy, Checked, Strict, Op}
 use Rattle.fixed_calc.specs.declared.answer.Answer.{Answer}
 use Rattle.fixed_calc.specs.Machine.{Taken, row_of, row_causes, first_of}
 use Rattle.fixed_calc.specs.Projection.{project}

@@ -2,9 +2,10 @@
 use Rattle.std.proofs.Common.{◌≡◌, ◌^◌, ◌<◌, ◌≤◌, ℕ, suc, ℤ, pos, negsuc, neg_ℤ, Bool, true, false, not, ◌||◌, nat_le, unsigned_abs, List, ◌∷◌, length, Option, Some, Result, Ok, Err, subst, refl, sym, ap, ◌∙◌, arith}
 use Rattle.std.proofs.lemmas.Int.{ints}
 use Rattle.std.proofs.lemmas.Bool.Decides.{nat_tests}
-use Rattle.fixed_calc.specs.declared.names.WordName.{WordName}
-use Rattle.fixed_calc.specs.Text.{ScriptLine, SetTo, Apply, OneRegister, TwoRegisters, RegisterAndInt, ThreeRegisters}
-use Rattle.fixed_calc.specs.Capped.{cap, cap_whole, capped}
+use Rattle.fixed_text.specs.declared.names.WordName.{WordName}
+use Rattle.fixed_script.specs.Text.{ScriptLine, SetTo, Apply, OneRegister, TwoRegisters, RegisterAndInt, ThreeRegisters}
+use Rattle.fixed_text.specs.Numerals.{cap}
+use Rattle.fixed_script.specs.Capped.{cap_whole, capped}
 use Rattle.fixed_calc.specs.Machine.{State, Cell, cause, answer, move, first_of, causes_of, is_unoffered, is_out_of_range, is_mismatched, is_value}
 use Rattle.fixed_calc.specs.Caps.{CapsAlike}
 use Rattle.fixed_calc.specs.Step.{StepTells}

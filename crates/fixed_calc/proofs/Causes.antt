@@ -7,20 +7,21 @@ use Rattle.std.specs.List.{list_any, All}
 use Rattle.std.proofs.lemmas.Bool.{cases_lt}
 use Rattle.std.proofs.lemmas.List.Elements.{All-set}
 use Rattle.std.proofs.lemmas.Int.{ints}
-use Rattle.fixed_calc.specs.declared.number.Literal.{Literal}
-use Rattle.fixed_calc.specs.Capped.{literal_value}
-use Rattle.fixed_calc.specs.declared.names.WordName.{WordName}
-use Rattle.fixed_calc.specs.declared.names.WordName.TheVariants.{I8, I16, I32, I64, U8, U16, U32, U64}
-use Rattle.fixed_calc.specs.declared.names.Policy.{Policy}
-use Rattle.fixed_calc.specs.declared.names.Policy.TheVariants.{Checked, Saturating, Wrapping, Overflowing, Strict}
-use Rattle.fixed_calc.specs.declared.names.Op.{Op}
+use Rattle.fixed_script.specs.declared.literal.Literal.{Literal}
+use Rattle.fixed_script.specs.Capped.{literal_value}
+use Rattle.fixed_text.specs.declared.names.WordName.{WordName}
+use Rattle.fixed_text.specs.declared.names.WordName.TheVariants.{I8, I16, I32, I64, U8, U16, U32, U64}
+use Rattle.fixed_script.specs.declared.names.Policy.{Policy}
+use Rattle.fixed_script.specs.declared.names.Policy.TheVariants.{Checked, Saturating, Wrapping, Overflowing, Strict}
+use Rattle.fixed_script.specs.declared.names.Op.{Op}
 use Rattle.fixed_calc.specs.declared.answer.Answer.{Answer}
 use Rattle.fixed_calc.specs.declared.answer.Answer.TheVariants.{Absent, Bits, Flagged}
-use Rattle.fixed_calc.specs.Text.{ScriptLine, SetTo, Apply, Operands, OneRegister, TwoRegisters, RegisterAndInt, ThreeRegisters}
+use Rattle.fixed_script.specs.Text.{ScriptLine, SetTo, Apply, Operands, OneRegister, TwoRegisters, RegisterAndInt, ThreeRegisters}
 use Rattle.fixed_calc.specs.Projection.{plain, project}
 use Rattle.fixed_calc.specs.Offered.{is_offered}
 use Rattle.fixed_calc.specs.Machine.{State, Cell, cell_at, empty_cell, destination, registers_of, cause, integer, Taken, first_of, causes_of, row_causes, row_of, taken, is_unoffered, is_out_of_range, is_mismatched, is_value, is_signed, width, answer}
-use Rattle.fixed_calc.specs.Step.{AnswerTells, RowTells, IsCell, IsApplied, TakenTells, taken_of}
+use Rattle.fixed_calc.specs.inside.Stepping.{AnswerTells, RowTells, IsApplied, TakenTells, taken_of}
+use Rattle.fixed_calc.specs.Step.{IsCell}
 use Rattle.fixed_calc.specs.declared.register.Taken.{Taken as RegistersTaken}
 use Rattle.fixed_calc.specs.declared.cause.Cause.{Cause}
 use Rattle.fixed_calc.specs.declared.cause.Cause.TheVariants.{Syntax, OutOfRange, FractionMismatch, ZeroDivisor, NegativeRoot, Overflow}

@@ -12,15 +12,15 @@ use Rattle.fixed_calc.specs.declared.cause.RunFault.{RunFault}
 use Rattle.fixed_calc.specs.declared.cause.RunFault.TheVariants.{Script}
 use Rattle.fixed_calc.specs.Rooms.{MeaningTells}
 use Rattle.fixed_calc.specs.Answers.{answer_text}
-use Rattle.fixed_calc.specs.Text.{ScriptHeader, header_text, header_tokens, ScriptLine, IsLine, line_text}
-use Rattle.fixed_calc.specs.Lines.{line_of, header_of}
+use Rattle.fixed_script.specs.Text.{ScriptHeader, header_text, header_tokens, ScriptLine, IsLine, line_text}
+use Rattle.fixed_script.specs.Lines.{line_of, header_of, then_of, line_of_piece, header_of_piece}
 use Rattle.fixed_calc.specs.Machine.{State, Cell, cause, answer, move}
-use Rattle.fixed_calc.specs.Meaning.{Run, Output, Fault, by_cause, step_then, then_of, run_lines, run_of, line_of_piece, header_of_piece, start, zeros, fractions_of, meaning, meaning_with}
+use Rattle.fixed_calc.specs.Meaning.{Run, Output, Fault, by_cause, step_then, run_lines, run_of, start, zeros, fractions_of, meaning, meaning_with}
 use Rattle.fixed_calc.specs.Demo.{ended, demo_header, demo_lines, demo_text, answers_from, demo_answers}
-use Rattle.fixed_calc.proofs.Decimals.{both}
-use Rattle.fixed_calc.proofs.TextsRead.{reads_lines, reads_headers}
+use Rattle.fixed_text.proofs.Decimals.{both}
+use Rattle.fixed_script.proofs.TextsRead.{reads_lines, reads_headers}
 use Rattle.fixed_calc.proofs.Runs.{run_of_lines}
-use Rattle.fixed_calc.proofs.Plain.{lacks, naturals_lack, joined_lack}
+use Rattle.fixed_text.proofs.Lacking.{lacks, naturals_lack, joined_lack}
 use Rattle.fixed_calc.proofs.Drawn.{IsReady, IsDrawn, stays_ready, lines_drawn}
 
 -- ---- pieces

@@ -8,22 +8,22 @@ use Rattle.std.proofs.lemmas.Int.{ints}
 use Rattle.std.proofs.lemmas.List.Elements.{All-nil, All-cons, All-append, All-set}
 use Rattle.std.proofs.lemmas.Nat.{shr_below}
 use Rattle.std.proofs.Math.ListN.{length-set}
-use Rattle.fixed_calc.specs.declared.names.WordName.TheVariants.{I64}
-use Rattle.fixed_calc.specs.declared.names.Policy.{Policy}
-use Rattle.fixed_calc.specs.declared.names.Policy.TheVariants.{Checked, Saturating, Wrapping, Overflowing}
-use Rattle.fixed_calc.specs.declared.names.Op.{Op}
-use Rattle.fixed_calc.specs.declared.names.Op.TheVariants.{Add, Sub, Mul, Div, MulAdd, AddProd, Sqrt}
+use Rattle.fixed_text.specs.declared.names.WordName.TheVariants.{I64}
+use Rattle.fixed_script.specs.declared.names.Policy.{Policy}
+use Rattle.fixed_script.specs.declared.names.Policy.TheVariants.{Checked, Saturating, Wrapping, Overflowing}
+use Rattle.fixed_script.specs.declared.names.Op.{Op}
+use Rattle.fixed_script.specs.declared.names.Op.TheVariants.{Add, Sub, Mul, Div, MulAdd, AddProd, Sqrt}
 use Rattle.fixed_calc.specs.declared.answer.Answer.{Answer}
 use Rattle.fixed_calc.specs.declared.answer.Answer.TheVariants.{Absent, Bits, Flagged}
-use Rattle.fixed_calc.specs.Names.{policy_name, op_name}
-use Rattle.fixed_calc.specs.Text.{ScriptLine, SetTo, Apply, Operands, OneRegister, TwoRegisters, RegisterAndInt, ThreeRegisters, IsLine, shape, shape_of, operand_tokens, line_tokens, line_text}
+use Rattle.fixed_script.specs.Names.{policy_name, op_name}
+use Rattle.fixed_script.specs.Text.{ScriptLine, SetTo, Apply, Operands, OneRegister, TwoRegisters, RegisterAndInt, ThreeRegisters, IsLine, shape, shape_of, operand_tokens, line_tokens, line_text}
 use Rattle.fixed_calc.specs.Rows.{exact}
 use Rattle.fixed_calc.specs.Offered.{is_offered}
 use Rattle.fixed_calc.specs.Machine.{State, Cell, empty_cell, cell_at, destination, is_value, is_unoffered, is_out_of_range, is_mismatched, row_causes, causes_of, first_of, cause, stored, answer, move}
 use Rattle.fixed_calc.specs.Demo.{state_at, draw, octal_digit, choices, drawn_line, demo_lines}
 use Rattle.fixed_calc.proofs.Causes.{PassesTests, after_tests}
 use Rattle.fixed_calc.proofs.Fits.{fit_true}
-use Rattle.fixed_calc.proofs.Plain.{lacks, natural_lacks, whole_lacks, joined_lack}
+use Rattle.fixed_text.proofs.Lacking.{lacks, natural_lacks, whole_lacks, joined_lack}
 
 -- ---- the draws
 pub state_small : (i : ℕ) → state_at i < 2 ^ 64

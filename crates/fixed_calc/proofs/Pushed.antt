@@ -5,12 +5,12 @@ use Rattle.std.proofs.lemmas.List.{append-nil}
 use Rattle.std.proofs.lemmas.List.Folds.{flat_map-map}
 use Rattle.std.proofs.lemmas.Grind.{flat_map-append}
 use Rattle.fixed_word.specs.Decimal.{natural_text}
-use Rattle.fixed_calc.specs.declared.names.Policy.{Policy}
-use Rattle.fixed_calc.specs.declared.names.Op.{Op}
-use Rattle.fixed_calc.specs.Names.{policy_name, op_name}
-use Rattle.fixed_calc.specs.Text.{ScriptLine, SetTo, Apply, Operands, register_text, operand_tokens, line_text, header_text}
+use Rattle.fixed_script.specs.declared.names.Policy.{Policy}
+use Rattle.fixed_script.specs.declared.names.Op.{Op}
+use Rattle.fixed_script.specs.Names.{policy_name, op_name}
+use Rattle.fixed_script.specs.Text.{ScriptLine, SetTo, Apply, Operands, register_text, operand_tokens, line_text, header_text}
 use Rattle.fixed_calc.specs.Demo.{choices, drawn_line, state_at, next_state, draw, demo_lines, demo_text, demo_header, ended}
-use Rattle.fixed_calc.proofs.Decimals.{natural_text_digit, natural_text_step}
+use Rattle.fixed_text.proofs.Decimals.{natural_text_digit, natural_text_step}
 
 -- a space before each token but the first
 spaced : (t : List ℕ) (ts : List (List ℕ)) → join_with_byte 32 (t ∷ ts) ≡ t ++ flat_map (λ u. 32 ∷ u) ts

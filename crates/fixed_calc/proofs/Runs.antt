@@ -4,15 +4,16 @@ use Rattle.std.specs.List.{All}
 use Rattle.std.proofs.lemmas.List.{append-nil}
 use Rattle.std.proofs.lemmas.List.Elements.{All-nil, All-cons}
 use Rattle.std.proofs.lemmas.Bool.Decides.{nat_tests}
-use Rattle.fixed_calc.specs.declared.names.WordName.{WordName}
-use Rattle.fixed_calc.specs.declared.names.WordName.TheVariants.{I8, I16, I32, I64, U8, U16, U32, U64}
+use Rattle.fixed_text.specs.declared.names.WordName.{WordName}
+use Rattle.fixed_text.specs.declared.names.WordName.TheVariants.{I8, I16, I32, I64, U8, U16, U32, U64}
 use Rattle.fixed_calc.specs.declared.answer.Answer.{Answer}
 use Rattle.fixed_calc.specs.Answers.{answer_text}
 use Rattle.fixed_word.specs.Pieces.{pieces}
-use Rattle.fixed_calc.specs.Capped.{cap}
-use Rattle.fixed_calc.specs.Text.{ScriptHeader, ScriptLine}
+use Rattle.fixed_text.specs.Numerals.{cap}
+use Rattle.fixed_script.specs.Text.{ScriptHeader, ScriptLine}
 use Rattle.fixed_calc.specs.Machine.{State, Cell, answer, move, width}
-use Rattle.fixed_calc.specs.Meaning.{Run, after, stopped, by_cause, step_then, run_lines, run_of, run_pieces, run_from, line_of_piece, header_of_piece, start, has_wide, fractions_of, zeros}
+use Rattle.fixed_calc.specs.Meaning.{Run, after, stopped, by_cause, step_then, run_lines, run_of, run_pieces, run_from, start, has_wide, fractions_of, zeros}
+use Rattle.fixed_script.specs.Lines.{line_of_piece, header_of_piece}
 use Rattle.fixed_calc.specs.Rooms.{Space, RunTells, HoldsState}
 use Rattle.fixed_calc.specs.Step.{StepTells, state_in, IsCell}
 use Rattle.fixed_calc.specs.declared.cause.Cause.{Cause}

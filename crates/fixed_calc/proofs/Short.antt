@@ -3,28 +3,28 @@ use Rattle.std.proofs.Common.{◌≡◌, ◌≤◌, ◌+◌, ◌*◌, ◌-◌, �
 use Rattle.std.specs.Prelude.{slice_index}
 use Rattle.std.proofs.lemmas.List.{length-take, length-map}
 use Rattle.std.proofs.lemmas.List.Splits.{length-slice_split}
-use Rattle.fixed_calc.specs.declared.names.WordName.{WordName}
-use Rattle.fixed_calc.specs.declared.names.Policy.{Policy}
-use Rattle.fixed_calc.specs.declared.names.Policy.TheVariants.{Checked, Saturating, Wrapping, Overflowing, Strict}
-use Rattle.fixed_calc.specs.declared.names.Op.{Op}
+use Rattle.fixed_text.specs.declared.names.WordName.{WordName}
+use Rattle.fixed_script.specs.declared.names.Policy.{Policy}
+use Rattle.fixed_script.specs.declared.names.Policy.TheVariants.{Checked, Saturating, Wrapping, Overflowing, Strict}
+use Rattle.fixed_script.specs.declared.names.Op.{Op}
 use Rattle.fixed_calc.specs.declared.answer.Answer.TheVariants.{Bits, Flagged}
 use Rattle.fixed_word.specs.Decimal.{natural_text}
 use Rattle.fixed_calc.specs.Answers.{answer_text}
-use Rattle.fixed_calc.specs.Names.{policy_name}
+use Rattle.fixed_script.specs.Names.{policy_name}
 use Rattle.fixed_word.specs.Pieces.{body}
-use Rattle.fixed_calc.specs.Text.{ScriptHeader, header_text, ScriptLine, SetTo, Apply, Operands, OneRegister, TwoRegisters, RegisterAndInt, ThreeRegisters, line_text}
-use Rattle.fixed_calc.proofs.Lengths.{length_natural_some, length_whole}
-use Rattle.fixed_calc.proofs.HeaderLaws.{tokens_of_header}
+use Rattle.fixed_script.specs.Text.{ScriptHeader, header_text, ScriptLine, SetTo, Apply, Operands, OneRegister, TwoRegisters, RegisterAndInt, ThreeRegisters, line_text}
+use Rattle.fixed_text.proofs.Lengths.{length_natural_some, length_whole}
+use Rattle.fixed_script.proofs.HeaderLaws.{tokens_of_header}
 use Rattle.std.proofs.lemmas.List.Sums.{sum_by-take-le}
 use Rattle.fixed_word.specs.Format.{wrap, clamp}
 use Rattle.fixed_calc.specs.Projection.{plain, project}
 use Rattle.fixed_calc.specs.Machine.{State, cause, answer, is_signed, width, is_value, row_of, taken}
-use Rattle.fixed_calc.specs.Lines.{line_of, header_of}
-use Rattle.fixed_calc.specs.Meaning.{then_of, line_of_piece, header_of_piece, fractions_of}
+use Rattle.fixed_script.specs.Lines.{line_of, header_of, then_of, line_of_piece, header_of_piece}
+use Rattle.fixed_calc.specs.Meaning.{fractions_of}
 use Rattle.fixed_calc.specs.Rooms.{spaces_in}
 use Rattle.fixed_calc.proofs.Fits.{value_small}
 use Rattle.fixed_calc.proofs.Causes.{IsValued, answer_valued}
-use Rattle.fixed_calc.proofs.TextsRead.{reads_lines, reads_headers}
+use Rattle.fixed_script.proofs.TextsRead.{reads_lines, reads_headers}
 
 line_length : (dest : ℕ) (policy : Policy) (op : Op) (xs : Operands) → 6 + length (policy_name policy) ≤ length (line_text (Apply dest policy op xs))
 line_length dest policy op (OneRegister a) = simp length-append (omega (arith, length_natural_some dest, length_natural_some a))

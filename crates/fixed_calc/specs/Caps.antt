@@ -1,7 +1,7 @@
 -- The cap at 2 ^ 64 changes nothing.
 use Rattle.std.specs.Prelude.{◌≡◌, ◌≤◌, ◌^◌, ℕ, length, None}
-use Rattle.fixed_calc.specs.Text.{ScriptLine}
-use Rattle.fixed_calc.specs.Capped.{capped}
+use Rattle.fixed_script.specs.Text.{ScriptLine}
+use Rattle.fixed_script.specs.Capped.{capped}
 use Rattle.fixed_calc.specs.Machine.{State, cause, answer, move}
 
 -- 2 ^ 64 is no value of a word and no declared register

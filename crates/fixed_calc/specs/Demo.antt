@@ -1,12 +1,12 @@
 -- The script of `demo N`: a header, and N lines that a generator of numbers draws. Its answers, and their summary.
 use Rattle.std.specs.Prelude.{ℕ, zero, suc, ◌+◌, ◌*◌, ◌/◌, ◌%◌, ◌^◌, Bool, true, false, pos, List, [], ◌∷◌, ◌++◌, replicate, slice_index_or, flat_map, count_by, codes}
 use Rattle.fixed_word.specs.Decimal.{natural_text}
-use Rattle.fixed_calc.specs.declared.names.WordName.TheVariants.{I64}
-use Rattle.fixed_calc.specs.declared.names.Policy.TheVariants.{Checked, Saturating, Wrapping, Overflowing}
-use Rattle.fixed_calc.specs.declared.names.Op.TheVariants.{Add, Sub, Mul, Div, MulAdd, AddProd, Sqrt}
+use Rattle.fixed_text.specs.declared.names.WordName.TheVariants.{I64}
+use Rattle.fixed_script.specs.declared.names.Policy.TheVariants.{Checked, Saturating, Wrapping, Overflowing}
+use Rattle.fixed_script.specs.declared.names.Op.TheVariants.{Add, Sub, Mul, Div, MulAdd, AddProd, Sqrt}
 use Rattle.fixed_calc.specs.declared.answer.Answer.{Answer}
 use Rattle.fixed_calc.specs.declared.answer.Answer.TheVariants.{Absent, Bits, Flagged}
-use Rattle.fixed_calc.specs.Text.{ScriptHeader, header_text, ScriptLine, SetTo, Apply, OneRegister, TwoRegisters, ThreeRegisters, line_text}
+use Rattle.fixed_script.specs.Text.{ScriptHeader, header_text, ScriptLine, SetTo, Apply, OneRegister, TwoRegisters, ThreeRegisters, line_text}
 use Rattle.fixed_calc.specs.Machine.{State, answer, move}
 use Rattle.fixed_calc.specs.Meaning.{start}
 

@@ -1,25 +1,14 @@
 -- What a script means: a fold over its pieces.
 use Rattle.std.specs.Prelude.{ℕ, ◌+◌, nat_lt, Bool, pos, List, [], ◌∷◌, ◌++◌, map, Option, Some, None, if◌then◌else◌}
 use Rattle.std.specs.List.{list_any}
-use Rattle.fixed_calc.specs.declared.names.WordName.{WordName}
-use Rattle.fixed_calc.specs.Text.{ScriptHeader, ScriptLine}
-use Rattle.fixed_word.specs.Pieces.{pieces, body}
+use Rattle.fixed_text.specs.declared.names.WordName.{WordName}
+use Rattle.fixed_script.specs.Text.{ScriptHeader, ScriptLine}
+use Rattle.fixed_script.specs.Lines.{line_of_piece, header_of_piece}
+use Rattle.fixed_word.specs.Pieces.{pieces}
 use Rattle.fixed_calc.specs.Answers.{answer_text}
-use Rattle.fixed_calc.specs.Lines.{line_of, header_of}
 use Rattle.fixed_calc.specs.Machine.{Cell, State, width, cause, answer, move}
 use Rattle.fixed_calc.specs.declared.cause.Cause.{Cause}
 use Rattle.fixed_calc.specs.declared.cause.Cause.TheVariants.{Syntax, OutOfRange}
-
--- ---- pieces
-abbrev pub then_of : {A B : Type 0} → Option A → (A → Option B) → Option B
-then_of None f = None
-then_of (Some x) f = f x
-
-unfoldable pub line_of_piece : List ℕ → Option ScriptLine
-line_of_piece piece = then_of (body piece) line_of
-
-unfoldable pub header_of_piece : List ℕ → Option ScriptHeader
-header_of_piece piece = then_of (body piece) header_of
 
 -- ---- runs
 -- how a run ends: the state, the bytes of all answers, and the first cause

@@ -1,9 +1,9 @@
 -- Which policies an operation is offered under, on signed and unsigned words.
 use Rattle.std.specs.Prelude.{Bool, true, false, not, ◌&&◌}
-use Rattle.fixed_calc.specs.declared.names.Policy.{Policy}
-use Rattle.fixed_calc.specs.declared.names.Policy.TheVariants.{Checked, Wrapping, Strict}
-use Rattle.fixed_calc.specs.declared.names.Op.{Op}
-use Rattle.fixed_calc.specs.declared.names.Op.TheVariants.{Abs, Signum, Rem, RemInt, RemEuclid, NextPowerOfTwo}
+use Rattle.fixed_script.specs.declared.names.Policy.{Policy}
+use Rattle.fixed_script.specs.declared.names.Policy.TheVariants.{Checked, Wrapping, Strict}
+use Rattle.fixed_script.specs.declared.names.Op.{Op}
+use Rattle.fixed_script.specs.declared.names.Op.TheVariants.{Abs, Signum, Rem, RemInt, RemEuclid, NextPowerOfTwo}
 
 abbrev pub is_checked_or_strict : Policy → Bool
 is_checked_or_strict Checked = true

@@ -1,12 +1,12 @@
 -- What a room holds, how much it has room for, and what a run in it says.
-use Rattle.std.specs.Prelude.{◌≡◌, ℕ, ◌==◌, ◌≤◌, ◌<◌, ◌*◌, ◌+◌, List, [], ◌∷◌, length, drop, Option, Some, None, Result, Ok, Err, ⊤}
+use Rattle.std.specs.Prelude.{◌≡◌, ℕ, ◌==◌, ◌≤◌, ◌*◌, List, [], ◌∷◌, length, Option, Some, None, Result, Ok, Err, ⊤}
 use Rattle.std.specs.List.{All, count_by}
-use Rattle.fixed_calc.specs.declared.names.WordName.{WordName}
-use Rattle.fixed_calc.specs.Headers.{CappedHeader}
+use Rattle.fixed_text.specs.declared.names.WordName.{WordName}
+use Rattle.fixed_script.specs.Headers.{CappedHeader}
 use Rattle.fixed_word.specs.Pieces.{pieces}
 use Rattle.fixed_calc.specs.Machine.{Cell, State}
-use Rattle.fixed_calc.specs.Meaning.{Run, Meaning, Output, Fault, after, run_lines, zeros}
-use Rattle.fixed_calc.specs.Step.{IsCell, state_in}
+use Rattle.fixed_calc.specs.Meaning.{Run, Meaning, Output, Fault, zeros}
+use Rattle.fixed_calc.specs.Step.{IsCell}
 use Rattle.fixed_calc.specs.declared.cause.Cause.{Cause}
 use Rattle.fixed_calc.specs.declared.cause.RunFault.{RunFault}
 use Rattle.fixed_calc.specs.declared.cause.RunFault.TheVariants.{Script, Memory}
@@ -81,14 +81,6 @@ pub record Holds (run : Run) (room : Space) : Type 0 where
 abbrev pub RunTells : Run → Result (Unit {0}) Cause → Space → Type 0
 RunTells run (Ok _) room = (run.fault ≡ None) × Holds run room
 RunTells run (Err c) room = (run.fault ≡ Some c) × Holds run room
-
--- The first line of the rest moved, and its text was added: the run from there, after the answers so far, is the run from before.
-pub record HasMoved (word : WordName) (k : ℕ) (rest : List ℕ) (end : ℕ) (old new : Space) : Type 0 where
-  pub some : 0 < end
-  pub within : end ≤ length rest
-  pub run : after new.answers (run_lines (state_in word new.registers) (k + 1) (pieces (drop end rest))) ≡ after old.answers (run_lines (state_in word old.registers) k (pieces rest))
-  pub its_word : new.word ≡ Some word
-  pub space : length new.answers + 2 * length (drop end rest) ≤ new.answer_room
 
 -- what a run says of the meaning
 abbrev pub MeaningTells : Meaning → Result (List ℕ) RunFault → Type 0

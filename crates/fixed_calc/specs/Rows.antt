@@ -1,7 +1,7 @@
 -- The row of each operation of the calculator.
 use Rattle.std.specs.Prelude.{ℕ, ℤ, Option, Some}
-use Rattle.fixed_calc.specs.declared.names.Op.{Op}
-use Rattle.fixed_calc.specs.declared.names.Op.TheVariants.{Neg, Add, Sub, Mul, Div, Recip, MulAdd, AddProd, MulInt, DivInt, DivEuclid, DivEuclidInt, RemEuclidInt, NextMultipleOf, Dist, Sqrt, Abs, Signum, Rem, RemInt, RemEuclid, NextPowerOfTwo}
+use Rattle.fixed_script.specs.declared.names.Op.{Op}
+use Rattle.fixed_script.specs.declared.names.Op.TheVariants.{Neg, Add, Sub, Mul, Div, Recip, MulAdd, AddProd, MulInt, DivInt, DivEuclid, DivEuclidInt, RemEuclidInt, NextMultipleOf, Dist, Sqrt, Abs, Signum, Rem, RemInt, RemEuclid, NextPowerOfTwo}
 use Rattle.fixed_kernel.specs.Rows.{exact_neg, exact_add, exact_sub, exact_mul, exact_mul_add, exact_add_prod, exact_mul_int, exact_dist, exact_abs, exact_signum, exact_next_power_of_two, row_div, row_recip, row_div_int, row_div_euclid, row_div_euclid_int, row_rem_euclid_int, row_next_multiple_of, row_sqrt, row_rem, row_rem_int, row_rem_euclid}
 
 -- The exact number of units of the result, or nothing where the row is undefined.

@@ -1,7 +1,7 @@
 //! A buffer whose room is asked for once, so that adding to it takes no memory.
 
 ghost use Rattle.std.specs.Prelude.{◌≡◌, ◌+◌, ◌++◌, ◌≤◌, [], length, IfOk};
-ghost use Rattle.fixed_calc.specs.Buffers.{Buffered};
+ghost use Rattle.fixed_calc.specs.inside.Buffers.{Buffered};
 ghost use Rattle.fixed_calc.specs.Answers.{answer_text};
 
 use crate::answer::{Answer, push_answer};
@@ -18,7 +18,7 @@ pub(crate) struct Buffer {
 impl Model for Buffer {
     ghost use Rattle.std.specs.Prelude.{◌≤◌};
     ghost use Rattle.std.specs.Vec.{vec_capacity};
-    ghost use Rattle.fixed_calc.specs.Buffers.{Buffered};
+    ghost use Rattle.fixed_calc.specs.inside.Buffers.{Buffered};
 
     ghost Value = { Buffered };
 
@@ -58,14 +58,14 @@ impl Buffer {
     }
 
     /// Takes all bytes out; the room stays.
-    pub(crate) fn clear(&mut self)
+    pub(crate) fn reset(&mut self)
         ensures { self.new ≡ record { bytes = []; room = self.old.room } }
     {
         self.held.clear();
     }
 
     /// Adds the text of an answer, for which there is room.
-    pub(crate) fn push(&mut self, answer: Answer)
+    pub(crate) fn push_text(&mut self, answer: Answer)
         requires { length self.old.bytes + length (answer_text answer) ≤ self.old.room }
         ensures { self.new
             ≡ record { bytes = self.old.bytes ++ answer_text answer; room = self.old.room } }

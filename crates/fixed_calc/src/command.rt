@@ -2,9 +2,10 @@
 
 ghost use Rattle.std.specs.Prelude.{◌≡◌, ◌≤◌, ◌↔◌, ℕ, IfNone, IfSome, IsTrue};
 ghost use Rattle.fixed_word.specs.Decimal.{natural_text};
-ghost use Rattle.fixed_calc.specs.Words.{CommandTells, most_lines};
+ghost use Rattle.fixed_calc.specs.inside.Commands.{CommandTells};
+ghost use Rattle.fixed_calc.specs.CommandLine.{most_lines};
 
-use crate::number::natural_of;
+use fixed_text::natural_of;
 
 /// How many lines a demonstration has at least.
 const FEWEST: u128 = 1;

@@ -2,11 +2,11 @@
 
 ghost use Rattle.std.specs.Prelude.{◌≡◌, ◌<◌, ◌≤◌, ◌∷◌, ◌++◌, flat_map, pos, slice_index, EachIndex, IfOk, OnOk};
 ghost use Rattle.fixed_word.specs.Decimal.{natural_text};
-ghost use Rattle.fixed_calc.specs.Text.{SetTo, line_text, register_text};
+ghost use Rattle.fixed_script.specs.Text.{SetTo, line_text, register_text};
 ghost use Rattle.fixed_calc.specs.Demo.{demo_text, drawn_line, next_state};
-ghost use Rattle.fixed_calc.specs.Words.{most_lines};
+ghost use Rattle.fixed_calc.specs.CommandLine.{most_lines};
 
-use crate::decimal::decimal_into;
+use fixed_text::decimal_into;
 use std::alloc::{AllocError, Global};
 use std::marker::Model;
 
@@ -66,7 +66,7 @@ fn push_number(script: &mut Vec<u8>, number: u64) -> Result<(), AllocError>
 }
 
 /// Adds the name of a register of one digit.
-#[tactic(auto, using(crate::proofs::Shown::one_digit))]
+#[tactic(auto, using(fixed_text::proofs::Shown::one_digit))]
 fn push_register(script: &mut Vec<u8>, register: u64) -> Result<(), AllocError>
     requires { register < 10 }
     ensures { OnOk result (script.new.items ≡ script.old.items ++ register_text register) }

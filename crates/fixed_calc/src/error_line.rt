@@ -42,7 +42,7 @@ fn cause_line(cause: Cause) -> ShortText
 }
 
 /// The line for a status; none for `Done`.
-pub(crate) fn line_of(status: Status) -> ShortText
+pub(crate) fn error_line_of(status: Status) -> ShortText
     ensures { result ≡ error_line status }
 {
     match status {

@@ -5,25 +5,10 @@ ghost use Rattle.fixed_word.specs.Format.{IsWidth, fits};
 ghost use Rattle.fixed_calc.specs.Answers.{answer_text};
 ghost use Rattle.fixed_calc.specs.Caps.{CapsAlike};
 ghost use Rattle.fixed_calc.specs.Demo.{demo_answers, demo_text};
-ghost use Rattle.fixed_calc.specs.Laws.{OneHeader, OneLine, OneWholeNumber, PiecesJoin};
-ghost use Rattle.fixed_calc.specs.Lines.{ReadsHeaders, ReadsLines};
 ghost use Rattle.fixed_calc.specs.Meaning.{Output, meaning, run_of};
 ghost use Rattle.fixed_calc.specs.OneNumber.{WhereItFits, WhereItMisses};
 
-/// Two lines with one text are equal, and so are two headers and two whole numbers. The pieces of a
-/// script, one after another, are the script.
-pub fn text_law()
-    ensures numbers { OneWholeNumber }
-    ensures lines { OneLine }
-    ensures headers { OneHeader }
-    ensures pieces { PiecesJoin }
-{}
-
-/// The model reads a line, or a header, in bytes exactly where they are its text.
-pub fn reading_law()
-    ensures lines { ReadsLines }
-    ensures headers { ReadsHeaders }
-{}
+pub use fixed_script::laws::{reading_law, text_law};
 
 /// Numbers of `2^64` or more, held as `2^64`, change neither the cause of a line nor its move.
 pub fn cap_law()

@@ -11,17 +11,11 @@ mod buffer;
 mod cause;
 mod command;
 mod copy;
-mod decimal;
 mod demo;
 mod error_line;
-mod header;
 pub mod laws;
-mod line;
-mod names;
-mod number;
 mod outside;
 mod piece;
-mod pieces;
 mod projected;
 mod reading;
 mod register;
@@ -35,17 +29,15 @@ mod summary;
 mod sure;
 #[cfg(test)]
 mod tests;
-mod tokens;
 mod top;
 mod writing;
 
 pub use answer::Answer;
 pub use cause::{Cause, RunFault};
 pub use demo::{Script, demo_script};
-pub use header::{Fractions, Header, parse_header};
-pub use line::{Line, parse_line};
-pub use names::{Op, Policy, WordName};
-pub use number::Literal;
+pub use fixed_script::{
+    Fractions, Header, Line, Literal, Op, Policy, WordName, parse_header, parse_line,
+};
 pub use outside::{Failed, Refusal, Sink, Source};
 pub use room::{Answers, Room, step};
 pub use running::{run, run_in};

@@ -5,16 +5,18 @@ ghost use Rattle.fixed_word.specs.Format.{fits};
 ghost use Rattle.fixed_word.specs.Standing.{StandsFor};
 ghost use Rattle.fixed_calc.specs.Offered.{is_offered};
 ghost use Rattle.fixed_calc.specs.Machine.{row_of, is_signed, width};
-ghost use Rattle.fixed_calc.specs.Step.{FitsFormat, IsCell, NumberTells, RowTells, cell_of, taken_of};
+ghost use Rattle.fixed_calc.specs.Step.{FitsFormat, IsCell, cell_of};
+ghost use Rattle.fixed_calc.specs.inside.Stepping.{NumberTells, RowTells, taken_of};
 
 use crate::answer::Answer;
 use crate::cause::Cause;
-use crate::names::{Op, Policy, WordName};
 use crate::register::{Register, Taken, with_sign};
 use crate::rows::{Operand, outcome_as};
-use fixed_policy::{checked_of, overflowing_of, wrapping_of};
-use fixed_strict::{saturating_of, strict_of};
-use fixed_word::{Outcome, RawWord, Side, Word};
+use fixed_script::{Op, Policy};
+use fixed_text::WordName;
+use fixed_word::{
+    Outcome, RawWord, Side, Word, checked_of, overflowing_of, saturating_of, strict_of, wrapping_of,
+};
 
 /// The number of a word.
 fn number_of<T: RawWord>(word: T) -> i128
@@ -29,7 +31,7 @@ fn number_of<T: RawWord>(word: T) -> i128
 }
 
 /// The word of a register.
-fn word_of<T: Word>(register: Register) -> T
+fn word_held<T: Word>(register: Register) -> T
     requires { IsTrue (fits T.SIGNED T.BITS (cell_of register).bits) }
     ensures { T.value result ≡ (cell_of register).bits }
 {
@@ -43,7 +45,7 @@ fn operand_of<T: Word>(register: Register) -> Operand<T>
     ensures fraction { result.fraction ≡ (cell_of register).fraction }
 {
     Operand {
-        bits: word_of(register),
+        bits: word_held(register),
         fraction: register.fraction,
     }
 }
@@ -106,7 +108,7 @@ fn answer_as<T: Word>(policy: Policy, op: Op, taken: &Taken, number: u64) -> Res
 
 /// The same in the word of a name.
 #[inline(never)]
-pub(crate) fn answer_in(
+pub(crate) fn answer_in_word(
     word: WordName,
     policy: Policy,
     op: Op,

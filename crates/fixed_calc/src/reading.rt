@@ -2,7 +2,7 @@
 
 ghost use Rattle.std.specs.Prelude.{◌≡◌, ◌↔◌, IfOk, IsErrOf};
 ghost use Rattle.fixed_calc.specs.Headline.{IfTold, ReadWhole, TookTooMuch};
-ghost use Rattle.fixed_calc.specs.Reading.{ReadTells};
+ghost use Rattle.fixed_calc.specs.inside.Reading.{ReadTells};
 
 use crate::outside::Source;
 use std::alloc::Global;

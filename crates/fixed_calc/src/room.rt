@@ -4,20 +4,18 @@ ghost use Rattle.std.specs.Prelude.{◌≡◌, ◌≤◌, ◌<◌, ◌*◌, ◌+
 ghost use Rattle.fixed_calc.specs.Answers.{answer_text};
 ghost use Rattle.fixed_calc.specs.Machine.{width as width_in};
 ghost use Rattle.fixed_calc.specs.Meaning.{has_wide as is_wide, zeros};
-ghost use Rattle.fixed_calc.specs.Capped.{denoted};
+ghost use Rattle.fixed_script.specs.Capped.{denoted};
 ghost use Rattle.fixed_calc.specs.Rooms.{KeepsTheRest, spaces, spaces_in};
 ghost use Rattle.fixed_calc.specs.Step.{StepTells, cell_of, cells_of, state_in};
 
 use crate::answer::Answer;
 use crate::buffer::Buffer;
 use crate::cause::Cause;
-use crate::header::Header;
-use crate::line::Line;
-use crate::names::WordName;
-use crate::piece::run_piece;
-use crate::pieces::piece_end;
+use crate::piece::read_and_step;
 use crate::register::{Register, with_sign};
 use crate::stepping::step_registers;
+use fixed_script::{Header, Line};
+use fixed_text::{WordName, piece_end};
 use std::alloc::{AllocError, Global};
 use std::marker::Model;
 
@@ -126,8 +124,8 @@ impl Answers {
 }
 
 impl Room {
-    ghost use Rattle.fixed_calc.specs.Meaning.{line_of_piece};
-    ghost use Rattle.fixed_calc.specs.Capped.{denoted};
+    ghost use Rattle.fixed_script.specs.Lines.{line_of_piece};
+    ghost use Rattle.fixed_script.specs.Capped.{denoted};
     ghost use Rattle.fixed_calc.specs.Machine.{cell_at};
     ghost use Rattle.fixed_calc.specs.Rooms.{IsEmptySpace, IsStarted, KeepsTheRest, KeepsRoom, Suffices, spaces};
     ghost use Rattle.fixed_calc.specs.Step.{StepTells, state_in};
@@ -159,7 +157,7 @@ impl Room {
     {
         self.word = None;
         self.registers.clear();
-        self.answers.clear();
+        self.answers.reset();
     }
 
     /// Declares the registers of a header, with bits 0, and no answers. Condition: there is room for its
@@ -202,7 +200,7 @@ impl Room {
         ensures kept { KeepsTheRest self.old self.new }
     {
         let word = self.word.unwrap();
-        run_piece(word, &mut self.registers, piece, number)
+        read_and_step(word, &mut self.registers, piece, number)
     }
 
     /// Adds the text of an answer, for which there is room.
@@ -213,7 +211,7 @@ impl Room {
         ensures registers { self.new.registers ≡ self.old.registers }
         ensures kept { KeepsRoom self.old self.new }
     {
-        self.answers.push(answer);
+        self.answers.push_text(answer);
     }
 
     /// The word of the declared header, if there is one: the test of the condition of `step`.

@@ -3,14 +3,14 @@
 ghost use Rattle.std.specs.Prelude.{◌≡◌, ◌≤◌, pos, true, false};
 ghost use Rattle.fixed_calc.specs.Rows.{exact as exact_row};
 ghost use Rattle.fixed_calc.specs.Offered.{is_offered};
-ghost use Rattle.fixed_calc.specs.Step.{OutcomeTells};
+ghost use Rattle.fixed_calc.specs.inside.Stepping.{OutcomeTells};
 
-use crate::names::{Op, Policy};
 use fixed_kernel::{
     abs_of, add_of, add_prod_of, dist_of, div_euclid_int_of, div_euclid_of, div_int_of, div_of,
     mul_add_of, mul_int_of, mul_of, neg_of, next_multiple_of_of, next_power_of_two_of, recip_of,
     rem_euclid_int_of, rem_euclid_of, rem_int_of, rem_of, signum_of, sqrt_of, sub_of,
 };
+use fixed_script::{Op, Policy};
 use fixed_word::{Outcome, Word};
 
 /// An operand: its bits in a word, and its fraction.

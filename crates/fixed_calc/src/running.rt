@@ -2,24 +2,24 @@
 
 ghost use Rattle.std.specs.Prelude.{◌≡◌, ◌≤◌, ◌<◌, ◌*◌, ◌+◌, length, Some, Err, IfOk, IfErr};
 ghost use Rattle.fixed_word.specs.Pieces.{pieces};
-ghost use Rattle.fixed_calc.specs.Meaning.{after, meaning, run_lines as lines_run, run_of};
-ghost use Rattle.fixed_calc.specs.Rooms.{HasMoved, KeepsRoom, MeaningTells, RunTells, Suffices};
+ghost use Rattle.fixed_calc.specs.Meaning.{after, meaning, run_lines, run_of};
+ghost use Rattle.fixed_calc.specs.inside.Moves.{HasMoved};
+ghost use Rattle.fixed_calc.specs.Rooms.{KeepsRoom, MeaningTells, RunTells, Suffices};
 ghost use Rattle.fixed_calc.specs.Step.{state_in};
 
 use crate::cause::{Cause, RunFault};
-use crate::names::WordName;
-use crate::piece::read_header;
-use crate::pieces::piece_end;
 use crate::room::{Answers, Room};
+use fixed_script::header_of_piece;
+use fixed_text::{WordName, piece_end};
 use std::alloc::Global;
 
 /// The first line of the rest. Answers where it ends.
-fn run_line(word: WordName, rest: &[u8], number: u64, room: &mut Room) -> Result<usize, Cause>
+fn answer_line(word: WordName, rest: &[u8], number: u64, room: &mut Room) -> Result<usize, Cause>
     requires some { 0 < length rest.now }
     requires word { room.old.word ≡ Some word }
     requires space { length room.old.answers + 2 * length rest.now ≤ room.old.answer_room }
     ensures ok { IfOk result (λ end. HasMoved word number rest.now end room.old room.new) }
-    ensures err { IfErr result (λ cause. RunTells (after room.old.answers (lines_run
+    ensures err { IfErr result (λ cause. RunTells (after room.old.answers (run_lines
         (state_in word room.old.registers) number (pieces rest.now))) (Err cause) room.new) }
     ensures kept { KeepsRoom room.old room.new }
 {
@@ -34,17 +34,17 @@ fn run_line(word: WordName, rest: &[u8], number: u64, room: &mut Room) -> Result
 }
 
 /// The lines after the header.
-fn run_lines(word: WordName, lines: &[u8], room: &mut Room) -> Result<(), Cause>
+fn answer_lines(word: WordName, lines: &[u8], room: &mut Room) -> Result<(), Cause>
     requires word { room.old.word ≡ Some word }
     requires space { length room.old.answers + 2 * length lines.now ≤ room.old.answer_room }
     ensures tells { RunTells (after room.old.answers
-        (lines_run (state_in word room.old.registers) 2 (pieces lines.now))) result room.new }
+        (run_lines (state_in word room.old.registers) 2 (pieces lines.now))) result room.new }
     ensures kept { KeepsRoom room.old room.new }
 {
     let mut at = 0;
     let mut number = 2;
     while at < lines.len() {
-        match run_line(word, &lines[at..], number, room) {
+        match answer_line(word, &lines[at..], number, room) {
             Ok(end) => at += end,
             Err(cause) => return Err(cause),
         }
@@ -66,12 +66,12 @@ pub fn run_in(script: &[u8], room: &mut Room) -> Result<(), Cause>
         return Err(Cause::Syntax(1));
     }
     let end = piece_end(script);
-    let header = match read_header(&script[..end]) {
+    let header = match header_of_piece(&script[..end]) {
         Some(header) => header,
         None => return Err(Cause::Syntax(1)),
     };
     match room.declare(&header) {
-        Ok(()) => run_lines(header.word(), &script[end..], room),
+        Ok(()) => answer_lines(header.word(), &script[end..], room),
         Err(cause) => Err(cause),
     }
 }

@@ -2,19 +2,19 @@
 
 ghost use Rattle.std.specs.Prelude.{◌≡◌, ◌≤◌, ◌<◌, ◌^◌, nat_le, length, set, Some, None, true, false, IsTrue, unsigned_abs};
 ghost use Rattle.std.specs.List.{All};
-ghost use Rattle.fixed_calc.specs.Capped.{denoted, literal_value};
+ghost use Rattle.fixed_script.specs.Capped.{denoted, literal_value};
 ghost use Rattle.fixed_word.specs.Format.{fits};
 ghost use Rattle.fixed_calc.specs.Offered.{is_offered as offered};
 ghost use Rattle.fixed_calc.specs.Machine.{is_signed as signed, is_value, cell_at as cell_in, destination as destination_of, is_unoffered as unoffered, is_out_of_range as out_of_range, is_mismatched as mismatched, stored, integer};
-ghost use Rattle.fixed_calc.specs.Step.{AnswerTells, IsApplied, IsCell, StepTells, TakenTells, cell_of, cells_of, seen, state_in, taken_of};
+ghost use Rattle.fixed_calc.specs.inside.Stepping.{AnswerTells, IsApplied, TakenTells, seen, taken_of};
+ghost use Rattle.fixed_calc.specs.Step.{IsCell, StepTells, cell_of, cells_of, state_in};
 
 use crate::answer::Answer;
 use crate::cause::Cause;
-use crate::line::{Line, Shape, shape_of};
-use crate::names::{Op, Policy, WordName};
-use crate::number::Literal;
-use crate::projected::answer_in;
+use crate::projected::answer_in_word;
 use crate::register::{Register, Taken, with_sign};
+use fixed_script::{Line, Literal, Op, Policy, Shape, shape_of};
+use fixed_text::WordName;
 use fixed_word::{Side, Word, outcome_of};
 
 /// Whether the operation takes the operands of the line.
@@ -235,7 +235,7 @@ fn whole_of(literal: Literal) -> i128
 
 /// The answer of a line of an operation whose first three tests fail.
 #[inline(always)]
-fn applied(
+fn answer_of_operation(
     word: WordName,
     registers: &[Register],
     line: &Line,
@@ -253,11 +253,11 @@ fn applied(
     ensures { AnswerTells (state_in word (cells_of registers.now)) (seen line.now) number result }
 {
     let taken = taken_by(word, registers, line);
-    answer_in(word, policy, op, &taken, number)
+    answer_in_word(word, policy, op, &taken, number)
 }
 
 /// The answer of a line whose first three tests fail.
-fn answer_of(
+fn answer_past_tests(
     word: WordName,
     registers: &[Register],
     line: &Line,
@@ -273,15 +273,23 @@ fn answer_of(
 {
     match line {
         Line::Set { literal, .. } => Ok(Answer::Bits(whole_of(*literal))),
-        Line::One { policy, op, .. } => applied(word, registers, line, *policy, *op, number),
-        Line::Two { policy, op, .. } => applied(word, registers, line, *policy, *op, number),
-        Line::Int { policy, op, .. } => applied(word, registers, line, *policy, *op, number),
-        Line::Three { policy, op, .. } => applied(word, registers, line, *policy, *op, number),
+        Line::One { policy, op, .. } => answer_of_operation(
+            word, registers, line, *policy, *op, number,
+        ),
+        Line::Two { policy, op, .. } => answer_of_operation(
+            word, registers, line, *policy, *op, number,
+        ),
+        Line::Int { policy, op, .. } => answer_of_operation(
+            word, registers, line, *policy, *op, number,
+        ),
+        Line::Three { policy, op, .. } => answer_of_operation(
+            word, registers, line, *policy, *op, number,
+        ),
     }
 }
 
 /// The answer of a line, or its cause.
-fn checked_answer(
+fn answer_or_cause(
     word: WordName,
     registers: &[Register],
     line: &Line,
@@ -299,7 +307,7 @@ fn checked_answer(
     if is_mismatched(word, registers, line) {
         return Err(Cause::FractionMismatch(number));
     }
-    answer_of(word, registers, line, number)
+    answer_past_tests(word, registers, line, number)
 }
 
 fn destination(line: &Line) -> u128
@@ -341,7 +349,7 @@ pub(crate) fn step_registers(
     if !is_shaped(line) {
         return Err(Cause::Syntax(number));
     }
-    let answer = match checked_answer(word, registers, line, number) {
+    let answer = match answer_or_cause(word, registers, line, number) {
         Ok(answer) => answer,
         Err(cause) => return Err(cause),
     };

@@ -4,7 +4,7 @@ ghost use Rattle.std.specs.Prelude.{◌≡◌, ◌==◌, ◌≤◌, List, count_
 ghost use Rattle.fixed_calc.specs.declared.answer.Answer.{Answer};
 ghost use Rattle.fixed_calc.specs.Answers.{answer_text};
 ghost use Rattle.fixed_calc.specs.Demo.{is_absent, has_true_verdict, summary, summary_text as text_of};
-ghost use Rattle.fixed_calc.specs.Words.{most_lines};
+ghost use Rattle.fixed_calc.specs.CommandLine.{most_lines};
 
 use crate::cause::RunFault;
 use crate::demo::demo_script;

@@ -2,11 +2,11 @@
 
 ghost use Rattle.std.specs.Prelude.{◌≡◌, ◌≢◌, ◌≤◌, ◌↔◌, ℕ, []};
 ghost use Rattle.fixed_calc.specs.Headline.{CompleteTells, DemoDoneTells, DemoMemoryTells, DemoWriteFaultTells, DoneTells, IsDemoStatus, LineTells, MemoryTells, ReadFaultTells, ScriptTells, TooLongTells, WriteFaultTells, WritesNothing};
-ghost use Rattle.fixed_calc.specs.Words.{IsDemo, IsNoCommand, most_lines};
+ghost use Rattle.fixed_calc.specs.CommandLine.{IsDemo, IsNoCommand, most_lines};
 
 use crate::cause::RunFault;
 use crate::command::{Command, command_of};
-use crate::error_line::line_of;
+use crate::error_line::error_line_of;
 use crate::outside::{Refusal, Sink, Source};
 use crate::reading::{Stop, read_all};
 use crate::running::run;
@@ -16,7 +16,7 @@ use crate::writing::write_all;
 use std::alloc::Global;
 
 /// Reads, runs and writes.
-fn work<S: Source, K: Sink>(alloc: Global, source: &mut S, sink: &mut K) -> Status
+fn read_run_write<S: Source, K: Sink>(alloc: Global, source: &mut S, sink: &mut K) -> Status
     ensures done { DoneTells (S.state source.old)
         (S.state source.new) (K.state sink.old) (K.state sink.new) result }
     ensures script { ScriptTells (S.state source.old) (S.state source.new) result }
@@ -100,7 +100,7 @@ fn status_of<S: Source, K: Sink>(
     ensures demo_statuses { (n : ℕ) → IsDemo words.now n → IsDemoStatus result }
 {
     match command_of(words) {
-        Some(Command::Script) => work(alloc, source, sink),
+        Some(Command::Script) => read_run_write(alloc, source, sink),
         Some(Command::Demo(lines)) => demonstrate(alloc, lines, sink),
         None => Status::Usage,
     }
@@ -148,6 +148,6 @@ pub fn calc_main<S: Source, K: Sink, E: Sink>(
     ensures line { LineTells (E.state errors.old) (E.state errors.new) result }
 {
     let status = status_of(alloc, words, source, sink);
-    let _told = write_all(line_of(status).as_bytes(), errors);
+    let _told = write_all(error_line_of(status).as_bytes(), errors);
     status
 }

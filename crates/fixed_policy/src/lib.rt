@@ -1,9 +1,9 @@
 //! The policies that answer every number: checked, overflowing and wrapping.
 //!
-//! The functions `.._of` read an [`Outcome`](fixed_word::Outcome) and answer for the number that it stands
-//! for, whichever that is; they are this project's own. The traits have the typed calls of
-//! [`Fixed`](fixed_num::Fixed), each named by its policy and its operation. Below, n is the width of the
-//! word, and "the crate" is the Rust crate `fixed`. No function takes memory.
+//! The functions `.._of` are those of [`fixed_word`](fixed_word), offered again: they read an
+//! [`Outcome`](fixed_word::Outcome). The traits have the typed calls of [`Fixed`](fixed_num::Fixed), each
+//! named by its policy and its operation. Below, n is the width of the word, and "the crate" is the Rust
+//! crate `fixed`. No function takes memory.
 #![tactic(auto)]
 
 mod checked;
@@ -11,7 +11,6 @@ mod checked_products;
 mod numbers;
 mod overflowing;
 mod overflowing_products;
-mod policies;
 #[cfg(test)]
 mod tests;
 mod wrapping;
@@ -19,8 +18,8 @@ mod wrapping_products;
 
 pub use checked::{Checked, CheckedSigned, CheckedUnsigned};
 pub use checked_products::{CheckedMulAdd, CheckedProducts};
+pub use fixed_word::{checked_of, overflowing_of, wrapping_of};
 pub use overflowing::{Overflowing, OverflowingSigned, OverflowingUnsigned};
 pub use overflowing_products::{OverflowingMulAdd, OverflowingProducts};
-pub use policies::{checked_of, overflowing_of, wrapping_of};
 pub use wrapping::{Wrapping, WrappingSigned, WrappingUnsigned};
 pub use wrapping_products::{WrappingMulAdd, WrappingProducts};

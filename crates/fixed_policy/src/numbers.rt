@@ -4,7 +4,7 @@ ghost use Rattle.std.specs.Prelude.{◌≡◌, ℤ, Some, option_map};
 ghost use Rattle.fixed_word.specs.Standing.{StandsFor};
 ghost use Rattle.fixed_word.specs.Policies.{checked, overflowing, wrapping};
 
-use crate::policies::{checked_of, overflowing_of, wrapping_of};
+use crate::{checked_of, overflowing_of, wrapping_of};
 use fixed_num::Fixed;
 use fixed_word::{Outcome, Word};
 

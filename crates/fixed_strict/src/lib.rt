@@ -1,13 +1,12 @@
 //! The policies that stay in range: saturating, and strict, which is for numbers that fit.
 //!
-//! The functions `.._of` read an [`Outcome`](fixed_word::Outcome) and answer for the number that it stands
-//! for, whichever that is; they are this project's own. The traits have the typed calls of
-//! [`Fixed`](fixed_num::Fixed), each named by its policy and its operation; the unwrapped forms answer what
-//! the strict ones do. Below, "the crate" is the Rust crate `fixed`. No function takes memory.
+//! The functions `.._of` are those of [`fixed_word`](fixed_word), offered again: they read an
+//! [`Outcome`](fixed_word::Outcome). The traits have the typed calls of [`Fixed`](fixed_num::Fixed), each
+//! named by its policy and its operation; the unwrapped forms answer what the strict ones do. Below, "the
+//! crate" is the Rust crate `fixed`. No function takes memory.
 #![tactic(auto)]
 
 mod numbers;
-mod policies;
 mod saturating;
 mod saturating_products;
 mod strict;
@@ -17,7 +16,7 @@ mod tests;
 mod unwrapped;
 mod unwrapped_products;
 
-pub use policies::{saturating_of, strict_of};
+pub use fixed_word::{saturating_of, strict_of};
 pub use saturating::{Saturating, SaturatingSigned, SaturatingUnsigned};
 pub use saturating_products::{SaturatingMulAdd, SaturatingProducts};
 pub use strict::{Strict, StrictSigned, StrictUnsigned};

@@ -4,7 +4,7 @@ ghost use Rattle.std.specs.Prelude.{◌≡◌, ℤ, Some};
 ghost use Rattle.fixed_word.specs.Standing.{StandsFor};
 ghost use Rattle.fixed_word.specs.Policies.{saturating};
 
-use crate::policies::saturating_of;
+use crate::saturating_of;
 use fixed_num::Fixed;
 use fixed_word::{Outcome, Word};
 

@@ -6,4 +6,4 @@ pub mod Decimal
 pub mod Pieces
 pub mod Digit
 pub mod Ticks
-pub mod WordLaws
+pub mod inside

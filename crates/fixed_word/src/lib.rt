@@ -4,18 +4,24 @@
 //! is answered as an [`Outcome`]: the word that is left of it, and the side on which it lies.
 #![tactic(auto)]
 
+mod arithmetic;
 mod digits;
+mod integer;
 pub mod laws;
 mod ledger;
 mod narrow;
 mod outcome;
+mod policies;
 #[cfg(test)]
 mod tests;
 mod word;
 mod words;
 
+pub use arithmetic::Arithmetic;
 pub use digits::Digits;
+pub use integer::Integer;
 pub use ledger::{Count, Ledger, Silent, Steps};
 pub use narrow::Narrow;
-pub use outcome::{Outcome, Side, outcome_of};
+pub use outcome::{Outcome, Side, outcome_of, outcome_of_kept, outcome_of_whole};
+pub use policies::{checked_of, overflowing_of, saturating_of, strict_of, wrapping_of};
 pub use word::{RawWord, SignedWord, UnsignedWord, Valued, Word};

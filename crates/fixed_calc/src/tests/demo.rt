@@ -1,7 +1,7 @@
 //! The words `demo N`, and words that are no form of the command.
 
 ghost use Rattle.std.specs.Prelude.{◌≤◌};
-ghost use Rattle.fixed_calc.specs.Words.{most_lines};
+ghost use Rattle.fixed_calc.specs.CommandLine.{most_lines};
 
 use crate::{Source, Status, SureSink, SureSource, calc_main, demo_script};
 use std::alloc::Global;

@@ -1,7 +1,7 @@
 -- The names of the operands so far stand behind the destination and the words.
 use Rattle.std.proofs.Common.{◌≡◌, ◌∷◌, ◌++◌, take}
 use Rattle.std.specs.List.{flat_map}
-use Rattle.fixed_calc.specs.Text.{register_text}
+use Rattle.fixed_script.specs.Text.{register_text}
 use Rattle.fixed_calc.proofs.demo.push_applied.Given as goal
 
 abbrev pub invariant-loop-operand : goal.invariant-loop-operand

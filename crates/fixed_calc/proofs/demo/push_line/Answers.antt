@@ -1,8 +1,8 @@
 -- Each arm adds the line that the last digit chooses.
 use Rattle.std.proofs.Common.{◌≡◌, ◌/◌, ◌%◌, [], ◌∷◌, refl, arith, codes}
-use Rattle.fixed_calc.specs.declared.names.Policy.TheVariants.{Checked, Saturating, Wrapping, Overflowing}
-use Rattle.fixed_calc.specs.declared.names.Op.TheVariants.{Add, Sub, Mul, Div, MulAdd, AddProd, Sqrt}
-use Rattle.fixed_calc.specs.Text.{OneRegister, TwoRegisters, ThreeRegisters}
+use Rattle.fixed_script.specs.declared.names.Policy.TheVariants.{Checked, Saturating, Wrapping, Overflowing}
+use Rattle.fixed_script.specs.declared.names.Op.TheVariants.{Add, Sub, Mul, Div, MulAdd, AddProd, Sqrt}
+use Rattle.fixed_script.specs.Text.{OneRegister, TwoRegisters, ThreeRegisters}
 use Rattle.fixed_calc.proofs.Pushed.{adds_set, adds_applied}
 use Rattle.fixed_calc.proofs.demo.push_line.Goals as goal
 

@@ -1,7 +1,7 @@
 use Rattle.std.proofs.Common.{◌≡◌, ◌∙◌, ap, sym, arith, drop, map, length, None, true, false}
 use Rattle.std.proofs.lemmas.List.{take_rest, nil_from_length, length-map}
-use Rattle.fixed_calc.specs.Capped.{cap}
-use Rattle.fixed_calc.specs.Headers.{CappedHeader}
+use Rattle.fixed_text.specs.Numerals.{cap}
+use Rattle.fixed_script.specs.Headers.{CappedHeader}
 use Rattle.fixed_word.specs.Pieces.{pieces}
 use Rattle.fixed_calc.specs.Meaning.{stopped, fractions_of, has_wide, zeros}
 use Rattle.fixed_calc.specs.Rooms.{spaces_of}
@@ -36,7 +36,7 @@ returns-in-Ok-clause-tells c =
     let narrow : has_wide h.word (fractions_of h) ≡ false = sym (caps_wide h.word (fractions_of h)) ∙ capped ∙ c.in-Ok.ensures.ok.0 in
     let registers : zeros read.fractions ≡ zeros (fractions_of h) = ap (λ (r : CappedHeader). zeros r.fractions) is ∙ ap zeros (caps_narrow h.word (fractions_of h) narrow) in
     let is_run = run_of_lines script _ (pieces (drop end script)) h c.piece_end-end.ensures.cut c.in-Some.ensures.1 narrow in
-    told_started script (drop end script) h c.word.result c.run_lines.result c.declare.new.self c.run_lines.new.room is_run (c.word.ensures ∙ ap (λ (r : CappedHeader). r.word) is) started.no_answers (started.its_registers ∙ registers) (simp take_rest at c.run_lines.ensures.tells)
+    told_started script (drop end script) h c.word.result c.answer_lines.result c.declare.new.self c.answer_lines.new.room is_run (c.word.ensures ∙ ap (λ (r : CappedHeader). r.word) is) started.no_answers (started.its_registers ∙ registers) (simp take_rest at c.answer_lines.ensures.tells)
 
 pub returns-in-Err-clause-tells : goal.returns-in-Err-clause-tells
 returns-in-Err-clause-tells c =

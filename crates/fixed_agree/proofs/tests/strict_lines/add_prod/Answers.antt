@@ -1,7 +1,7 @@
 use Rattle.std.proofs.Common.{arith}
 use Rattle.std.proofs.lemmas.Grind.{common_steps}
 use Rattle.fixed_calc.specs.Offered.{is_offered}
-use Rattle.fixed_calc.specs.declared.names.Op.TheVariants.{AddProd}
+use Rattle.fixed_calc.specs.Types.{AddProd}
 use Rattle.fixed_agree.specs.Agreement.{three_operands}
 use Rattle.fixed_agree.proofs.Fitting.{value_fits}
 use Rattle.fixed_agree.proofs.tests.strict_lines.add_prod.Goals as goal

@@ -1,6 +1,6 @@
 use Rattle.std.proofs.Common.{◌≡◌, ◌∙◌, ◌++◌, List, [], ap, sym, subst, arith}
 use Rattle.std.specs.List.{All}
-use Rattle.fixed_calc.specs.declared.names.WordName.{WordName}
+use Rattle.fixed_text.specs.declared.names.WordName.{WordName}
 use Rattle.fixed_calc.specs.Meaning.{zeros}
 use Rattle.fixed_calc.specs.Machine.{Cell}
 use Rattle.fixed_calc.specs.Rooms.{Space}

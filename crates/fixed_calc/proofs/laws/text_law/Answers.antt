@@ -1,6 +1,0 @@
-use Rattle.fixed_calc.proofs.OneText.{one_whole, one_line, one_header}
-use Rattle.fixed_calc.proofs.Cutting.{pieces_joined}
-use Rattle.fixed_calc.proofs.laws.text_law.Goals as goal
-
-pub returns : goal.returns
-returns c = record { numbers = one_whole; lines = one_line; headers = one_header; pieces = pieces_joined }

@@ -1,0 +1,6 @@
+-- What private functions alone cite.
+pub mod Buffers
+pub mod Commands
+pub mod Moves
+pub mod Reading
+pub mod Stepping

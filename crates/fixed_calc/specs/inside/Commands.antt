@@ -1,0 +1,12 @@
+-- What the reader of the command line says.
+use Rattle.std.specs.Prelude.{◌≡◌, List, [], Option, Some, None, String}
+use Rattle.std.specs.declared.alloc.Global.{Global}
+use Rattle.fixed_calc.specs.declared.command.Command.{Command}
+use Rattle.fixed_calc.specs.declared.command.Command.TheVariants.{Script, Demo}
+use Rattle.fixed_calc.specs.CommandLine.{IsDemo, IsNoCommand}
+
+-- what the words ask for, if anything
+abbrev pub CommandTells : List (String Global) → Option Command → Type 0
+CommandTells words (Some Script) = words ≡ []
+CommandTells words (Some (Demo n)) = IsDemo words n
+CommandTells words None = IsNoCommand words

@@ -1,0 +1,9 @@
+pub mod Readers
+pub mod Fronts
+pub mod Joined
+pub mod Lines
+pub mod HeaderLaws
+pub mod NamesFirst
+pub mod OneText
+pub mod Lengths
+pub mod TextsRead

@@ -1,0 +1,150 @@
+-- A line's text is read as the line, and only a line's text is.
+use Rattle.std.proofs.Common.{◌≡◌, ℕ, List, [], ◌∷◌, ℤ, Option, Some, None, Bool, true, false, cond, refl, sym, ap, ◌∙◌, IfSome, IfNone, codes}
+use Rattle.std.specs.Str.{bytes_eq}
+use Rattle.std.specs.List.{join_with_byte}
+use Rattle.std.proofs.lemmas.List.Splits.{join_with_byte-slice_split}
+use Rattle.std.proofs.lemmas.Slice.Eq.{bytes_eq-Decides}
+use Rattle.std.proofs.lemmas.Option.{same_Some, none-some}
+use Rattle.fixed_script.specs.declared.names.Policy.{Policy}
+use Rattle.fixed_script.specs.declared.names.Policy.TheVariants.{Checked, Saturating, Wrapping, Overflowing, Strict}
+use Rattle.fixed_script.specs.declared.names.Op.{Op}
+use Rattle.fixed_script.specs.declared.line.Shape.{Shape}
+use Rattle.fixed_script.specs.declared.line.Shape.TheVariants.{Unary, Binary, ByInteger, Ternary}
+use Rattle.fixed_script.specs.declared.line.Line.{Line}
+use Rattle.fixed_script.specs.declared.line.Line.TheVariants.{Set, One, Two, Int, Three}
+use Rattle.fixed_word.specs.Decimal.{whole_text}
+use Rattle.fixed_script.specs.Names.{policy_name, policy_named, op_name, op_named, all_ops}
+use Rattle.fixed_script.specs.Text.{ScriptLine, SetTo, Apply, Operands, OneRegister, TwoRegisters, RegisterAndInt, ThreeRegisters, shape, shape_of, IsLine, register_text, line_tokens, line_text, operand_tokens}
+use Rattle.fixed_text.specs.Numerals.{cap}
+use Rattle.fixed_script.specs.Capped.{cap_whole, cap_operands, capped, denoted, literal_value, of_shape}
+use Rattle.fixed_text.specs.Tokens.{◌>>=◌, next_by, at_end, tokens_of}
+use Rattle.fixed_script.specs.inside.Parser.{register_at, literal_at, set_at, operands_at, apply_at, line_at}
+use Rattle.fixed_text.proofs.Steps.{bind_some, next_some, end_some, named_takes}
+use Rattle.fixed_script.proofs.Readers.{register_takes, register_again, literal_takes, literal_again, policy_again, op_again}
+use Rattle.fixed_script.proofs.Joined.{tokens_of_line}
+
+-- the line that was read, its tokens and what it denotes
+abbrev pub IsFound : List (List ℕ) → Line → Type 0
+IsFound ts line = (l : ScriptLine) × IsLine l × (line_tokens l ≡ ts) × (denoted line ≡ Some (capped l))
+
+set_takes : (dest : ℕ) (ts : List (List ℕ)) (line : Line) → set_at dest ts ≡ Some line → (k : ℤ) × (whole_text k ∷ [] ≡ ts) × (denoted line ≡ Some (SetTo dest (cap_whole k)))
+unfolding set_at
+set_takes dest ts line e =
+    let t = next_some literal_at ts (λ literal. at_end literal.1 (Set dest literal.0)) line e in
+    let k = literal_takes t.token t.value t.reads in
+    let done = end_some t.rest (Set dest t.value) line t.goes_on in
+    (k.0, ap (λ u. u ∷ []) k.1 ∙ ap (λ us. t.token ∷ us) (sym done.0) ∙ sym t.is, ap denoted (sym done.1) ∙ ap (λ v. Some (SetTo dest v)) k.2)
+
+-- the operands that were read
+abbrev AreOperands : ℕ → Policy → Op → ℕ → List (List ℕ) → Line → Type 0
+AreOperands dest policy op a ts line =
+    (xs : Operands) × (shape op ≡ shape_of xs) × (operand_tokens xs ≡ register_text a ∷ ts) × (denoted line ≡ Some (Apply dest policy op (cap_operands xs)))
+
+operands_takes : (s : Shape) (dest : ℕ) (policy : Policy) (op : Op) (a : ℕ) (ts : List (List ℕ)) (line : Line) → shape op ≡ s → operands_at s dest policy op (cap a) ts ≡ Some line → AreOperands dest policy op a ts line
+unfolding operands_at
+operands_takes Unary dest policy op a ts line s e =
+    let done = end_some ts (One dest policy op (cap a)) line e in
+    (OneRegister a, s, ap (λ us. register_text a ∷ us) (sym done.0), ap denoted (sym done.1) ∙ ap (λ s. of_shape s Unary (Apply dest policy op (OneRegister (cap a)))) s)
+operands_takes Binary dest policy op a ts line s e =
+    let t = next_some register_at ts (λ b. at_end b.1 (Two dest policy op (cap a) b.0)) line e in
+    let b = register_takes t.token t.value t.reads in
+    let done = end_some t.rest (Two dest policy op (cap a) t.value) line t.goes_on in (
+      TwoRegisters a b.0,
+      s,
+      ap (λ u. register_text a ∷ u ∷ []) b.1 ∙ ap (λ us. register_text a ∷ t.token ∷ us) (sym done.0) ∙ ap (λ us. register_text a ∷ us) (sym t.is),
+      ap denoted (sym done.1) ∙ ap (λ s. of_shape s Binary (Apply dest policy op (TwoRegisters (cap a) t.value))) s ∙ ap (λ v. Some (Apply dest policy op (TwoRegisters (cap a) v))) b.2,
+    )
+operands_takes ByInteger dest policy op a ts line s e =
+    let t = next_some literal_at ts (λ k. at_end k.1 (Int dest policy op (cap a) k.0)) line e in
+    let k = literal_takes t.token t.value t.reads in
+    let done = end_some t.rest (Int dest policy op (cap a) t.value) line t.goes_on in (
+      RegisterAndInt a k.0,
+      s,
+      ap (λ u. register_text a ∷ u ∷ []) k.1 ∙ ap (λ us. register_text a ∷ t.token ∷ us) (sym done.0) ∙ ap (λ us. register_text a ∷ us) (sym t.is),
+      ap denoted (sym done.1) ∙ ap (λ s. of_shape s ByInteger (Apply dest policy op (RegisterAndInt (cap a) (literal_value t.value)))) s ∙ ap (λ v. Some (Apply dest policy op (RegisterAndInt (cap a) v))) k.2,
+    )
+operands_takes Ternary dest policy op a ts line s e =
+    let t = next_some register_at ts (λ b. next_by register_at b.1 >>= λ c. at_end c.1 (Three dest policy op (cap a) b.0 c.0)) line e in
+    let b = register_takes t.token t.value t.reads in
+    let u = next_some register_at t.rest (λ c. at_end c.1 (Three dest policy op (cap a) t.value c.0)) line t.goes_on in
+    let c = register_takes u.token u.value u.reads in
+    let done = end_some u.rest (Three dest policy op (cap a) t.value u.value) line u.goes_on in (
+      ThreeRegisters a b.0 c.0,
+      s,
+      ap (λ x. register_text a ∷ x ∷ register_text c.0 ∷ []) b.1 ∙ ap (λ x. register_text a ∷ t.token ∷ x ∷ []) c.1
+          ∙ ap (λ us. register_text a ∷ t.token ∷ u.token ∷ us) (sym done.0) ∙ ap (λ us. register_text a ∷ t.token ∷ us) (sym u.is) ∙ ap (λ us. register_text a ∷ us) (sym t.is),
+      ap denoted (sym done.1) ∙ ap (λ s. of_shape s Ternary (Apply dest policy op (ThreeRegisters (cap a) t.value u.value))) s
+          ∙ ap (λ v. Some (Apply dest policy op (ThreeRegisters (cap a) v u.value))) b.2 ∙ ap (λ v. Some (Apply dest policy op (ThreeRegisters (cap a) (cap b.0) v))) c.2,
+    )
+
+apply_takes : (dest : ℕ) (policy : Policy) (ts : List (List ℕ)) (line : Line) → apply_at dest policy ts ≡ Some line → (op : Op) × (xs : Operands) × (shape op ≡ shape_of xs) × (op_name op ∷ operand_tokens xs ≡ ts) × (denoted line ≡ Some (Apply dest policy op (cap_operands xs)))
+unfolding apply_at
+apply_takes dest policy ts line e =
+    let t = next_some op_named ts (λ op. next_by register_at op.1 >>= λ a. operands_at (shape op.0) dest policy op.0 a.0 a.1) line e in
+    let name = named_takes op_name all_ops t.token t.value t.reads in
+    let u = next_some register_at t.rest (λ a. operands_at (shape t.value) dest policy t.value a.0 a.1) line t.goes_on in
+    let a = register_takes u.token u.value u.reads in
+    let xs = operands_takes (shape t.value) dest policy t.value a.0 u.rest line refl (ap (λ v. operands_at (shape t.value) dest policy t.value v u.rest) (sym a.2) ∙ u.goes_on) in
+    (t.value, xs.0, xs.1, ap (λ us. op_name t.value ∷ us) xs.2 ∙ ap (λ x. x ∷ register_text a.0 ∷ u.rest) name ∙ ap (λ x. t.token ∷ x ∷ u.rest) a.1 ∙ ap (λ us. t.token ∷ us) (sym u.is) ∙ sym t.is, xs.3)
+
+-- what follows the destination
+abbrev after_name : ℕ → List ℕ → List (List ℕ) → Option Line
+after_name dest name rest = cond (bytes_eq name (codes "set")) (set_at dest rest) (policy_named name >>= λ policy. apply_at dest policy rest)
+
+name_takes : (n : ℕ) (name : List ℕ) (rest : List (List ℕ)) (line : Line) (b : Bool) → bytes_eq name (codes "set") ≡ b → cond b (set_at (cap n) rest) (policy_named name >>= λ policy. apply_at (cap n) policy rest) ≡ Some line → IsFound (register_text n ∷ name ∷ rest) line
+name_takes n name rest line true is e =
+    let s = set_takes (cap n) rest line e in
+    (SetTo n s.0, tt, ap (λ x. register_text n ∷ x ∷ whole_text s.0 ∷ []) (sym ((bytes_eq-Decides name (codes "set")).0 is)) ∙ ap (λ us. register_text n ∷ name ∷ us) s.1, s.2)
+name_takes n name rest line false is e =
+    let p = bind_some (policy_named name) (λ policy. apply_at (cap n) policy rest) line e in
+    let found = apply_takes (cap n) p.0 rest line p.2 in (
+      Apply n p.0 found.0 found.1,
+      found.2,
+      ap (λ x. register_text n ∷ x ∷ op_name found.0 ∷ operand_tokens found.1) (named_takes policy_name (Checked ∷ Saturating ∷ Wrapping ∷ Overflowing ∷ Strict ∷ []) name p.0 p.1)
+          ∙ ap (λ us. register_text n ∷ name ∷ us) found.3,
+      found.4,
+    )
+
+pub line_takes : (ts : List (List ℕ)) (line : Line) → line_at ts ≡ Some line → IsFound ts line
+unfolding line_at
+line_takes ts line e =
+    let t = next_some register_at ts (λ dest. next_by Some dest.1 >>= λ name. after_name dest.0 name.0 name.1) line e in
+    let d = register_takes t.token t.value t.reads in
+    let u = next_some Some t.rest (λ name. after_name t.value name.0 name.1) line t.goes_on in
+    let f = name_takes d.0 u.value u.rest line (bytes_eq u.value (codes "set")) refl (ap (λ v. after_name v u.value u.rest) (sym d.2) ∙ u.goes_on) in
+    (f.0, f.1, f.2 ∙ ap (λ x. x ∷ u.value ∷ u.rest) d.1 ∙ ap (λ x. t.token ∷ x ∷ u.rest) (sym (same_Some _ _ u.reads)) ∙ ap (λ us. t.token ∷ us) (sym u.is) ∙ sym t.is, f.3)
+
+pub not_set : (p : Policy) → bytes_eq (policy_name p) (codes "set") ≡ false
+not_set Checked = refl
+not_set Saturating = refl
+not_set Wrapping = refl
+not_set Overflowing = refl
+not_set Strict = refl
+
+pub line_again : (l : ScriptLine) → IsLine l → (line : Line) × (line_at (line_tokens l) ≡ Some line)
+unfolding line_at set_at apply_at operands_at
+line_again (SetTo dest k) is =
+    let l = literal_again k in
+    (Set (cap dest) l.0, rw (register_again dest, l.1) refl)
+line_again (Apply dest policy op (OneRegister a)) is =
+    (One (cap dest) policy op (cap a), rw (register_again dest, not_set policy, policy_again policy, op_again op, register_again a, is) refl)
+line_again (Apply dest policy op (TwoRegisters a b)) is =
+    (Two (cap dest) policy op (cap a) (cap b), rw (register_again dest, not_set policy, policy_again policy, op_again op, register_again a, is, register_again b) refl)
+line_again (Apply dest policy op (RegisterAndInt a k)) is =
+    let l = literal_again k in
+    (Int (cap dest) policy op (cap a) l.0, rw (register_again dest, not_set policy, policy_again policy, op_again op, register_again a, is, l.1) refl)
+line_again (Apply dest policy op (ThreeRegisters a b c)) is =
+    (Three (cap dest) policy op (cap a) (cap b) (cap c), rw (register_again dest, not_set policy, policy_again policy, op_again op, register_again a, is, register_again b, register_again c) refl)
+
+-- the piece of which nothing was read is no line's text
+pub read_none : (piece : List ℕ) (r : Option Line) → r ≡ line_at (tokens_of piece) → IfNone r ((line : ScriptLine) → IsLine line → line_text line ≡ piece → ⊥)
+read_none piece None e = λ l is text.
+    let again = line_again l is in
+    none-some again.0 (e ∙ ap (λ b. line_at (tokens_of b)) (sym text) ∙ ap line_at (tokens_of_line l) ∙ again.1)
+read_none piece (Some line) e = tt
+
+pub read_some : (piece : List ℕ) (r : Option Line) → r ≡ line_at (tokens_of piece) → IfSome r (λ line. (l : ScriptLine) × IsLine l × (line_text l ≡ piece) × (denoted line ≡ Some (capped l)))
+read_some piece None e = tt
+read_some piece (Some line) e =
+    let f = line_takes (tokens_of piece) line (sym e) in
+    (f.0, f.1, ap (join_with_byte 32) f.2 ∙ join_with_byte-slice_split 32 piece, f.3)

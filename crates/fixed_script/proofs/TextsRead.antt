@@ -1,0 +1,128 @@
+-- A piece is read as the line whose text it is.
+use Rattle.std.proofs.Common.{◌≡◌, ℕ, ℤ, suc, pos, negsuc, neg_ℤ, List, [], ◌∷◌, map, drop, Option, Some, None, Bool, true, false, if◌then◌else◌, refl, sym, ap, subst, rules, IfNone, IfSome, ◌∙◌, codes}
+use Rattle.std.specs.Option.{option_map}
+use Rattle.std.specs.Str.{bytes_eq}
+use Rattle.std.proofs.lemmas.Slice.Eq.{bytes_eq-Decides}
+use Rattle.std.proofs.lemmas.Option.{same_Some}
+use Rattle.fixed_script.specs.declared.names.Policy.{Policy}
+use Rattle.fixed_script.specs.declared.names.Op.{Op}
+use Rattle.fixed_script.specs.declared.line.Shape.{Shape}
+use Rattle.fixed_script.specs.declared.line.Shape.TheVariants.{Unary, Binary, ByInteger, Ternary}
+use Rattle.fixed_word.specs.Decimal.{natural_text, whole_text}
+use Rattle.fixed_script.specs.Names.{policy_named, op_named}
+use Rattle.fixed_script.specs.Text.{ScriptHeader, header_text, header_tokens, ScriptLine, SetTo, Apply, OneRegister, TwoRegisters, RegisterAndInt, ThreeRegisters, IsLine, line_text, line_tokens, shape, shape_of}
+use Rattle.fixed_text.specs.Tokens.{tokens_of}
+use Rattle.fixed_text.proofs.Decimals.{decimal_of_text}
+use Rattle.fixed_script.proofs.Readers.{policy_again, op_again}
+use Rattle.fixed_text.proofs.Capping.{no_minus}
+use Rattle.fixed_script.proofs.Joined.{tokens_of_line}
+use Rattle.fixed_script.proofs.Lines.{not_set}
+use Rattle.fixed_script.proofs.HeaderLaws.{word_again, tokens_of_header}
+use Rattle.fixed_script.specs.declared.line.Line.{Line}
+use Rattle.fixed_script.specs.Capped.{capped, denoted}
+use Rattle.fixed_word.specs.Pieces.{body}
+use Rattle.fixed_script.specs.Headers.{CappedHeader, capped_header}
+use Rattle.fixed_script.specs.Lines.{then_of, line_of_piece, header_of_piece, natural_in, register_in, whole_in, operands_in, apply_in, line_in, header_in, if_its_text, line_of, header_of, ReadsLines, ReadsHeaders, token}
+use Rattle.fixed_script.specs.Readings.{LineTells, HeaderTells}
+
+-- ---- what is read back
+natural_back : (n : ℕ) → natural_in (natural_text n) ≡ n
+natural_back n = (decimal_of_text n).1
+
+whole_back : (k : ℤ) → whole_in (whole_text k) ≡ k
+whole_back (pos n) = ap (λ (b : Bool). if b then neg_ℤ (pos (natural_in (drop 1 (natural_text n)))) else pos (natural_in (natural_text n))) (no_minus (natural_text n) (decimal_of_text n).0) ∙ ap pos (natural_back n)
+whole_back (negsuc n) = ap (λ (m : ℕ). neg_ℤ (pos m)) (natural_back (suc n))
+
+line_back : (l : ScriptLine) → IsLine l → line_in (line_tokens l) ≡ Some l
+line_back (SetTo dest k) is = rw (natural_back dest, whole_back k) refl
+line_back (Apply dest policy op (OneRegister a)) is = rw (not_set policy, policy_again policy, op_again op, is, natural_back dest, natural_back a) refl
+line_back (Apply dest policy op (TwoRegisters a b)) is = rw (not_set policy, policy_again policy, op_again op, is, natural_back dest, natural_back a, natural_back b) refl
+line_back (Apply dest policy op (RegisterAndInt a k)) is = rw (not_set policy, policy_again policy, op_again op, is, natural_back dest, natural_back a, whole_back k) refl
+line_back (Apply dest policy op (ThreeRegisters a b c)) is = rw (not_set policy, policy_again policy, op_again op, is, natural_back dest, natural_back a, natural_back b, natural_back c) refl
+
+naturals_back : (ns : List ℕ) → map natural_in (map natural_text ns) ≡ ns
+naturals_back [] = refl
+naturals_back (n ∷ ns) = ap (λ (m : ℕ). m ∷ map natural_in (map natural_text ns)) (natural_back n) ∙ ap (λ (ms : List ℕ). n ∷ ms) (naturals_back ns)
+
+header_back : (h : ScriptHeader) → header_in (header_tokens h) ≡ Some h
+header_back h =
+    let made = λ (n : ℕ) (ns : List ℕ). let m : ScriptHeader = record { word = h.word; first = n; others = ns } in m in
+    ap (option_map (λ w. record { word = w; first = natural_in (natural_text h.first); others = map natural_in (map natural_text h.others) })) (word_again h.word)
+    ∙ ap (λ (n : ℕ). Some (made n (map natural_in (map natural_text h.others)))) (natural_back h.first) ∙ ap (λ (ns : List ℕ). Some (made h.first ns)) (naturals_back h.others)
+
+-- ---- only lines are read
+shaped : (s : Shape) (ts : List (List ℕ)) → s ≡ shape_of (operands_in s ts)
+shaped Unary ts = refl
+shaped Binary ts = refl
+shaped ByInteger ts = refl
+shaped Ternary ts = refl
+
+apply_is : (dest : ℕ) (p : Option Policy) (o : Option Op) (ts : List (List ℕ)) (l : ScriptLine) → apply_in dest p o ts ≡ Some l → IsLine l
+apply_is dest None o ts l e = cc
+apply_is dest (Some p) None ts l e = cc
+apply_is dest (Some p) (Some o) ts l e = subst IsLine (same_Some (Apply dest p o (operands_in (shape o) ts)) l e) (shaped (shape o) ts)
+
+line_is : (ts : List (List ℕ)) (l : ScriptLine) → line_in ts ≡ Some l → IsLine l
+line_is ts l e = by_name (bytes_eq (token ts 1) (codes "set")) e
+  where
+    by_name : (b : Bool) → (if b then Some (SetTo (register_in (token ts 0)) (whole_in (token ts 2))) else apply_in (register_in (token ts 0)) (policy_named (token ts 1)) (op_named (token ts 2)) (drop 3 ts)) ≡ Some l → IsLine l
+    by_name true e = subst IsLine (same_Some (SetTo (register_in (token ts 0)) (whole_in (token ts 2))) l e) tt
+    by_name false e = apply_is (register_in (token ts 0)) (policy_named (token ts 1)) (op_named (token ts 2)) (drop 3 ts) l e
+
+-- ---- what has the text of the piece
+its_text : {A : Type 0} (text : A → List ℕ) (piece : List ℕ) (read : Option A) (x : A) → if_its_text text piece read ≡ Some x → (read ≡ Some x) × (text x ≡ piece)
+its_text text piece None x e = cc
+its_text text piece (Some y) x e = by_test (bytes_eq (text y) piece) refl e
+  where
+    by_test : (b : Bool) → bytes_eq (text y) piece ≡ b → (if b then Some y else None) ≡ Some x → (Some y ≡ Some x) × (text x ≡ piece)
+    by_test false is e = cc
+    by_test true is e = (e, ap text (sym (same_Some y x e)) ∙ (bytes_eq-Decides (text y) piece).0 is)
+
+has_text : {A : Type 0} (text : A → List ℕ) (piece : List ℕ) (read : Option A) (x : A) → read ≡ Some x → text x ≡ piece → if_its_text text piece read ≡ Some x
+has_text text piece read x is e = ap (if_its_text text piece) is ∙ ap (λ (b : Bool). if b then Some x else None) (same (text x) piece e)
+  where
+    same : (xs ys : List ℕ) → xs ≡ ys → bytes_eq xs ys ≡ true
+    same xs ys e = search (rules, bytes_eq-Decides)
+
+pub reads_lines : ReadsLines
+unfolding line_of
+reads_lines piece l = (
+  λ e. let t = its_text line_text piece (line_in (tokens_of piece)) l e in (line_is (tokens_of piece) l t.0, t.1),
+  λ h. has_text line_text piece (line_in (tokens_of piece)) l (ap (λ (p : List ℕ). line_in (tokens_of p)) (sym h.1) ∙ ap line_in (tokens_of_line l) ∙ line_back l h.0) h.1,
+)
+
+pub reads_headers : ReadsHeaders
+unfolding header_of
+reads_headers piece h = (
+  λ e. (its_text header_text piece (header_in (tokens_of piece)) h e).1,
+  λ t. has_text header_text piece (header_in (tokens_of piece)) h (ap (λ (p : List ℕ). header_in (tokens_of p)) (sym t) ∙ ap header_in (tokens_of_header h) ∙ header_back h) t,
+)
+
+-- ---- what the parser answers
+none_from : (piece : List ℕ) (o : Option ScriptLine) → line_of piece ≡ o → ((l : ScriptLine) → IsLine l → line_text l ≡ piece → ⊥) → o ≡ None
+none_from piece None is h = refl
+none_from piece (Some l) is h = let p = (reads_lines piece l).0 is in absurd (h l p.0 p.1)
+
+pub line_tells : (piece front : List ℕ) (r : Option Line) → body piece ≡ Some front → IfNone r ((l : ScriptLine) → IsLine l → line_text l ≡ front → ⊥)
+    → IfSome r (λ read. (l : ScriptLine) × IsLine l × (line_text l ≡ front) × (denoted read ≡ Some (capped l))) → LineTells piece r
+unfolding line_of_piece
+line_tells piece front None is none found = ap (λ o. then_of o line_of) is ∙ none_from front (line_of front) refl none
+line_tells piece front (Some read) is none found = (found.0, ap (λ o. then_of o line_of) is ∙ (reads_lines front found.0).1 (found.1, found.2), found.3)
+
+pub no_front : (piece : List ℕ) → body piece ≡ None → line_of_piece piece ≡ None
+unfolding line_of_piece
+no_front piece is = ap (λ o. then_of o line_of) is
+
+no_header_from : (piece : List ℕ) (o : Option ScriptHeader) → header_of piece ≡ o → ((h : ScriptHeader) → header_text h ≡ piece → ⊥) → o ≡ None
+no_header_from piece None is h = refl
+no_header_from piece (Some l) is h = absurd (h l ((reads_headers piece l).0 is))
+
+pub header_tells : (piece front : List ℕ) (r : Option CappedHeader) → body piece ≡ Some front → IfNone r ((h : ScriptHeader) → header_text h ≡ front → ⊥)
+    → IfSome r (λ read. (h : ScriptHeader) × (header_text h ≡ front) × (read ≡ capped_header h)) → HeaderTells piece r
+unfolding header_of_piece
+header_tells piece front None is none found = ap (λ o. then_of o header_of) is ∙ no_header_from front (header_of front) refl none
+header_tells piece front (Some read) is none found = (found.0, ap (λ o. then_of o header_of) is ∙ (reads_headers front found.0).1 found.1, found.2)
+
+pub no_front_header : (piece : List ℕ) → body piece ≡ None → header_of_piece piece ≡ None
+unfolding header_of_piece
+no_front_header piece is = ap (λ o. then_of o header_of) is

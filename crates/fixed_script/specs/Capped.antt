@@ -1,0 +1,45 @@
+-- Numbers as the code holds them: one of 2 ^ 64 or more is held as 2 ^ 64.
+use Rattle.std.specs.Prelude.{suc, ℤ, pos, negsuc, neg_ℤ, if◌then◌else◌, Option, Some, None}
+use Rattle.fixed_text.specs.Numerals.{cap}
+use Rattle.fixed_script.specs.declared.line.Shape.{Shape}
+use Rattle.fixed_script.specs.declared.line.Shape.TheVariants.{Unary, Binary, ByInteger, Ternary}
+use Rattle.fixed_script.specs.declared.literal.Literal.{Literal}
+use Rattle.fixed_script.specs.declared.line.Line.{Line}
+use Rattle.fixed_script.specs.declared.line.Line.TheVariants.{Set, One, Two, Int, Three}
+use Rattle.fixed_script.specs.Text.{Operands, OneRegister, TwoRegisters, RegisterAndInt, ThreeRegisters, ScriptLine, SetTo, Apply, shape}
+
+-- a number keeps its sign
+abbrev pub cap_whole : ℤ → ℤ
+cap_whole (pos n) = pos (cap n)
+cap_whole (negsuc n) = neg_ℤ (pos (cap (suc n)))
+
+abbrev pub cap_operands : Operands → Operands
+cap_operands (OneRegister a) = OneRegister (cap a)
+cap_operands (TwoRegisters a b) = TwoRegisters (cap a) (cap b)
+cap_operands (RegisterAndInt a k) = RegisterAndInt (cap a) (cap_whole k)
+cap_operands (ThreeRegisters a b c) = ThreeRegisters (cap a) (cap b) (cap c)
+
+-- the capped form of a line
+abbrev pub capped : ScriptLine → ScriptLine
+capped (SetTo dest value) = SetTo (cap dest) (cap_whole value)
+capped (Apply dest policy op operands) = Apply (cap dest) policy op (cap_operands operands)
+
+-- the whole number of a literal
+abbrev pub literal_value : Literal → ℤ
+literal_value l = if l.below_zero then neg_ℤ (pos l.magnitude) else pos l.magnitude
+
+-- the line, if the operation takes operands of that shape
+abbrev pub of_shape : Shape → Shape → ScriptLine → Option ScriptLine
+of_shape Unary Unary line = Some line
+of_shape Binary Binary line = Some line
+of_shape ByInteger ByInteger line = Some line
+of_shape Ternary Ternary line = Some line
+of_shape _ _ line = None
+
+-- the abstract line that a line of the code denotes, with its numbers as they stand
+abbrev pub denoted : Line → Option ScriptLine
+denoted (Set dest literal) = Some (SetTo dest (literal_value literal))
+denoted (One dest policy op a) = of_shape (shape op) Unary (Apply dest policy op (OneRegister a))
+denoted (Two dest policy op a b) = of_shape (shape op) Binary (Apply dest policy op (TwoRegisters a b))
+denoted (Int dest policy op a literal) = of_shape (shape op) ByInteger (Apply dest policy op (RegisterAndInt a (literal_value literal)))
+denoted (Three dest policy op a b c) = of_shape (shape op) Ternary (Apply dest policy op (ThreeRegisters a b c))

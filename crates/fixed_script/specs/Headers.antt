@@ -1,0 +1,23 @@
+-- A header as the code holds it.
+use Rattle.std.specs.Prelude.{ℕ, List, ◌∷◌, map, Bool}
+use Rattle.std.specs.List.{list_all}
+use Rattle.std.specs.Str.Parse.{digits_value}
+use Rattle.fixed_text.specs.declared.names.WordName.{WordName}
+use Rattle.fixed_script.specs.Text.{ScriptHeader}
+use Rattle.fixed_text.specs.Numerals.{cap, is_decimal}
+
+-- a word, and the fractions in order, capped
+pub record CappedHeader : Type 0 where
+  pub word : WordName
+  pub fractions : List ℕ
+
+-- the capped form of a header
+abbrev pub capped_header : ScriptHeader → CappedHeader
+capped_header h = record { word = h.word; fractions = map cap (h.first ∷ h.others) }
+
+-- the capped numbers that decimals say
+abbrev pub capped_fractions : List (List ℕ) → List ℕ
+capped_fractions tokens = map (λ t. cap (digits_value 10 t)) tokens
+
+abbrev pub all_decimal : List (List ℕ) → Bool
+all_decimal tokens = list_all is_decimal tokens

@@ -1,0 +1,78 @@
+-- The line, and the header, whose text some bytes are: a piece without its newline. And those of a piece.
+use Rattle.std.specs.Prelude.{◌≡◌, ◌↔◌, ℕ, ℤ, pos, neg_ℤ, List, [], drop, get_or, map, Option, Some, None, if◌then◌else◌, codes}
+use Rattle.std.specs.Option.{option_map}
+use Rattle.std.specs.Str.{bytes_eq}
+use Rattle.std.specs.Str.Parse.{digits_value}
+use Rattle.fixed_script.specs.declared.names.Policy.{Policy}
+use Rattle.fixed_script.specs.declared.names.Op.{Op}
+use Rattle.fixed_script.specs.declared.line.Shape.{Shape}
+use Rattle.fixed_script.specs.declared.line.Shape.TheVariants.{Unary, Binary, ByInteger, Ternary}
+use Rattle.fixed_text.specs.Words.{word_named}
+use Rattle.fixed_script.specs.Names.{policy_named, op_named}
+use Rattle.fixed_script.specs.Text.{ScriptHeader, header_text, ScriptLine, SetTo, Apply, Operands, OneRegister, TwoRegisters, RegisterAndInt, ThreeRegisters, IsLine, line_text, shape}
+use Rattle.fixed_word.specs.Pieces.{body}
+use Rattle.fixed_text.specs.Tokens.{tokens_of}
+use Rattle.fixed_text.specs.Numerals.{has_minus}
+
+-- ---- the only line that can have these tokens, if any has
+abbrev pub token : List (List ℕ) → ℕ → List ℕ
+token tokens i = get_or tokens i []
+
+abbrev pub natural_in : List ℕ → ℕ
+natural_in digits = digits_value 10 digits
+
+-- (without its `r`)
+abbrev pub register_in : List ℕ → ℕ
+register_in token = natural_in (drop 1 token)
+
+abbrev pub whole_in : List ℕ → ℤ
+whole_in token = if has_minus token then neg_ℤ (pos (natural_in (drop 1 token))) else pos (natural_in token)
+
+abbrev pub operands_in : Shape → List (List ℕ) → Operands
+operands_in Unary ts = OneRegister (register_in (token ts 0))
+operands_in Binary ts = TwoRegisters (register_in (token ts 0)) (register_in (token ts 1))
+operands_in ByInteger ts = RegisterAndInt (register_in (token ts 0)) (whole_in (token ts 1))
+operands_in Ternary ts = ThreeRegisters (register_in (token ts 0)) (register_in (token ts 1)) (register_in (token ts 2))
+
+abbrev pub apply_in : ℕ → Option Policy → Option Op → List (List ℕ) → Option ScriptLine
+apply_in dest None op ts = None
+apply_in dest (Some policy) None ts = None
+apply_in dest (Some policy) (Some op) ts = Some (Apply dest policy op (operands_in (shape op) ts))
+
+abbrev pub line_in : List (List ℕ) → Option ScriptLine
+line_in ts =
+    if bytes_eq (token ts 1) (codes "set") then Some (SetTo (register_in (token ts 0)) (whole_in (token ts 2)))
+    else apply_in (register_in (token ts 0)) (policy_named (token ts 1)) (op_named (token ts 2)) (drop 3 ts)
+
+abbrev pub header_in : List (List ℕ) → Option ScriptHeader
+header_in ts = option_map (λ w. record { word = w; first = natural_in (token ts 1); others = map natural_in (drop 2 ts) }) (word_named (token ts 0))
+
+-- ---- the line whose text the bytes are
+-- what was read, if its text is these bytes again
+abbrev pub if_its_text : {A : Type 0} → (A → List ℕ) → List ℕ → Option A → Option A
+if_its_text text piece None = None
+if_its_text text piece (Some x) = if bytes_eq (text x) piece then Some x else None
+
+unfoldable pub line_of : List ℕ → Option ScriptLine
+line_of piece = if_its_text line_text piece (line_in (tokens_of piece))
+
+unfoldable pub header_of : List ℕ → Option ScriptHeader
+header_of piece = if_its_text header_text piece (header_in (tokens_of piece))
+
+-- ---- the line of a piece, which ends in a newline
+abbrev pub then_of : {A B : Type 0} → Option A → (A → Option B) → Option B
+then_of None f = None
+then_of (Some x) f = f x
+
+unfoldable pub line_of_piece : List ℕ → Option ScriptLine
+line_of_piece piece = then_of (body piece) line_of
+
+unfoldable pub header_of_piece : List ℕ → Option ScriptHeader
+header_of_piece piece = then_of (body piece) header_of
+
+-- ---- the laws
+abbrev pub ReadsLines : Type 0
+ReadsLines = (piece : List ℕ) (line : ScriptLine) → (line_of piece ≡ Some line) ↔ (IsLine line × (line_text line ≡ piece))
+
+abbrev pub ReadsHeaders : Type 0
+ReadsHeaders = (piece : List ℕ) (header : ScriptHeader) → (header_of piece ≡ Some header) ↔ (header_text header ≡ piece)

@@ -1,0 +1,89 @@
+-- What a script can say, with numbers of any size, and the bytes that say it.
+use Rattle.std.specs.Prelude.{◌≡◌, ℕ, ℤ, List, [], ◌∷◌, map, codes}
+use Rattle.std.specs.List.{join_with_byte}
+use Rattle.fixed_text.specs.declared.names.WordName.{WordName}
+use Rattle.fixed_script.specs.declared.names.Policy.{Policy}
+use Rattle.fixed_script.specs.declared.names.Op.{Op}
+use Rattle.fixed_script.specs.declared.names.Op.TheVariants.{Neg, Add, Sub, Mul, Div, Recip, MulAdd, AddProd, MulInt, DivInt, DivEuclid, DivEuclidInt, RemEuclidInt, NextMultipleOf, Dist, Sqrt, Abs, Signum, Rem, RemInt, RemEuclid, NextPowerOfTwo}
+use Rattle.fixed_script.specs.declared.line.Shape.{Shape}
+use Rattle.fixed_script.specs.declared.line.Shape.TheVariants.{Unary, Binary, ByInteger, Ternary}
+use Rattle.fixed_text.specs.Words.{word_name}
+use Rattle.fixed_script.specs.Names.{policy_name, op_name}
+use Rattle.fixed_word.specs.Decimal.{natural_text, whole_text}
+
+-- a word, and the fractions of the registers: the first, and the others
+pub record ScriptHeader : Type 0 where
+  pub word : WordName
+  pub first : ℕ
+  pub others : List ℕ
+
+-- the operands of an operation: registers by number, and a whole number
+pub data Operands : Type 0 where
+  OneRegister : ℕ → Operands
+  TwoRegisters : ℕ → ℕ → Operands
+  RegisterAndInt : ℕ → ℤ → Operands
+  ThreeRegisters : ℕ → ℕ → ℕ → Operands
+
+-- `set` with a destination and a number, or a destination, a policy, an operation and its operands
+pub data ScriptLine : Type 0 where
+  SetTo : ℕ → ℤ → ScriptLine
+  Apply : ℕ → Policy → Op → Operands → ScriptLine
+
+-- which operands an operation takes
+abbrev pub shape : Op → Shape
+shape Neg = Unary
+shape Add = Binary
+shape Sub = Binary
+shape Mul = Binary
+shape Div = Binary
+shape Recip = Unary
+shape MulAdd = Ternary
+shape AddProd = Ternary
+shape MulInt = ByInteger
+shape DivInt = ByInteger
+shape DivEuclid = Binary
+shape DivEuclidInt = ByInteger
+shape RemEuclidInt = ByInteger
+shape NextMultipleOf = Binary
+shape Dist = Binary
+shape Sqrt = Unary
+shape Abs = Unary
+shape Signum = Unary
+shape Rem = Binary
+shape RemInt = ByInteger
+shape RemEuclid = Binary
+shape NextPowerOfTwo = Unary
+
+abbrev pub shape_of : Operands → Shape
+shape_of (OneRegister a) = Unary
+shape_of (TwoRegisters a b) = Binary
+shape_of (RegisterAndInt a k) = ByInteger
+shape_of (ThreeRegisters a b c) = Ternary
+
+-- the operands are those of the operation
+abbrev pub IsLine : ScriptLine → Type 0
+IsLine (SetTo dest value) = Unit {0}
+IsLine (Apply dest policy op operands) = shape op ≡ shape_of operands
+
+abbrev pub register_text : ℕ → List ℕ
+register_text n = 114 ∷ natural_text n
+
+abbrev pub operand_tokens : Operands → List (List ℕ)
+operand_tokens (OneRegister a) = register_text a ∷ []
+operand_tokens (TwoRegisters a b) = register_text a ∷ register_text b ∷ []
+operand_tokens (RegisterAndInt a k) = register_text a ∷ whole_text k ∷ []
+operand_tokens (ThreeRegisters a b c) = register_text a ∷ register_text b ∷ register_text c ∷ []
+
+abbrev pub line_tokens : ScriptLine → List (List ℕ)
+line_tokens (SetTo dest value) = register_text dest ∷ codes "set" ∷ whole_text value ∷ []
+line_tokens (Apply dest policy op operands) = register_text dest ∷ policy_name policy ∷ op_name op ∷ operand_tokens operands
+
+abbrev pub header_tokens : ScriptHeader → List (List ℕ)
+header_tokens h = word_name h.word ∷ natural_text h.first ∷ map natural_text h.others
+
+-- one space between two tokens
+abbrev pub line_text : ScriptLine → List ℕ
+line_text line = join_with_byte 32 (line_tokens line)
+
+abbrev pub header_text : ScriptHeader → List ℕ
+header_text header = join_with_byte 32 (header_tokens header)

@@ -1,0 +1,19 @@
+-- The laws of the text: each text says one thing.
+use Rattle.std.specs.Prelude.{◌≡◌, ℕ, ℤ, List}
+use Rattle.std.specs.List.{concat}
+use Rattle.fixed_word.specs.Decimal.{whole_text}
+use Rattle.fixed_script.specs.Text.{ScriptHeader, ScriptLine, header_text, line_text}
+use Rattle.fixed_word.specs.Pieces.{pieces}
+
+abbrev pub OneWholeNumber : Type 0
+OneWholeNumber = (x y : ℤ) → whole_text x ≡ whole_text y → x ≡ y
+
+abbrev pub OneLine : Type 0
+OneLine = (x y : ScriptLine) → line_text x ≡ line_text y → x ≡ y
+
+abbrev pub OneHeader : Type 0
+OneHeader = (x y : ScriptHeader) → header_text x ≡ header_text y → x ≡ y
+
+-- the pieces of a script, one after another, are the script
+abbrev pub PiecesJoin : Type 0
+PiecesJoin = (script : List ℕ) → concat (pieces script) ≡ script

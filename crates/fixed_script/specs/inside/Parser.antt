@@ -1,0 +1,53 @@
+-- What the parser answers, as functions of the tokens.
+use Rattle.std.specs.Prelude.{ℕ, ◌==◌, ◌&&◌, if◌then◌else◌, List, [], ◌∷◌, Option, Some, None, codes}
+use Rattle.std.specs.Str.{bytes_eq}
+use Rattle.fixed_text.specs.Tokens.{◌>>=◌, next_by, at_end}
+use Rattle.fixed_text.specs.Numerals.{natural_at, has_minus, without_minus}
+use Rattle.fixed_script.specs.declared.names.Policy.{Policy}
+use Rattle.fixed_script.specs.declared.names.Op.{Op}
+use Rattle.fixed_script.specs.declared.line.Shape.{Shape}
+use Rattle.fixed_script.specs.declared.line.Shape.TheVariants.{Unary, Binary, ByInteger, Ternary}
+use Rattle.fixed_script.specs.declared.literal.Literal.{Literal}
+use Rattle.fixed_script.specs.declared.line.Line.{Line}
+use Rattle.fixed_script.specs.declared.line.Line.TheVariants.{Set, One, Two, Int, Three}
+use Rattle.fixed_script.specs.Names.{policy_named, op_named}
+use Rattle.fixed_script.specs.Text.{shape}
+
+unfoldable pub register_at : List ℕ → Option ℕ
+register_at [] = None
+register_at (c ∷ cs) = if c == 114 then natural_at cs else None
+
+unfoldable pub literal_at : List ℕ → Option Literal
+literal_at token = do
+  m ← natural_at (without_minus token)
+  if has_minus token && m == 0 then None else Some (record { below_zero = has_minus token; magnitude = m })
+
+unfoldable pub set_at : ℕ → List (List ℕ) → Option Line
+set_at dest ts = do
+  literal ← next_by literal_at ts
+  at_end literal.1 (Set dest literal.0)
+
+unfoldable pub operands_at : Shape → ℕ → Policy → Op → ℕ → List (List ℕ) → Option Line
+operands_at Unary dest policy op a ts = at_end ts (One dest policy op a)
+operands_at Binary dest policy op a ts = do
+  b ← next_by register_at ts
+  at_end b.1 (Two dest policy op a b.0)
+operands_at ByInteger dest policy op a ts = do
+  literal ← next_by literal_at ts
+  at_end literal.1 (Int dest policy op a literal.0)
+operands_at Ternary dest policy op a ts = do
+  b ← next_by register_at ts
+  c ← next_by register_at b.1
+  at_end c.1 (Three dest policy op a b.0 c.0)
+
+unfoldable pub apply_at : ℕ → Policy → List (List ℕ) → Option Line
+apply_at dest policy ts = do
+  op ← next_by op_named ts
+  a ← next_by register_at op.1
+  operands_at (shape op.0) dest policy op.0 a.0 a.1
+
+unfoldable pub line_at : List (List ℕ) → Option Line
+line_at ts = do
+  dest ← next_by register_at ts
+  name ← next_by Some dest.1
+  if bytes_eq name.0 (codes "set") then set_at dest.0 name.1 else policy_named name.0 >>= λ policy. apply_at dest.0 policy name.1

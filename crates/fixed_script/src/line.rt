@@ -1,0 +1,193 @@
+//! The lines of a script.
+
+ghost use Rattle.std.specs.Prelude.{◌≡◌, Some, IfSome, IfNone};
+ghost use Rattle.fixed_script.specs.Text.{shape, ScriptLine, IsLine, line_text};
+ghost use Rattle.fixed_script.specs.Capped.{capped, denoted};
+ghost use Rattle.fixed_text.specs.Tokens.{at_end, tokens_of};
+ghost use Rattle.fixed_script.specs.inside.Parser.{set_at, operands_at, apply_at, line_at};
+
+use crate::literal::Literal;
+use crate::names::{Op, Policy, policy_of};
+use crate::taking::{take_literal, take_op, take_policy, take_register};
+use fixed_text::Tokens;
+
+/// Which operands an operation takes.
+#[derive(Clone, Copy, Debug, PartialEq, Eq)]
+pub enum Shape {
+    Unary,
+    Binary,
+    ByInteger,
+    Ternary,
+}
+
+/// A line after the header. Registers and literals stand in the order of the text; a number of `2^64` or
+/// more is held as `2^64`, which is no declared register and no value of any word.
+#[derive(Clone, Copy, Debug, PartialEq, Eq)]
+pub enum Line {
+    Set {
+        dest: u128,
+        literal: Literal,
+    },
+    One {
+        dest: u128,
+        policy: Policy,
+        op: Op,
+        a: u128,
+    },
+    Two {
+        dest: u128,
+        policy: Policy,
+        op: Op,
+        a: u128,
+        b: u128,
+    },
+    Int {
+        dest: u128,
+        policy: Policy,
+        op: Op,
+        a: u128,
+        literal: Literal,
+    },
+    Three {
+        dest: u128,
+        policy: Policy,
+        op: Op,
+        a: u128,
+        b: u128,
+        c: u128,
+    },
+}
+
+/// Which operands the operation takes.
+pub fn shape_of(op: Op) -> Shape
+    ensures { result ≡ shape op }
+{
+    match op {
+        Op::Neg | Op::Recip | Op::Sqrt | Op::Abs | Op::Signum | Op::NextPowerOfTwo => Shape::Unary,
+        Op::Add
+        | Op::Sub
+        | Op::Mul
+        | Op::Div
+        | Op::DivEuclid
+        | Op::NextMultipleOf
+        | Op::Dist
+        | Op::Rem
+        | Op::RemEuclid => Shape::Binary,
+        Op::MulInt | Op::DivInt | Op::DivEuclidInt | Op::RemEuclidInt | Op::RemInt =>
+            Shape::ByInteger,
+        Op::MulAdd | Op::AddProd => Shape::Ternary,
+    }
+}
+
+/// The line, where no token is left.
+fn at_end(tokens: &Tokens<'_>, line: Line) -> Option<Line>
+    ensures { result ≡ at_end tokens.now line }
+{
+    if tokens.is_empty() { Some(line) } else { None }
+}
+
+#[tactic(auto, unfolding(crate::specs::inside::Parser::set_at))]
+fn set_of(dest: u128, tokens: &mut Tokens<'_>) -> Option<Line>
+    ensures { result ≡ set_at dest tokens.old }
+{
+    let literal = take_literal(tokens)?;
+    at_end(tokens, Line::Set { dest, literal })
+}
+
+#[tactic(auto, unfolding(crate::specs::inside::Parser::operands_at))]
+fn operands_of(dest: u128, policy: Policy, op: Op, a: u128, tokens: &mut Tokens<'_>) -> Option<Line>
+    ensures { result ≡ operands_at (shape op) dest policy op a tokens.old }
+{
+    match shape_of(op) {
+        Shape::Unary => at_end(
+            tokens,
+            Line::One {
+                dest,
+                policy,
+                op,
+                a,
+            },
+        ),
+        Shape::Binary => {
+            let b = take_register(tokens)?;
+            at_end(
+                tokens,
+                Line::Two {
+                    dest,
+                    policy,
+                    op,
+                    a,
+                    b,
+                },
+            )
+        }
+        Shape::ByInteger => {
+            let literal = take_literal(tokens)?;
+            at_end(
+                tokens,
+                Line::Int {
+                    dest,
+                    policy,
+                    op,
+                    a,
+                    literal,
+                },
+            )
+        }
+        Shape::Ternary => {
+            let b = take_register(tokens)?;
+            let c = take_register(tokens)?;
+            at_end(
+                tokens,
+                Line::Three {
+                    dest,
+                    policy,
+                    op,
+                    a,
+                    b,
+                    c,
+                },
+            )
+        }
+    }
+}
+
+#[tactic(auto, unfolding(crate::specs::inside::Parser::apply_at))]
+fn apply_of(dest: u128, policy: Policy, tokens: &mut Tokens<'_>) -> Option<Line>
+    ensures { result ≡ apply_at dest policy tokens.old }
+{
+    let op = take_op(tokens)?;
+    let a = take_register(tokens)?;
+    operands_of(dest, policy, op, a, tokens)
+}
+
+/// The line that the tokens are.
+#[tactic(auto, unfolding(crate::specs::inside::Parser::line_at))]
+fn line_from(mut tokens: Tokens<'_>) -> Option<Line>
+    ensures { result ≡ line_at tokens.entry }
+{
+    let dest = take_register(&mut tokens)?;
+    let policy = match take_policy(&mut tokens) {
+        Some(policy) => policy,
+        None => {
+            let name = tokens.take()?;
+            if name == b"set".as_slice() {
+                return set_of(dest, &mut tokens);
+            }
+            policy_of(name)?
+        }
+    };
+    apply_of(dest, policy, &mut tokens)
+}
+
+/// The line whose text the piece is, without its newline; None exactly where no line has that text.
+pub fn parse_line(piece: &[u8]) -> Option<Line>
+    // None exactly where the piece is no line's text.
+    ensures none { IfNone result
+        ((line : ScriptLine) → IsLine line → line_text line ≡ piece.now → ⊥) }
+    // Otherwise the capped form of the line whose text it is.
+    ensures found { IfSome result (λ read. (line : ScriptLine)
+        × IsLine line × (line_text line ≡ piece.now) × (denoted read ≡ Some (capped line))) }
+{
+    line_from(Tokens::new(piece))
+}

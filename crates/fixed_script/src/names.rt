@@ -1,0 +1,193 @@
+//! The names that a script gives to policies and operations.
+
+ghost use Rattle.std.specs.Prelude.{◌≡◌, ◌∷◌, ◌++◌, IfSome, Some, length, true};
+ghost use Rattle.fixed_text.specs.Words.{word_named};
+ghost use Rattle.fixed_script.specs.Names.{policy_named, policy_name, op_named, op_name};
+ghost use Rattle.fixed_text.specs.Tokens.{tokens_of, next_by};
+
+/// A policy, by its name: `checked saturating wrapping overflowing strict`.
+#[derive(Clone, Copy, Debug, PartialEq, Eq)]
+pub enum Policy {
+    Checked,
+    Saturating,
+    Wrapping,
+    Overflowing,
+    Strict,
+}
+
+/// An operation, by its name, which is the variant's in snake case.
+#[derive(Clone, Copy, Debug, PartialEq, Eq)]
+pub enum Op {
+    Neg,
+    Add,
+    Sub,
+    Mul,
+    Div,
+    Recip,
+    MulAdd,
+    AddProd,
+    MulInt,
+    DivInt,
+    DivEuclid,
+    DivEuclidInt,
+    RemEuclidInt,
+    NextMultipleOf,
+    Dist,
+    Sqrt,
+    Abs,
+    Signum,
+    Rem,
+    RemInt,
+    RemEuclid,
+    NextPowerOfTwo,
+}
+
+/// The policy of that name.
+pub(crate) fn policy_of(token: &[u8]) -> Option<Policy>
+    ensures { result ≡ policy_named token.now }
+{
+    if token == b"checked".as_slice() {
+        Some(Policy::Checked)
+    } else if token == b"saturating".as_slice() {
+        Some(Policy::Saturating)
+    } else if token == b"wrapping".as_slice() {
+        Some(Policy::Wrapping)
+    } else if token == b"overflowing".as_slice() {
+        Some(Policy::Overflowing)
+    } else if token == b"strict".as_slice() {
+        Some(Policy::Strict)
+    } else {
+        None
+    }
+}
+
+/// Whether the bytes are those of the name. All are looked at, so that they are compared at once.
+#[inline(always)]
+fn is_name(bytes: &[u8], name: &[u8]) -> bool
+    requires { length bytes.now ≡ length name.now }
+    ensures { result ≡ true → bytes.now ≡ name.now }
+{
+    let mut same = true;
+    for (at, byte) in name.iter().enumerate() {
+        same &= bytes[at] == *byte;
+    }
+    same
+}
+
+/// What comes after a name that stands in front.
+#[inline(always)]
+fn after<'a>(bytes: &'a [u8], name: &[u8]) -> Option<&'a [u8]>
+    ensures { IfSome result (λ rest. bytes.now ≡ name.now ++ rest.now) }
+{
+    if bytes.len() >= name.len() && is_name(&bytes[..name.len()], name) {
+        Some(&bytes[name.len()..])
+    } else {
+        None
+    }
+}
+
+/// The policy that is the first token, and what comes after its space. None also where no space comes
+/// after it.
+#[inline(always)]
+pub(crate) fn front_policy(bytes: &[u8]) -> Option<(Policy, &[u8])>
+    ensures { IfSome result (λ found. tokens_of bytes.now
+        ≡ policy_name found.0 ∷ tokens_of found.1.now) }
+{
+    if let Some(rest) = after(bytes, b"checked ") {
+        Some((Policy::Checked, rest))
+    } else if let Some(rest) = after(bytes, b"wrapping ") {
+        Some((Policy::Wrapping, rest))
+    } else if let Some(rest) = after(bytes, b"overflowing ") {
+        Some((Policy::Overflowing, rest))
+    } else if let Some(rest) = after(bytes, b"saturating ") {
+        Some((Policy::Saturating, rest))
+    } else if let Some(rest) = after(bytes, b"strict ") {
+        Some((Policy::Strict, rest))
+    } else {
+        None
+    }
+}
+
+/// The operation of that name.
+pub(crate) fn op_of(token: &[u8]) -> Option<Op>
+    ensures { result ≡ op_named token.now }
+{
+    if token == b"neg".as_slice() {
+        Some(Op::Neg)
+    } else if token == b"add".as_slice() {
+        Some(Op::Add)
+    } else if token == b"sub".as_slice() {
+        Some(Op::Sub)
+    } else if token == b"mul".as_slice() {
+        Some(Op::Mul)
+    } else if token == b"div".as_slice() {
+        Some(Op::Div)
+    } else if token == b"recip".as_slice() {
+        Some(Op::Recip)
+    } else if token == b"mul_add".as_slice() {
+        Some(Op::MulAdd)
+    } else if token == b"add_prod".as_slice() {
+        Some(Op::AddProd)
+    } else if token == b"mul_int".as_slice() {
+        Some(Op::MulInt)
+    } else if token == b"div_int".as_slice() {
+        Some(Op::DivInt)
+    } else if token == b"div_euclid".as_slice() {
+        Some(Op::DivEuclid)
+    } else if token == b"div_euclid_int".as_slice() {
+        Some(Op::DivEuclidInt)
+    } else if token == b"rem_euclid_int".as_slice() {
+        Some(Op::RemEuclidInt)
+    } else if token == b"next_multiple_of".as_slice() {
+        Some(Op::NextMultipleOf)
+    } else if token == b"dist".as_slice() {
+        Some(Op::Dist)
+    } else if token == b"sqrt".as_slice() {
+        Some(Op::Sqrt)
+    } else if token == b"abs".as_slice() {
+        Some(Op::Abs)
+    } else if token == b"signum".as_slice() {
+        Some(Op::Signum)
+    } else if token == b"rem".as_slice() {
+        Some(Op::Rem)
+    } else if token == b"rem_int".as_slice() {
+        Some(Op::RemInt)
+    } else if token == b"rem_euclid".as_slice() {
+        Some(Op::RemEuclid)
+    } else if token == b"next_power_of_two".as_slice() {
+        Some(Op::NextPowerOfTwo)
+    } else {
+        None
+    }
+}
+
+/// The operation that is the first token, if its name has so many bytes, and what comes after its space.
+#[inline(always)]
+fn front_op_of(bytes: &[u8], length: usize) -> Option<(Op, &[u8])>
+    ensures { IfSome result (λ found. next_by op_named (tokens_of bytes.now)
+        ≡ Some (found.0, tokens_of found.1.now)) }
+{
+    if bytes.len() <= length || bytes[length] != b' ' {
+        return None;
+    }
+    let op = op_of(&bytes[..length])?;
+    Some((op, &bytes[length + 1..]))
+}
+
+/// The operation that is the first token, and what comes after its space. None also where the name has
+/// another length than the most common ones.
+#[inline(always)]
+pub(crate) fn front_op(bytes: &[u8]) -> Option<(Op, &[u8])>
+    ensures { IfSome result (λ found. next_by op_named (tokens_of bytes.now)
+        ≡ Some (found.0, tokens_of found.1.now)) }
+{
+    if let Some(found) = front_op_of(bytes, 3) {
+        Some(found)
+    } else if let Some(found) = front_op_of(bytes, 4) {
+        Some(found)
+    } else if let Some(found) = front_op_of(bytes, 7) {
+        Some(found)
+    } else {
+        front_op_of(bytes, 8)
+    }
+}

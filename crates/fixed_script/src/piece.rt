@@ -1,0 +1,27 @@
+//! The line, and the header, of a piece, which ends in a newline.
+
+ghost use Rattle.fixed_script.specs.Readings.{LineTells, HeaderTells};
+
+use crate::header::{Header, parse_header};
+use crate::line::{Line, parse_line};
+use fixed_text::body_of;
+
+/// The line of a piece.
+pub fn line_of_piece(piece: &[u8]) -> Option<Line>
+    ensures { LineTells piece.now result }
+{
+    match body_of(piece) {
+        Some(body) => parse_line(body),
+        None => None,
+    }
+}
+
+/// The header of a piece.
+pub fn header_of_piece(piece: &[u8]) -> Option<Header<'_>>
+    ensures { HeaderTells piece.now result }
+{
+    match body_of(piece) {
+        Some(body) => parse_header(body),
+        None => None,
+    }
+}

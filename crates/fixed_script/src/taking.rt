@@ -1,0 +1,95 @@
+//! The tokens of a line, taken one after another.
+
+ghost use Rattle.std.specs.Prelude.{◌≡◌, ◌∷◌, IfSome, IfNone, Some, None};
+ghost use Rattle.fixed_text.specs.Tokens.{tokens_of, tokens_left, next_by};
+ghost use Rattle.fixed_script.specs.Names.{op_named, policy_name};
+ghost use Rattle.fixed_script.specs.inside.Parser.{register_at, literal_at};
+
+use crate::literal::{Literal, front_literal, literal_of};
+use crate::names::{Op, Policy, front_op, front_policy, op_of};
+use crate::registers::{front_register, front_short_register, register_of};
+use fixed_text::{Tokens, cut};
+
+/// The register that is the first token, and what comes after its space.
+#[inline(never)]
+fn register_in(piece: &[u8]) -> Option<(u128, Option<&[u8]>)>
+    ensures some { IfSome result
+        (λ found. next_by register_at (tokens_of piece.now) ≡ Some (found.0, tokens_left found.1)) }
+    ensures none { IfNone result (next_by register_at (tokens_of piece.now) ≡ None) }
+{
+    if let Some((number, rest)) = front_register(piece) {
+        return Some((u128::from(number), rest));
+    }
+    let (token, rest) = cut(piece);
+    let number = register_of(token)?;
+    Some((number, rest))
+}
+
+/// The whole number that is the first token, and what comes after its space.
+#[inline(never)]
+fn literal_in(piece: &[u8]) -> Option<(Literal, Option<&[u8]>)>
+    ensures some { IfSome result
+        (λ found. next_by literal_at (tokens_of piece.now) ≡ Some (found.0, tokens_left found.1)) }
+    ensures none { IfNone result (next_by literal_at (tokens_of piece.now) ≡ None) }
+{
+    if let Some(found) = front_literal(piece) {
+        return Some(found);
+    }
+    let (token, rest) = cut(piece);
+    let literal = literal_of(token)?;
+    Some((literal, rest))
+}
+
+/// Takes the next token, a register.
+#[inline(always)]
+pub(crate) fn take_register(tokens: &mut Tokens<'_>) -> Option<u128>
+    ensures some { IfSome result (λ n. next_by register_at tokens.old ≡ Some (n, tokens.new)) }
+    ensures none { IfNone result (next_by register_at tokens.old ≡ None) }
+{
+    let piece = tokens.rest()?;
+    if let Some((number, rest)) = front_short_register(piece) {
+        tokens.go_on(rest);
+        return Some(u128::from(number));
+    }
+    let (number, rest) = register_in(piece)?;
+    tokens.go_on(rest);
+    Some(number)
+}
+
+/// Takes the next token, a whole number.
+#[inline(always)]
+pub(crate) fn take_literal(tokens: &mut Tokens<'_>) -> Option<Literal>
+    ensures some { IfSome result (λ n. next_by literal_at tokens.old ≡ Some (n, tokens.new)) }
+    ensures none { IfNone result (next_by literal_at tokens.old ≡ None) }
+{
+    let piece = tokens.rest()?;
+    let (literal, rest) = literal_in(piece)?;
+    tokens.go_on(rest);
+    Some(literal)
+}
+
+/// Takes the next token, if it is a policy.
+#[inline(always)]
+pub(crate) fn take_policy(tokens: &mut Tokens<'_>) -> Option<Policy>
+    ensures some { IfSome result (λ policy. tokens.old ≡ policy_name policy ∷ tokens.new) }
+    ensures none { IfNone result (tokens.new ≡ tokens.old) }
+{
+    let piece = tokens.rest()?;
+    let (policy, rest) = front_policy(piece)?;
+    tokens.go_on(Some(rest));
+    Some(policy)
+}
+
+/// Takes the next token, an operation.
+#[inline(always)]
+pub(crate) fn take_op(tokens: &mut Tokens<'_>) -> Option<Op>
+    ensures some { IfSome result (λ n. next_by op_named tokens.old ≡ Some (n, tokens.new)) }
+    ensures none { IfNone result (next_by op_named tokens.old ≡ None) }
+{
+    let piece = tokens.rest()?;
+    if let Some((op, rest)) = front_op(piece) {
+        tokens.go_on(Some(rest));
+        return Some(op);
+    }
+    op_of(tokens.take()?)
+}

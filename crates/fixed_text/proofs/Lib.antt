@@ -1,0 +1,13 @@
+pub mod Capping
+pub mod Free
+pub mod Cuts
+pub mod Decimals
+pub mod Steps
+pub mod Fronts
+pub mod Joined
+pub mod Cutting
+pub mod Shown
+pub mod Placed
+pub mod Pairs
+pub mod Lengths
+pub mod Lacking

@@ -1,0 +1,4 @@
+pub mod Numerals
+pub mod Tokens
+pub mod Words
+pub mod inside

@@ -1,0 +1,23 @@
+-- The names of the words.
+use Rattle.std.specs.Prelude.{ℕ, List, [], ◌∷◌, Option, Some, None, if◌then◌else◌, codes}
+use Rattle.std.specs.Str.{bytes_eq}
+use Rattle.fixed_text.specs.declared.names.WordName.{WordName}
+use Rattle.fixed_text.specs.declared.names.WordName.TheVariants.{I8, I16, I32, I64, U8, U16, U32, U64}
+
+abbrev pub word_name : WordName → List ℕ
+word_name I8 = codes "i8"
+word_name I16 = codes "i16"
+word_name I32 = codes "i32"
+word_name I64 = codes "i64"
+word_name U8 = codes "u8"
+word_name U16 = codes "u16"
+word_name U32 = codes "u32"
+word_name U64 = codes "u64"
+
+-- the first of the values whose name the text is
+abbrev pub named : {X : Type 0} → (X → List ℕ) → List X → List ℕ → Option X
+named name [] text = None
+named name (x ∷ xs) text = if bytes_eq text (name x) then Some x else named name xs text
+
+abbrev pub word_named : List ℕ → Option WordName
+word_named = named word_name (I8 ∷ I16 ∷ I32 ∷ I64 ∷ U8 ∷ U16 ∷ U32 ∷ U64 ∷ [])

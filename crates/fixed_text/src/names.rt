@@ -1,0 +1,42 @@
+//! The names that a script gives to words.
+
+ghost use Rattle.std.specs.Prelude.{◌≡◌};
+ghost use Rattle.fixed_text.specs.Words.{word_named};
+
+/// The word of a script, by its name: `i8 i16 i32 i64 u8 u16 u32 u64`.
+#[derive(Clone, Copy, Debug, PartialEq, Eq)]
+pub enum WordName {
+    I8,
+    I16,
+    I32,
+    I64,
+    U8,
+    U16,
+    U32,
+    U64,
+}
+
+/// The word of that name.
+pub fn word_of(token: &[u8]) -> Option<WordName>
+    ensures { result ≡ word_named token.now }
+{
+    if token == b"i8".as_slice() {
+        Some(WordName::I8)
+    } else if token == b"i16".as_slice() {
+        Some(WordName::I16)
+    } else if token == b"i32".as_slice() {
+        Some(WordName::I32)
+    } else if token == b"i64".as_slice() {
+        Some(WordName::I64)
+    } else if token == b"u8".as_slice() {
+        Some(WordName::U8)
+    } else if token == b"u16".as_slice() {
+        Some(WordName::U16)
+    } else if token == b"u32".as_slice() {
+        Some(WordName::U32)
+    } else if token == b"u64".as_slice() {
+        Some(WordName::U64)
+    } else {
+        None
+    }
+}

@@ -1,0 +1,490 @@
+//! Integers in which products and quotients of words have room.
+
+ghost use Rattle.std.specs.Prelude.{◌≡◌, ◌≢◌, ◌↔◌, ◌<◌, ◌^◌, ◌+ℤ◌, ◌-ℤ◌, ◌*ℤ◌, ◌<ℤ◌, ℕ, ℤ, Bool, true, false, IsTrue, pos};
+ghost use Rattle.fixed_word.specs.Format.{InRange, wrap};
+ghost use Rattle.fixed_word.specs.Quotient.{euclidean_quotient, euclidean_remainder, floor_quotient, truncated_quotient};
+ghost use Rattle.fixed_word.specs.inside.WordLaws.{signed_eq, unsigned_eq};
+
+use crate::word::Valued;
+
+/// An integer of n bits, in which words are multiplied and divided (this project's own).
+pub trait Integer: Valued + Eq {
+    ghost SIGNED: { Bool };
+
+    /// Whether the value is below 0.
+    fn is_below_zero(self) -> bool
+        ensures { IsTrue result ↔ (Self.value self <ℤ pos 0) };
+
+    /// The sum. Condition: it is in the range.
+    fn plus(self, other: Self) -> Self
+        requires { InRange SIGNED Self.BITS (Self.value self +ℤ Self.value other) }
+        ensures { Self.value result ≡ Self.value self +ℤ Self.value other };
+
+    /// The product. Condition: it is in the range.
+    fn times(self, other: Self) -> Self
+        requires { InRange SIGNED Self.BITS (Self.value self *ℤ Self.value other) }
+        ensures { Self.value result ≡ Self.value self *ℤ Self.value other };
+
+    /// The value times `2^by`. Condition: that is in the range, and `by` is below n.
+    fn scaled(self, by: u32) -> Self
+        requires by { by < Self.BITS }
+        requires room { InRange SIGNED Self.BITS (Self.value self *ℤ pos (2 ^ by)) }
+        ensures { Self.value result ≡ Self.value self *ℤ pos (2 ^ by) };
+
+    /// The value over `2^by`, rounded down. Condition: `by` is below n.
+    fn floored(self, by: u32) -> Self
+        requires { by < Self.BITS }
+        ensures { Self.value result ≡ floor_quotient (Self.value self) (2 ^ by) };
+
+    /// The quotient, rounded toward zero, without what lies past the width: that of the least number by -1.
+    /// Condition: the divisor is not 0.
+    fn over(self, divisor: Self) -> Self
+        requires { Self.value divisor ≢ pos 0 }
+        ensures { Self.value result
+            ≡ wrap SIGNED Self.BITS (truncated_quotient (Self.value self) (Self.value divisor)) };
+
+    /// The remainder of that quotient. Condition: the divisor is not 0.
+    fn remainder(self, divisor: Self) -> Self
+        requires { Self.value divisor ≢ pos 0 }
+        ensures { Self.value result
+            ≡ Self.value self
+            -ℤ Self.value divisor *ℤ truncated_quotient (Self.value self) (Self.value divisor) };
+
+    /// The quotient of the Euclidean pair. Condition: it is in the range, and the divisor is not 0.
+    fn euclid_quotient(self, divisor: Self) -> Self
+        requires divisor { Self.value divisor ≢ pos 0 }
+        requires room { InRange SIGNED Self.BITS
+            (euclidean_quotient (Self.value self) (Self.value divisor)) }
+        ensures { Self.value result ≡ euclidean_quotient (Self.value self) (Self.value divisor) };
+
+    /// The remainder of the Euclidean pair. Condition: the divisor is not 0.
+    fn euclid_remainder(self, divisor: Self) -> Self
+        requires { Self.value divisor ≢ pos 0 }
+        ensures { Self.value result ≡ euclidean_remainder (Self.value self) (Self.value divisor) };
+
+    ghost eq_law: { (x y : Self) → IsTrue (Self.eq x y) ↔ (Self.value x ≡ Self.value y) };
+}
+
+impl Integer for u16 {
+    ghost SIGNED = { false };
+
+    #[inline]
+    fn is_below_zero(self) -> bool {
+        false
+    }
+
+    #[inline]
+    fn plus(self, other: u16) -> u16 {
+        self + other
+    }
+
+    #[inline]
+    fn times(self, other: u16) -> u16 {
+        self * other
+    }
+
+    #[inline]
+    fn scaled(self, by: u32) -> u16 {
+        self << by
+    }
+
+    #[inline]
+    fn floored(self, by: u32) -> u16 {
+        self >> by
+    }
+
+    #[inline]
+    fn over(self, divisor: u16) -> u16 {
+        self / divisor
+    }
+
+    #[inline]
+    fn remainder(self, divisor: u16) -> u16 {
+        self % divisor
+    }
+
+    #[inline]
+    fn euclid_quotient(self, divisor: u16) -> u16 {
+        self / divisor
+    }
+
+    #[inline]
+    fn euclid_remainder(self, divisor: u16) -> u16 {
+        self % divisor
+    }
+
+    ghost eq_law = { unsigned_eq };
+}
+
+impl Integer for i16 {
+    ghost SIGNED = { true };
+
+    #[inline]
+    fn is_below_zero(self) -> bool {
+        self < 0
+    }
+
+    #[inline]
+    fn plus(self, other: i16) -> i16 {
+        self + other
+    }
+
+    #[inline]
+    fn times(self, other: i16) -> i16 {
+        self * other
+    }
+
+    #[inline]
+    fn scaled(self, by: u32) -> i16 {
+        self << by
+    }
+
+    #[inline]
+    fn floored(self, by: u32) -> i16 {
+        self >> by
+    }
+
+    #[inline]
+    fn over(self, divisor: i16) -> i16 {
+        self.wrapping_div(divisor)
+    }
+
+    #[inline]
+    fn remainder(self, divisor: i16) -> i16 {
+        self.wrapping_rem(divisor)
+    }
+
+    #[inline]
+    fn euclid_quotient(self, divisor: i16) -> i16 {
+        self.wrapping_div_euclid(divisor)
+    }
+
+    #[inline]
+    fn euclid_remainder(self, divisor: i16) -> i16 {
+        self.wrapping_rem_euclid(divisor)
+    }
+
+    ghost eq_law = { signed_eq };
+}
+
+impl Integer for u32 {
+    ghost SIGNED = { false };
+
+    #[inline]
+    fn is_below_zero(self) -> bool {
+        false
+    }
+
+    #[inline]
+    fn plus(self, other: u32) -> u32 {
+        self + other
+    }
+
+    #[inline]
+    fn times(self, other: u32) -> u32 {
+        self * other
+    }
+
+    #[inline]
+    fn scaled(self, by: u32) -> u32 {
+        self << by
+    }
+
+    #[inline]
+    fn floored(self, by: u32) -> u32 {
+        self >> by
+    }
+
+    #[inline]
+    fn over(self, divisor: u32) -> u32 {
+        self / divisor
+    }
+
+    #[inline]
+    fn remainder(self, divisor: u32) -> u32 {
+        self % divisor
+    }
+
+    #[inline]
+    fn euclid_quotient(self, divisor: u32) -> u32 {
+        self / divisor
+    }
+
+    #[inline]
+    fn euclid_remainder(self, divisor: u32) -> u32 {
+        self % divisor
+    }
+
+    ghost eq_law = { unsigned_eq };
+}
+
+impl Integer for i32 {
+    ghost SIGNED = { true };
+
+    #[inline]
+    fn is_below_zero(self) -> bool {
+        self < 0
+    }
+
+    #[inline]
+    fn plus(self, other: i32) -> i32 {
+        self + other
+    }
+
+    #[inline]
+    fn times(self, other: i32) -> i32 {
+        self * other
+    }
+
+    #[inline]
+    fn scaled(self, by: u32) -> i32 {
+        self << by
+    }
+
+    #[inline]
+    fn floored(self, by: u32) -> i32 {
+        self >> by
+    }
+
+    #[inline]
+    fn over(self, divisor: i32) -> i32 {
+        self.wrapping_div(divisor)
+    }
+
+    #[inline]
+    fn remainder(self, divisor: i32) -> i32 {
+        self.wrapping_rem(divisor)
+    }
+
+    #[inline]
+    fn euclid_quotient(self, divisor: i32) -> i32 {
+        self.wrapping_div_euclid(divisor)
+    }
+
+    #[inline]
+    fn euclid_remainder(self, divisor: i32) -> i32 {
+        self.wrapping_rem_euclid(divisor)
+    }
+
+    ghost eq_law = { signed_eq };
+}
+
+impl Integer for u64 {
+    ghost SIGNED = { false };
+
+    #[inline]
+    fn is_below_zero(self) -> bool {
+        false
+    }
+
+    #[inline]
+    fn plus(self, other: u64) -> u64 {
+        self + other
+    }
+
+    #[inline]
+    fn times(self, other: u64) -> u64 {
+        self * other
+    }
+
+    #[inline]
+    fn scaled(self, by: u32) -> u64 {
+        self << by
+    }
+
+    #[inline]
+    fn floored(self, by: u32) -> u64 {
+        self >> by
+    }
+
+    #[inline]
+    fn over(self, divisor: u64) -> u64 {
+        self / divisor
+    }
+
+    #[inline]
+    fn remainder(self, divisor: u64) -> u64 {
+        self % divisor
+    }
+
+    #[inline]
+    fn euclid_quotient(self, divisor: u64) -> u64 {
+        self / divisor
+    }
+
+    #[inline]
+    fn euclid_remainder(self, divisor: u64) -> u64 {
+        self % divisor
+    }
+
+    ghost eq_law = { unsigned_eq };
+}
+
+impl Integer for i64 {
+    ghost SIGNED = { true };
+
+    #[inline]
+    fn is_below_zero(self) -> bool {
+        self < 0
+    }
+
+    #[inline]
+    fn plus(self, other: i64) -> i64 {
+        self + other
+    }
+
+    #[inline]
+    fn times(self, other: i64) -> i64 {
+        self * other
+    }
+
+    #[inline]
+    fn scaled(self, by: u32) -> i64 {
+        self << by
+    }
+
+    #[inline]
+    fn floored(self, by: u32) -> i64 {
+        self >> by
+    }
+
+    #[inline]
+    fn over(self, divisor: i64) -> i64 {
+        self.wrapping_div(divisor)
+    }
+
+    #[inline]
+    fn remainder(self, divisor: i64) -> i64 {
+        self.wrapping_rem(divisor)
+    }
+
+    #[inline]
+    fn euclid_quotient(self, divisor: i64) -> i64 {
+        self.wrapping_div_euclid(divisor)
+    }
+
+    #[inline]
+    fn euclid_remainder(self, divisor: i64) -> i64 {
+        self.wrapping_rem_euclid(divisor)
+    }
+
+    ghost eq_law = { signed_eq };
+}
+
+impl Valued for u128 {
+    const BITS: u32 = 128;
+
+    ghost BITS = { 128 };
+
+    ghost value = { λ x. pos x };
+}
+
+impl Integer for u128 {
+    ghost SIGNED = { false };
+
+    #[inline]
+    fn is_below_zero(self) -> bool {
+        false
+    }
+
+    #[inline]
+    fn plus(self, other: u128) -> u128 {
+        self + other
+    }
+
+    #[inline]
+    fn times(self, other: u128) -> u128 {
+        self * other
+    }
+
+    #[inline]
+    fn scaled(self, by: u32) -> u128 {
+        self << by
+    }
+
+    #[inline]
+    fn floored(self, by: u32) -> u128 {
+        self >> by
+    }
+
+    #[inline]
+    fn over(self, divisor: u128) -> u128 {
+        self / divisor
+    }
+
+    #[inline]
+    fn remainder(self, divisor: u128) -> u128 {
+        self % divisor
+    }
+
+    #[inline]
+    fn euclid_quotient(self, divisor: u128) -> u128 {
+        self / divisor
+    }
+
+    #[inline]
+    fn euclid_remainder(self, divisor: u128) -> u128 {
+        self % divisor
+    }
+
+    ghost eq_law = { unsigned_eq };
+}
+
+impl Valued for i128 {
+    const BITS: u32 = 128;
+
+    ghost BITS = { 128 };
+
+    ghost value = { λ x. x };
+}
+
+impl Integer for i128 {
+    ghost SIGNED = { true };
+
+    #[inline]
+    fn is_below_zero(self) -> bool {
+        self < 0
+    }
+
+    #[inline]
+    fn plus(self, other: i128) -> i128 {
+        self + other
+    }
+
+    #[inline]
+    fn times(self, other: i128) -> i128 {
+        self * other
+    }
+
+    #[inline]
+    fn scaled(self, by: u32) -> i128 {
+        self << by
+    }
+
+    #[inline]
+    fn floored(self, by: u32) -> i128 {
+        self >> by
+    }
+
+    #[inline]
+    fn over(self, divisor: i128) -> i128 {
+        self.wrapping_div(divisor)
+    }
+
+    #[inline]
+    fn remainder(self, divisor: i128) -> i128 {
+        self.wrapping_rem(divisor)
+    }
+
+    #[inline]
+    fn euclid_quotient(self, divisor: i128) -> i128 {
+        self.wrapping_div_euclid(divisor)
+    }
+
+    #[inline]
+    fn euclid_remainder(self, divisor: i128) -> i128 {
+        self.wrapping_rem_euclid(divisor)
+    }
+
+    ghost eq_law = { signed_eq };
+}

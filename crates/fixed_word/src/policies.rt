@@ -1,0 +1,71 @@
+//! What each policy makes of the number that an outcome stands for, whichever that is (this project's own).
+
+ghost use Rattle.std.specs.Prelude.{◌≡◌, ℤ, Some, option_map};
+ghost use Rattle.fixed_word.specs.declared.outcome.Side.TheVariants.{Above, Below};
+ghost use Rattle.fixed_word.specs.Format.{highest, lowest};
+ghost use Rattle.fixed_word.specs.Standing.{StandsFor};
+ghost use Rattle.fixed_word.specs.Policies.{checked, overflowing, wrapping, saturating, strict};
+
+use crate::outcome::{Outcome, Side};
+use crate::word::Word;
+
+/// The number, and None exactly where it does not fit.
+pub fn checked_of<T: Word>(outcome: Outcome<T>) -> Option<T>
+    ensures { (x : ℤ) → StandsFor T.value T.SIGNED T.BITS x outcome
+        → option_map T.value result ≡ checked T.SIGNED T.BITS (Some x) }
+{
+    match outcome.side {
+        Side::Fits => Some(outcome.wrapped),
+        Side::Above | Side::Below => None,
+    }
+}
+
+/// The number that fits and differs by a multiple of `2^n`, and whether the number does not fit.
+pub fn overflowing_of<T: Word>(outcome: Outcome<T>) -> (T, bool)
+    ensures { (x : ℤ) → StandsFor T.value T.SIGNED T.BITS x outcome
+        → Some (T.value result.0, result.1) ≡ overflowing T.SIGNED T.BITS (Some x) }
+{
+    (outcome.wrapped, outcome.side != Side::Fits)
+}
+
+/// The number that fits and differs by a multiple of `2^n`.
+pub fn wrapping_of<T: Word>(outcome: Outcome<T>) -> T
+    ensures { (x : ℤ) → StandsFor T.value T.SIGNED T.BITS x outcome
+        → Some (T.value result) ≡ wrapping T.SIGNED T.BITS (Some x) }
+{
+    overflowing_of(outcome).0
+}
+
+/// The end of the range on the side of a number that does not fit.
+#[inline]
+fn end_of<T: Word>(side: Side) -> T
+    ensures below { side ≡ Below → T.value result ≡ lowest T.SIGNED T.BITS }
+    ensures above { side ≡ Above → T.value result ≡ highest T.SIGNED T.BITS }
+{
+    match side {
+        Side::Below => T::MIN,
+        _ => T::MAX,
+    }
+}
+
+/// The number that fits and is nearest. The end is at hand before it is known whether the number fits, so
+/// that loops choose without a jump.
+pub fn saturating_of<T: Word>(outcome: Outcome<T>) -> T
+    ensures { (x : ℤ) → StandsFor T.value T.SIGNED T.BITS x outcome
+        → Some (T.value result) ≡ saturating T.SIGNED T.BITS (Some x) }
+{
+    let end: T = end_of(outcome.side);
+    match outcome.side {
+        Side::Fits => outcome.wrapped,
+        _ => end,
+    }
+}
+
+/// The number, which has to fit.
+pub fn strict_of<T: Word>(outcome: Outcome<T>) -> T
+    requires { outcome.side ≡ Side.Fits }
+    ensures { (x : ℤ) → StandsFor T.value T.SIGNED T.BITS x outcome
+        → Some (T.value result) ≡ strict (Some x) }
+{
+    outcome.wrapped
+}
