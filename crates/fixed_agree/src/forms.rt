@@ -1,16 +1,24 @@
 //! Four forms of one operation on the same operands, and how their answers agree.
 #![tactic(auto, unfolding(fixed_calc::specs::Offered::is_offered))]
 
-ghost use Rattle.std.specs.Prelude.{◌≡◌, ◌≤◌, IsSome, true};
+ghost use Rattle.std.specs.Prelude.{◌≡◌, ◌≤◌, ◌%◌, ◌^◌, ◌*ℤ◌, pos, IsSome, Some, true};
 ghost use Rattle.fixed_calc.specs.Machine.{row_of};
 ghost use Rattle.fixed_calc.specs.Offered.{is_offered};
 ghost use Rattle.fixed_agree.specs.Agreement.{IsBinary, IsByInteger, IsOfferedOnBoth, IsUnary, one_operand, three_operands, two_operands, with_integer};
-ghost use Rattle.fixed_agree.specs.Forms.{FormsAgree};
+ghost use Rattle.fixed_agree.specs.Forms.{FormsAgree, ShiftsAgree};
+ghost use Rattle.fixed_kernel.specs.Rows.{exact_add, exact_add_prod, exact_sub};
+ghost use Rattle.fixed_word.specs.Format.{wrap};
+ghost use Rattle.fixed_word.specs.Quotient.{floor_quotient};
 
+use crate::answers::{bits_of, bits_or_absent, flagged_of};
 use crate::{checked, overflowing, saturating, wrapping};
 use fixed_calc::{Answer, Op, Policy};
 use fixed_num::Fixed;
-use fixed_word::{SignedWord, Word};
+use fixed_policy::{Checked, CheckedProducts, CheckedSigned, CheckedUnsigned};
+use fixed_policy::{Overflowing, OverflowingProducts, OverflowingSigned, OverflowingUnsigned};
+use fixed_policy::{Wrapping, WrappingProducts, WrappingSigned, WrappingUnsigned};
+use fixed_strict::{SaturatingProducts, SaturatingSigned, SaturatingUnsigned};
+use fixed_word::{SignedWord, UnsignedWord, Word};
 
 /// The answers of four policies on the same operands.
 #[derive(Clone, Copy, Debug, PartialEq, Eq)]
@@ -126,5 +134,118 @@ pub fn add_prod<T: Word, const F: u32, const A: u32, const B: u32>(
         overflowing: overflowing::add_prod(sum, a, b),
         wrapping: wrapping::add_prod(sum, a, b),
         saturating: saturating::add_prod(sum, a, b),
+    }
+}
+
+/// The forms of an accumulator that takes the product of `a` and `b`: what each leaves in it. Checked leaves
+/// no value where it answers None.
+pub fn mul_acc<T: Word, const F: u32, const A: u32, const B: u32>(
+    sum: Fixed<T, F>,
+    a: Fixed<T, A>,
+    b: Fixed<T, B>,
+) -> Forms
+    requires fraction { F ≤ T.BITS }
+    requires a { A ≤ T.BITS }
+    requires b { B ≤ T.BITS }
+    ensures { FormsAgree T.SIGNED T.BITS (Some
+        (exact_add_prod (T.value sum.bits) (T.value a.bits) (T.value b.bits) F A B)) result }
+{
+    let (mut checked, mut overflowing, mut wrapping, mut saturating) = (sum, sum, sum, sum);
+    let kept = checked.checked_mul_acc(a, b).map(|_| checked);
+    let verdict = overflowing.overflowing_mul_acc(a, b);
+    wrapping.wrapping_mul_acc(a, b);
+    saturating.saturating_mul_acc(a, b);
+    Forms {
+        checked: bits_or_absent(kept),
+        overflowing: flagged_of((overflowing, verdict)),
+        wrapping: bits_of(wrapping),
+        saturating: bits_of(saturating),
+    }
+}
+
+/// The forms of the sum of an unsigned number and a signed one.
+pub fn add_signed<T: UnsignedWord, const F: u32>(a: Fixed<T, F>, b: Fixed<T::Signed, F>) -> Forms
+    ensures { FormsAgree T.SIGNED T.BITS
+        (Some (exact_add (T.value a.bits) (T.Signed.value b.bits))) result }
+{
+    Forms {
+        checked: bits_or_absent(a.checked_add_signed(b)),
+        overflowing: flagged_of(a.overflowing_add_signed(b)),
+        wrapping: bits_of(a.wrapping_add_signed(b)),
+        saturating: bits_of(a.saturating_add_signed(b)),
+    }
+}
+
+/// The forms of an unsigned number minus a signed one.
+pub fn sub_signed<T: UnsignedWord, const F: u32>(a: Fixed<T, F>, b: Fixed<T::Signed, F>) -> Forms
+    ensures { FormsAgree T.SIGNED T.BITS
+        (Some (exact_sub (T.value a.bits) (T.Signed.value b.bits))) result }
+{
+    Forms {
+        checked: bits_or_absent(a.checked_sub_signed(b)),
+        overflowing: flagged_of(a.overflowing_sub_signed(b)),
+        wrapping: bits_of(a.wrapping_sub_signed(b)),
+        saturating: bits_of(a.saturating_sub_signed(b)),
+    }
+}
+
+/// The forms of the sum of a signed number and an unsigned one.
+pub fn add_unsigned<T: SignedWord, const F: u32>(a: Fixed<T, F>, b: Fixed<T::Unsigned, F>) -> Forms
+    ensures { FormsAgree T.SIGNED T.BITS
+        (Some (exact_add (T.value a.bits) (T.Unsigned.value b.bits))) result }
+{
+    Forms {
+        checked: bits_or_absent(a.checked_add_unsigned(b)),
+        overflowing: flagged_of(a.overflowing_add_unsigned(b)),
+        wrapping: bits_of(a.wrapping_add_unsigned(b)),
+        saturating: bits_of(a.saturating_add_unsigned(b)),
+    }
+}
+
+/// The forms of a signed number minus an unsigned one.
+pub fn sub_unsigned<T: SignedWord, const F: u32>(a: Fixed<T, F>, b: Fixed<T::Unsigned, F>) -> Forms
+    ensures { FormsAgree T.SIGNED T.BITS
+        (Some (exact_sub (T.value a.bits) (T.Unsigned.value b.bits))) result }
+{
+    Forms {
+        checked: bits_or_absent(a.checked_sub_unsigned(b)),
+        overflowing: flagged_of(a.overflowing_sub_unsigned(b)),
+        wrapping: bits_of(a.wrapping_sub_unsigned(b)),
+        saturating: bits_of(a.saturating_sub_unsigned(b)),
+    }
+}
+
+/// The answers of the three policies that shift on the same number.
+#[derive(Clone, Copy, Debug, PartialEq, Eq)]
+pub struct Shifts {
+    /// The moved number, or no value.
+    pub checked: Answer,
+    /// The moved number, and whether the places are the width or more.
+    pub overflowing: Answer,
+    /// The moved number.
+    pub wrapping: Answer,
+}
+
+/// The forms of a shift up by `by` places, modulo the width.
+pub fn shl<T: Word, const F: u32>(a: Fixed<T, F>, by: u32) -> Shifts
+    ensures { ShiftsAgree T.BITS by
+        (wrap T.SIGNED T.BITS (T.value a.bits *ℤ pos (2 ^ (by % T.BITS)))) result }
+{
+    Shifts {
+        checked: bits_or_absent(a.checked_shl(by)),
+        overflowing: flagged_of(a.overflowing_shl(by)),
+        wrapping: bits_of(a.wrapping_shl(by)),
+    }
+}
+
+/// The forms of a shift down by `by` places, modulo the width, rounded down.
+pub fn shr<T: Word, const F: u32>(a: Fixed<T, F>, by: u32) -> Shifts
+    ensures { ShiftsAgree T.BITS by
+        (floor_quotient (T.value a.bits) (2 ^ (by % T.BITS))) result }
+{
+    Shifts {
+        checked: bits_or_absent(a.checked_shr(by)),
+        overflowing: flagged_of(a.overflowing_shr(by)),
+        wrapping: bits_of(a.wrapping_shr(by)),
     }
 }

@@ -1,6 +1,6 @@
 //! The number type, its constants, and what the traits of calls name of it.
 
-ghost use Rattle.std.specs.Prelude.{◌≡◌, ◌≤◌, ◌-◌, ◌^◌, ◌↔◌, ℕ, ℤ, Bool, IsTrue, neg_ℤ, pos, refl};
+ghost use Rattle.std.specs.Prelude.{◌≡◌, ◌≤◌, ◌-◌, ◌^◌, ◌↔◌, ℕ, ℤ, Bool, IsTrue, false, neg_ℤ, pos, refl, true};
 ghost use Rattle.std.proofs.Common.{ap};
 ghost use Rattle.fixed_word.specs.Format.{InRange};
 
@@ -96,6 +96,19 @@ pub trait Number: Held {
     ghost SIGNED: { Bool };
 
     ghost BITS: { ℕ };
+
+    // sign and width are those of the bits, so that generic code has the laws of words, `width_law` among them
+    ghost sign_law: { SIGNED ≡ Self.Bits.SIGNED };
+
+    ghost bits_law: { BITS ≡ Self.Bits.BITS };
+
+    ghost unsigned_bits_law: { Self.Unsigned.Bits.BITS ≡ BITS };
+
+    ghost unsigned_is_unsigned_law: { Self.Unsigned.Bits.SIGNED ≡ false };
+
+    ghost signed_bits_law: { Self.Signed.Bits.BITS ≡ BITS };
+
+    ghost signed_is_signed_law: { Self.Signed.Bits.SIGNED ≡ true };
 }
 
 impl<T: RawWord, const F: u32> Fixed<T, F> {
@@ -126,6 +139,18 @@ impl<T: Word, const F: u32> Number for Fixed<T, F> {
     ghost SIGNED = { T.SIGNED };
 
     ghost BITS = { T.BITS };
+
+    ghost sign_law = { refl };
+
+    ghost bits_law = { refl };
+
+    ghost unsigned_bits_law = { T.unsigned_width_law };
+
+    ghost unsigned_is_unsigned_law = { T.unsigned_sign_law };
+
+    ghost signed_bits_law = { T.signed_width_law };
+
+    ghost signed_is_signed_law = { T.signed_sign_law };
 }
 
 impl<T: RawWord, const F: u32> Default for Fixed<T, F> {
