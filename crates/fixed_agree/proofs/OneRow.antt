@@ -19,7 +19,8 @@ value_where : (b : Bool) (x w : ℤ) → (b ≡ true → w ≡ x) → plain (if 
 value_where true x w e = ap (λ (y : ℤ). Bits y) (sym (e refl))
 value_where false x w e = refl
 
-of_row : (signed : Bool) (n : ℕ) (row : Option ℤ) (forms : Forms) → IsWidth n → IsSome row → forms.checked ≡ project Checked signed n row → forms.overflowing ≡ project Overflowing signed n row
+-- what four typed calls answer of a number that every policy has
+pub of_row : (signed : Bool) (n : ℕ) (row : Option ℤ) (forms : Forms) → IsWidth n → IsSome row → forms.checked ≡ project Checked signed n row → forms.overflowing ≡ project Overflowing signed n row
     → forms.wrapping ≡ project Wrapping signed n row → forms.saturating ≡ project Saturating signed n row → FormsAgree signed n row forms
 of_row signed n None forms w d c o r s = cc
 of_row signed n (Some x) forms w d c o r s = record {
