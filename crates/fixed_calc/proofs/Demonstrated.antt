@@ -17,39 +17,10 @@ use Rattle.fixed_script.specs.Lines.{line_of, header_of, then_of, line_of_piece,
 use Rattle.fixed_calc.specs.Machine.{State, Cell, cause, answer, move}
 use Rattle.fixed_calc.specs.Meaning.{Run, Output, Fault, by_cause, step_then, run_lines, run_of, start, zeros, fractions_of, meaning, meaning_with}
 use Rattle.fixed_calc.specs.Demo.{ended, demo_header, demo_lines, demo_text, answers_from, demo_answers}
-use Rattle.fixed_text.proofs.Decimals.{both}
-use Rattle.fixed_script.proofs.TextsRead.{reads_lines, reads_headers}
+use Rattle.fixed_calc.proofs.Ended.{pieces_ended, line_read, header_read}
 use Rattle.fixed_calc.proofs.Runs.{run_of_lines}
 use Rattle.fixed_text.proofs.Lacking.{lacks, naturals_lack, joined_lack}
 use Rattle.fixed_calc.proofs.Drawn.{IsReady, IsDrawn, stays_ready, lines_drawn}
-
--- ---- pieces
-differs : (x c : ℕ) (b : Bool) → eqb x c ≡ b → not b ≡ true → eqb x c ≡ false
-differs x c true is h = absurd (false≢true h)
-differs x c false is h = is
-
--- a text without a newline, and a newline
-pieces_ended : (t rest : List ℕ) → lacks 10 t ≡ true → pieces (t ++ (10 ∷ rest)) ≡ ended t ∷ pieces rest
-pieces_ended [] rest h = refl
-pieces_ended (x ∷ xs) rest h =
-    let parts = both (not (eqb x 10)) (lacks 10 xs) h in
-    ap (λ (b : Bool). if b then (10 ∷ []) ∷ pieces (xs ++ (10 ∷ rest)) else onto_first x (pieces (xs ++ (10 ∷ rest)))) (differs x 10 (eqb x 10) refl parts.0)
-    ∙ ap (onto_first x) (pieces_ended xs rest parts.1)
-
-body_ended : (t : List ℕ) → body (ended t) ≡ Some t
-body_ended t =
-    let back : length (t ++ (10 ∷ [])) - 1 ≡ length t = omega (arith, length-append t (10 ∷ [])) in
-    ap (λ n. if slice_index (ended t) n == 10 then Some (take n (ended t)) else None) back
-    ∙ ap (λ b. if b == 10 then Some (take (length t) (ended t)) else None) (get_or-append_seam t 10 [] 0)
-    ∙ ap Some (take-append_seam t (10 ∷ []))
-
-line_read : (l : ScriptLine) → IsLine l → line_of_piece (ended (line_text l)) ≡ Some l
-unfolding line_of_piece
-line_read l is = ap (λ o. then_of o line_of) (body_ended (line_text l)) ∙ (reads_lines (line_text l) l).1 (is, refl)
-
-header_read : (h : ScriptHeader) → header_of_piece (ended (header_text h)) ≡ Some h
-unfolding header_of_piece
-header_read h = ap (λ o. then_of o header_of) (body_ended (header_text h)) ∙ (reads_headers (header_text h) h).1 refl
 
 -- ---- lines
 abbrev ended_line : ScriptLine → List ℕ

@@ -8,6 +8,10 @@ pub mod Twice
 pub mod OneNumber
 pub mod Letters
 pub mod Drawn
+pub mod Ended
 pub mod Demonstrated
 pub mod Pushed
 pub mod Asked
+pub mod Wider
+pub mod WidenedRuns
+pub mod Headed

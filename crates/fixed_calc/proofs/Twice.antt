@@ -48,7 +48,7 @@ run_twice : (script : List ℕ) → IsTwice (pieces script) (run_of script)
 unfolding run_of
 run_twice script = pieces_twice (pieces script)
 
-output_of : (output bytes : List ℕ) (fault : Option Cause) → meaning_with output fault ≡ Output bytes → (fault ≡ None) × (output ≡ bytes)
+pub output_of : (output bytes : List ℕ) (fault : Option Cause) → meaning_with output fault ≡ Output bytes → (fault ≡ None) × (output ≡ bytes)
 output_of output bytes None e = (refl, cc)
 output_of output bytes (Some c) e = cc
 

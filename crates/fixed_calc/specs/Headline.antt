@@ -51,6 +51,15 @@ abbrev pub TookPrefixOf : Option (List ℕ) → Option (List ℕ) → Meaning �
 TookPrefixOf old new (Output bytes) = AppendsPrefix old new bytes
 TookPrefixOf old new (Fault cause) = Keeps old new
 
+-- no write was refused, or one was for want of memory
+abbrev pub IsUnrefusedOrShort : SinkState → SinkState → Type 0
+IsUnrefusedOrShort sink sink' =
+    ((sink'.faults ≡ sink.faults) × (sink'.shortages ≡ sink.shortages)) ⊎ RoseOrLast sink.shortages sink'.shortages
+
+-- a write failed, and none was refused for want of memory
+abbrev pub FaultsAlone : SinkState → SinkState → Type 0
+FaultsAlone sink sink' = (sink.faults < sink'.faults) × (sink'.shortages ≡ sink.shortages) × (sink'.shortages ≢ last_count)
+
 -- a count did not rise, and does not stand at its last value
 abbrev pub HasNoFault : ℕ → ℕ → Type 0
 HasNoFault before now = (now ≡ before) × (now ≢ last_count)
@@ -68,9 +77,11 @@ abbrev pub ScriptTells : SourceState → SourceState → Status → Type 0
 ScriptTells source source' status = (cause : Cause) → status ≡ Script cause →
     ReadWhole source.left source'.left (λ input. meaning input ≡ Fault cause) × (source'.faults ≡ source.faults)
 
--- ReadFault: only where the source's count rose in this call, or stands at its last value
+-- ReadFault: only where the source's count rose in this call, or stands at its last value; where it rose, no other
+-- status comes
 abbrev pub ReadFaultTells : SourceState → SourceState → Status → Type 0
-ReadFaultTells source source' status = status ≡ ReadFault → RoseOrLast source.faults source'.faults
+ReadFaultTells source source' status =
+    (status ≡ ReadFault → RoseOrLast source.faults source'.faults) × (source.faults < source'.faults → status ≡ ReadFault)
 
 -- TooLong: exactly where more than the limit was taken, and the source did not fail
 abbrev pub TooLongTells : SourceState → SourceState → Status → Type 0
@@ -79,16 +90,22 @@ TooLongTells source source' status =
     × (status ≡ TooLong → source'.faults ≡ source.faults)
 
 -- WriteFault: only where the sink's count rose in this call, or stands at its last value;
--- the script was read whole, its meaning is an output, and the sink took a prefix of it
+-- the script was read whole, its meaning is an output, and the sink took a prefix of it. Where that count alone rose,
+-- no other status comes
 abbrev pub WriteFaultTells : SourceState → SourceState → SinkState → SinkState → Status → Type 0
-WriteFaultTells source source' sink sink' status = status ≡ WriteFault →
+WriteFaultTells source source' sink sink' status =
+    (status ≡ WriteFault →
     RoseOrLast sink.faults sink'.faults
     × ReadWhole source.left source'.left (λ input. IsOutput (meaning input) (AppendsPrefix sink.taken sink'.taken))
-    × (source'.faults ≡ source.faults)
+    × (source'.faults ≡ source.faults))
+    × (FaultsAlone sink sink' → status ≡ WriteFault)
 
--- Memory: the sink took a prefix of the output, or nothing where the meaning is a fault
-abbrev pub MemoryTells : SourceState → SinkState → SinkState → Status → Type 0
-MemoryTells source sink sink' status = status ≡ Memory → IfSome source.left (λ input. TookPrefixOf sink.taken sink'.taken (meaning input))
+-- Memory: the sink took a prefix of the output, or nothing where the meaning is a fault; no read failed, and no write was
+-- refused but for want of memory
+abbrev pub MemoryTells : SourceState → SourceState → SinkState → SinkState → Status → Type 0
+MemoryTells source source' sink sink' status = status ≡ Memory →
+    IfSome source.left (λ input. TookPrefixOf sink.taken sink'.taken (meaning input))
+    × (source'.faults ≡ source.faults) × IsUnrefusedOrShort sink sink'
 
 -- with these statuses nothing is written to the sink
 abbrev pub WritesNothing : Status → Type 0
@@ -114,14 +131,17 @@ abbrev pub DemoDoneTells : ℕ → SinkState → SinkState → Status → Type 0
 DemoDoneTells n sink sink' status = status ≡ Done →
     Appends sink.taken sink'.taken (summary n) × (sink'.faults ≡ sink.faults) × (sink'.shortages ≡ sink.shortages)
 
--- WriteFault: only where the sink's count rose in this call, or stands at its last value; the sink took a prefix of the summary
+-- WriteFault: only where the sink's count rose in this call, or stands at its last value; the sink took a prefix of the
+-- summary. Where that count alone rose, no other status comes
 abbrev pub DemoWriteFaultTells : ℕ → SinkState → SinkState → Status → Type 0
-DemoWriteFaultTells n sink sink' status = status ≡ WriteFault →
-    RoseOrLast sink.faults sink'.faults × AppendsPrefix sink.taken sink'.taken (summary n)
+DemoWriteFaultTells n sink sink' status =
+    (status ≡ WriteFault → RoseOrLast sink.faults sink'.faults × AppendsPrefix sink.taken sink'.taken (summary n))
+    × (FaultsAlone sink sink' → status ≡ WriteFault)
 
--- Memory: the sink took a prefix of the summary
+-- Memory: the sink took a prefix of the summary, and no write was refused but for want of memory
 abbrev pub DemoMemoryTells : ℕ → SinkState → SinkState → Status → Type 0
-DemoMemoryTells n sink sink' status = status ≡ Memory → AppendsPrefix sink.taken sink'.taken (summary n)
+DemoMemoryTells n sink sink' status = status ≡ Memory →
+    AppendsPrefix sink.taken sink'.taken (summary n) × IsUnrefusedOrShort sink sink'
 
 -- no other status comes
 abbrev pub IsDemoStatus : Status → Type 0

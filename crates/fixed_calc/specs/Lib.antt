@@ -7,9 +7,11 @@ pub mod Meaning
 pub mod Step
 pub mod Rooms
 pub mod Outside
+pub mod Memory
 pub mod Headline
 pub mod Caps
 pub mod OneNumber
+pub mod Widening
 pub mod Demo
 pub mod CommandLine
 pub mod inside

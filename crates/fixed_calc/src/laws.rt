@@ -5,8 +5,12 @@ ghost use Rattle.fixed_word.specs.Format.{IsWidth, fits};
 ghost use Rattle.fixed_calc.specs.Answers.{answer_text};
 ghost use Rattle.fixed_calc.specs.Caps.{CapsAlike};
 ghost use Rattle.fixed_calc.specs.Demo.{demo_answers, demo_text};
-ghost use Rattle.fixed_calc.specs.Meaning.{Output, meaning, run_of};
+ghost use Rattle.fixed_calc.specs.Meaning.{Output, meaning, run_of, start};
 ghost use Rattle.fixed_calc.specs.OneNumber.{WhereItFits, WhereItMisses};
+ghost use Rattle.fixed_calc.specs.Widening.{IsWider, rows_fit, script_of, with_word};
+ghost use Rattle.fixed_script.specs.Text.{ScriptHeader};
+ghost use Rattle.fixed_text.specs.declared.names.WordName.{WordName};
+ghost use Rattle.fixed_word.specs.Pieces.{pieces};
 
 pub use fixed_script::laws::{reading_law, text_law};
 
@@ -37,4 +41,16 @@ pub fn demo_law()
     ensures output { (n : ℕ)
         → meaning (demo_text n) ≡ Output (flat_map answer_text (demo_answers n)) }
     ensures one_each { (n : ℕ) → length (demo_answers n) ≡ n }
+{}
+
+/// A script has the same output with a wider word of the same sign in its header, where each row on the
+/// way is undefined or a number that fits; so `run_in` on the second script answers the same bytes. Each
+/// script that has an output begins with a header.
+pub fn widening_law()
+    ensures widens { (header : ScriptHeader) (wide : WordName) (lines bytes : List ℕ)
+        → IsWider header.word wide → rows_fit (start header) (pieces lines) ≡ true
+        → meaning (script_of header lines) ≡ Output bytes
+        → meaning (script_of (with_word wide header) lines) ≡ Output bytes }
+    ensures headed { (script bytes : List ℕ) → meaning script ≡ Output bytes
+        → (header : ScriptHeader) × ((lines : List ℕ) × (script ≡ script_of header lines)) }
 {}

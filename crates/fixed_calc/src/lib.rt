@@ -14,6 +14,7 @@ mod copy;
 mod demo;
 mod error_line;
 pub mod laws;
+mod memory;
 mod outside;
 mod piece;
 mod projected;
@@ -38,6 +39,7 @@ pub use demo::{Script, demo_script};
 pub use fixed_script::{
     Fractions, Header, Line, Literal, Op, Policy, WordName, parse_header, parse_line,
 };
+pub use memory::{MemorySink, MemorySource};
 pub use outside::{Failed, Refusal, Sink, Source};
 pub use room::{Answers, Room, step};
 pub use running::{run, run_in};

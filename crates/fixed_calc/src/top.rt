@@ -25,7 +25,8 @@ fn read_run_write<S: Source, K: Sink>(alloc: Global, source: &mut S, sink: &mut 
     ensures too_long { TooLongTells (S.state source.old) (S.state source.new) result }
     ensures write_fault { WriteFaultTells
         (S.state source.old) (S.state source.new) (K.state sink.old) (K.state sink.new) result }
-    ensures memory { MemoryTells (S.state source.old) (K.state sink.old) (K.state sink.new) result }
+    ensures memory { MemoryTells (S.state source.old)
+        (S.state source.new) (K.state sink.old) (K.state sink.new) result }
     ensures nothing_written { WritesNothing result → sink.new ≡ sink.old }
     ensures complete { CompleteTells
         (S.state source.old) (S.state source.new) (K.state sink.old) (K.state sink.new) result }
@@ -87,7 +88,8 @@ fn status_of<S: Source, K: Sink>(
     ensures write_fault { words.now ≡ [] → WriteFaultTells
         (S.state source.old) (S.state source.new) (K.state sink.old) (K.state sink.new) result }
     ensures memory { words.now ≡ []
-        → MemoryTells (S.state source.old) (K.state sink.old) (K.state sink.new) result }
+        → MemoryTells (S.state source.old)
+        (S.state source.new) (K.state sink.old) (K.state sink.new) result }
     ensures nothing_written { WritesNothing result → sink.new ≡ sink.old }
     ensures complete { words.now ≡ [] → CompleteTells
         (S.state source.old) (S.state source.new) (K.state sink.old) (K.state sink.new) result }
@@ -134,7 +136,8 @@ pub fn calc_main<S: Source, K: Sink, E: Sink>(
     ensures write_fault { words.now ≡ [] → WriteFaultTells
         (S.state source.old) (S.state source.new) (K.state sink.old) (K.state sink.new) result }
     ensures memory { words.now ≡ []
-        → MemoryTells (S.state source.old) (K.state sink.old) (K.state sink.new) result }
+        → MemoryTells (S.state source.old)
+        (S.state source.new) (K.state sink.old) (K.state sink.new) result }
     ensures nothing_written { WritesNothing result → sink.new ≡ sink.old }
     ensures complete { words.now ≡ [] → CompleteTells
         (S.state source.old) (S.state source.new) (K.state sink.old) (K.state sink.new) result }

@@ -8,6 +8,7 @@
 
 mod checked;
 mod checked_products;
+pub mod laws;
 mod numbers;
 mod overflowing;
 mod overflowing_products;
