@@ -2,33 +2,17 @@
 use Rattle.std.proofs.Common.{◌≡◌, ◌≢◌, ◌⊎◌, ◌+◌, ◌-◌, ◌*◌, ◌/◌, ◌%◌, ◌^◌, ◌<◌, ◌≤◌, ◌≤ℤ◌, ◌<ℤ◌, ◌+ℤ◌, ◌*ℤ◌, ℕ, ℤ, zero, suc, Bool, true, false, pos, neg_ℤ, nat_abs, refl, ap, sym, ◌∙◌, arith, inl, inr}
 use Rattle.std.proofs.lemmas.Int.{ints}
 use Rattle.std.proofs.lemmas.Nat.{div-add-mod', mul-le, mul-mod_first, one_shl, shl_below, pow-add}
-use borrow.Author.Differences.{sum_is_lem}
 use Rattle.fixed_word.specs.declared.outcome.Outcome.{Outcome}
 use Rattle.fixed_word.specs.Format.{IsWidth, lowest, highest, Congruent, wrap, with_sign}
 use Rattle.fixed_word.specs.Standing.{StandsFor, side_of}
-use Rattle.fixed_word.proofs.Wraps.{width_pos, neg-times, wrap_in_range, wrap_congruent, wrap_unique}
+use Rattle.fixed_word.proofs.Wraps.{width_pos, narrower, neg-times, wrap_alike}
 use Rattle.fixed_word.proofs.Sides.{side_above, side_below}
 use Rattle.std.proofs.lemmas.Bool.{cases_lt}
 use Rattle.fixed_word.specs.Quotient.{truncated_quotient}
-use Rattle.fixed_kernel.specs.Alike.{Alike}
+use Rattle.fixed_kernel.specs.inside.Alike.{Alike}
 
-pub plus_times : (a b : ℤ) (m : ℕ) → (a +ℤ b) *ℤ pos m ≡ a *ℤ pos m +ℤ b *ℤ pos m
-plus_times a b m = omega (arith, ints, ap (λ (n : ℕ). n * m) (sum_is_lem a b))
-
--- numbers that are congruent leave the same
-pub wrap_alike : (s : Bool) (n : ℕ) (x y : ℤ) → 0 < n → Congruent (2 ^ n) x y → wrap s n x ≡ wrap s n y
-wrap_alike s n x y h c =
-    let d = wrap_congruent s n y in
-    let e = c.1 in
-    let f = d.1 in
-    wrap_unique s n x (wrap s n y) h (wrap_in_range s n y h) (c.0 +ℤ d.0, omega (arith, ints, plus_times c.0 d.0 (2 ^ n)))
-
--- numbers that differ by a multiple of 2 ^ 64 differ by one of each width's power
-pub narrower : (n : ℕ) (x y : ℤ) → IsWidth n → Congruent (2 ^ 64) x y → Congruent (2 ^ n) x y
-narrower n x y (inl e) c = let f = c.1 in rw e (c.0 *ℤ pos (2 ^ 56), omega (arith, ints))
-narrower n x y (inr (inl e)) c = let f = c.1 in rw e (c.0 *ℤ pos (2 ^ 48), omega (arith, ints))
-narrower n x y (inr (inr (inl e))) c = let f = c.1 in rw e (c.0 *ℤ pos (2 ^ 32), omega (arith, ints))
-narrower n x y (inr (inr (inr e))) c = rw e c
+pub width_at_most : (n : ℕ) → IsWidth n → n ≤ 64
+width_at_most n w = grind arith
 
 -- no word reaches 2 ^ 64
 range_small : (s : Bool) (n : ℕ) → IsWidth n → (highest s n <ℤ pos (2 ^ 64)) × (neg_ℤ (pos (2 ^ 64)) <ℤ lowest s n)
@@ -58,7 +42,7 @@ side_alike s n x y w (inr (inr p)) =
 
 pub stands_alike : {T : Type 0} (value : T → ℤ) (s : Bool) (n : ℕ) (x y : ℤ) (o : Outcome T) → IsWidth n → Alike (2 ^ 64) x y → StandsFor value s n y o → StandsFor value s n x o
 stands_alike value s n x y o w a h = record {
-  wrapped = h.wrapped ∙ sym (wrap_alike s n x y (width_pos n w) (narrower n x y w a.bits));
+  wrapped = h.wrapped ∙ sym (wrap_alike s n x y (width_pos n w) (narrower n 64 x y (width_at_most n w) a.bits));
   side = h.side ∙ sym (side_alike s n x y w a.place);
 }
 
@@ -148,6 +132,3 @@ pub size_pos : (b : Bool) (m : ℕ) (x : ℤ) → with_sign b m ≡ x → x ≢ 
 size_pos false zero x e n = absurd (n (sym e))
 size_pos true zero x e n = absurd (n (sym e))
 size_pos b (suc m) x e n = omega arith
-
-pub width_at_most : (n : ℕ) → IsWidth n → n ≤ 64
-width_at_most n w = grind arith

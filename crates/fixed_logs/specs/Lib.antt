@@ -1,2 +1,2 @@
 pub mod Logarithm
-pub mod Power
+pub mod inside

@@ -3,7 +3,7 @@
 ghost use Rattle.std.specs.Prelude.{◌≡◌, ◌≢◌, ◌+◌, ◌*◌, ◌^◌, ◌<◌, ◌≤◌, ℕ, pos, nat_abs};
 ghost use Rattle.fixed_word.specs.Ticks.{RisesAtMost};
 ghost use Rattle.fixed_logs.specs.Logarithm.{IsLog, log2};
-ghost use Rattle.fixed_logs.specs.Power.{IsGreatestPower, IsGreatestProduct};
+ghost use Rattle.fixed_logs.specs.inside.Power.{IsGreatestPower, IsGreatestProduct};
 
 use crate::base::Base;
 use crate::exact::{Power, below_zero, is_at_most, product, product_within, whole, word_of};

@@ -2,7 +2,7 @@
 
 ghost use Rattle.std.specs.Prelude.{◌≡◌, ◌*◌, ◌/◌, ◌^◌, ◌<◌, ◌≤◌, ◌↔◌, nat_abs, IsTrue};
 ghost use Rattle.fixed_word.specs.Ticks.{RisesAtMost};
-ghost use Rattle.fixed_num.specs.Parts.{IsPart};
+ghost use Rattle.fixed_num.specs.inside.Parts.{IsPart};
 
 use fixed_word::{Digits, Ledger, Steps};
 

@@ -1,9 +1,9 @@
 use Rattle.std.proofs.Common.{◌≡◌, ◌-◌, ◌^◌, ◌<◌, ◌+ℤ◌, ◌*ℤ◌, ℕ, ℤ, suc, pos, neg_ℤ, negsuc, nat_abs, subst, sym, ap, ◌∙◌, arith}
 use Rattle.std.proofs.lemmas.Int.{ints}
 use Rattle.fixed_word.specs.Standing.{StandsFor}
-use Rattle.fixed_kernel.specs.Alike.{Alike}
+use Rattle.fixed_kernel.specs.inside.Alike.{Alike}
 use Rattle.fixed_kernel.specs.Rows.{exact_add_prod_at}
-use Rattle.fixed_kernel.specs.WideValue.{value_of}
+use Rattle.fixed_kernel.specs.inside.WideValue.{value_of}
 use Rattle.fixed_kernel.proofs.Alikes.{abs_signed, alike_plus}
 use Rattle.fixed_kernel.proofs.products.add_prod_up.Goals as goal
 

@@ -1,0 +1,4 @@
+-- What private functions alone cite.
+pub mod Alike
+pub mod WideValue
+pub mod Size
