@@ -28,8 +28,6 @@ mod status;
 mod stepping;
 mod summary;
 mod sure;
-#[cfg(test)]
-mod tests;
 mod top;
 mod writing;
 

@@ -12,8 +12,6 @@ pub mod laws;
 mod numbers;
 mod overflowing;
 mod overflowing_products;
-#[cfg(test)]
-mod tests;
 mod wrapping;
 mod wrapping_products;
 
