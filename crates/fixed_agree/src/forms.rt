@@ -14,9 +14,11 @@ use crate::answers::{bits_of, bits_or_absent, flagged_of};
 use crate::{checked, overflowing, saturating, wrapping};
 use fixed_calc::{Answer, Op, Policy};
 use fixed_num::Fixed;
-use fixed_policy::{Checked, CheckedProducts, CheckedSigned, CheckedUnsigned};
-use fixed_policy::{Overflowing, OverflowingProducts, OverflowingSigned, OverflowingUnsigned};
-use fixed_policy::{Wrapping, WrappingProducts, WrappingSigned, WrappingUnsigned};
+use fixed_policy::{
+    Checked, CheckedProducts, CheckedSigned, CheckedUnsigned, Overflowing, OverflowingProducts,
+    OverflowingSigned, OverflowingUnsigned, Wrapping, WrappingProducts, WrappingSigned,
+    WrappingUnsigned,
+};
 use fixed_strict::{SaturatingProducts, SaturatingSigned, SaturatingUnsigned};
 use fixed_word::{SignedWord, UnsignedWord, Word};
 

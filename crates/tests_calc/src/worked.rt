@@ -5,7 +5,7 @@ use fixed_calc::{Cause, RunFault, Status, run};
 use std::test::Fail;
 
 /// Scripts and their answers.
-const ANSWERS: [(&str, &str); 30] = [
+const ANSWERS: [(&str, &str); 31] = [
     ("i32 16\n", ""),
     ("i8 4\n", ""),
     ("u64 0 64 32\n", ""),
@@ -46,6 +46,10 @@ const ANSWERS: [(&str, &str); 30] = [
     ),
     (
         "i8 8 8\nr0 set 1\nr1 set -1\nr0 strict mul r0 r1\n",
+        "1\n-1\n-1\n",
+    ),
+    (
+        "i16 8 8\nr0 set 1\nr1 set -1\nr0 strict mul r0 r1\n",
         "1\n-1\n-1\n",
     ),
     (
