@@ -7,7 +7,7 @@ use Rattle.fixed_script.specs.Lines.{line_of_piece}
 use Rattle.fixed_text.specs.declared.names.WordName.{WordName}
 use Rattle.fixed_text.specs.declared.names.WordName.TheVariants.{I8, I16, I32, I64, U8, U16, U32, U64}
 use Rattle.fixed_calc.specs.declared.cause.Cause.{Cause}
-use Rattle.fixed_calc.specs.Names.{word_name}
+use Rattle.fixed_text.specs.Words.{word_name}
 use Rattle.fixed_calc.specs.Answers.{answer_text}
 use Rattle.fixed_script.specs.Text.{ScriptHeader, header_text, header_tokens, ScriptLine}
 use Rattle.fixed_calc.specs.Machine.{State, width, cause, answer, move}
