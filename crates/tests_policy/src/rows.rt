@@ -9,7 +9,8 @@ use fixed_num::{Fixed, FixedI8, FixedI32, FixedU8};
 use fixed_policy::{Checked, Overflowing, Wrapping};
 use fixed_strict::{Saturating, Strict, Unwrapped};
 use fixed_word::Side::{Above, Below, Fits};
-use fixed_word::{RawWord, Side};
+use fixed_word::{RawWord, Side, Word};
+use std::process::Abort;
 
 /// What the policies answer: checked; overflowing, wrapping and saturating; strict and unwrapped.
 type Forms<N> = (Option<N>, Option<((N, bool), N, N)>, Option<(N, N)>);
@@ -36,6 +37,31 @@ fn forms<T: RawWord, const F: u32>(op: Op, left: Fixed<T, F>, side: Side) -> For
         _ => Some(((left, side != Fits), left, nearest)),
     };
     (checked, kept, fitting)
+}
+
+/// Asserts that all policies answer by the row of `a` and `b`: this word is left of a number on this side.
+fn stands<T: Word, const F: u32>(
+    rt: &impl Abort,
+    op: Op,
+    a: Fixed<T, F>,
+    b: Fixed<T, F>,
+    left: Fixed<T, F>,
+    side: Side,
+)
+    requires { F ≤ T.BITS }
+{
+    let (x, y) = (a.bits.magnitude(), b.bits.magnitude());
+    assert!(rt;
+        answers(op, a, b) == forms(op, left, side),
+        "{op:?} of {x} and {y}, without their signs, at {F}"
+    );
+}
+
+/// Asserts that the operation is undefined: there is no answer.
+fn is_undefined<T: Word, const F: u32>(rt: &impl Abort, op: Op, a: Fixed<T, F>, b: Fixed<T, F>)
+    requires { F ≤ T.BITS }
+{
+    assert!(rt; answers(op, a, b) == (None, None, None), "{op:?}");
 }
 
 #[test]
@@ -76,13 +102,8 @@ fn signed_bytes(rt: HostRuntime) {
         (Op::RemEuclidInt, -120, 20, -56, Above),
         (Op::RemEuclidInt, -23, 1, 9, Fits),
     ] {
-        let (x, y) = (FixedI8::<4> { bits: a }, FixedI8::<4> { bits: b });
-        let left = FixedI8::<4> { bits: left };
-        assert_eq!(rt;
-            answers(op, x, y),
-            forms(op, left, side),
-            "{op:?} of {a} and {b}"
-        );
+        let (x, y) = (FixedI8::<4> { bits: a }, Fixed { bits: b });
+        stands(&rt, op, x, y, Fixed { bits: left }, side);
     }
 }
 
@@ -92,13 +113,8 @@ fn one_integer_bit(rt: HostRuntime) {
         (Op::Recip, 32_i8, 0, 0, Above),
         (Op::Recip, -32, 0, 0, Below),
     ] {
-        let (x, y) = (FixedI8::<7> { bits: a }, FixedI8::<7> { bits: b });
-        let left = FixedI8::<7> { bits: left };
-        assert_eq!(rt;
-            answers(op, x, y),
-            forms(op, left, side),
-            "{op:?} of {a} and {b}"
-        );
+        let (x, y) = (FixedI8::<7> { bits: a }, Fixed { bits: b });
+        stands(&rt, op, x, y, Fixed { bits: left }, side);
     }
 }
 
@@ -110,13 +126,8 @@ fn no_integer_bits(rt: HostRuntime) {
         (Op::DivEuclid, 64, 100, 0, Fits),
         (Op::DivEuclidInt, -64, 2, 0, Below),
     ] {
-        let (x, y) = (FixedI8::<8> { bits: a }, FixedI8::<8> { bits: b });
-        let left = FixedI8::<8> { bits: left };
-        assert_eq!(rt;
-            answers(op, x, y),
-            forms(op, left, side),
-            "{op:?} of {a} and {b}"
-        );
+        let (x, y) = (FixedI8::<8> { bits: a }, Fixed { bits: b });
+        stands(&rt, op, x, y, Fixed { bits: left }, side);
     }
 }
 
@@ -139,39 +150,24 @@ fn unsigned_bytes(rt: HostRuntime) {
         (Op::Rem, 250, 20, 10, Fits),
         (Op::RemInt, 250, 3, 10, Fits),
     ] {
-        let (x, y) = (FixedU8::<4> { bits: a }, FixedU8::<4> { bits: b });
-        let left = FixedU8::<4> { bits: left };
-        assert_eq!(rt;
-            answers(op, x, y),
-            forms(op, left, side),
-            "{op:?} of {a} and {b}"
-        );
+        let (x, y) = (FixedU8::<4> { bits: a }, Fixed { bits: b });
+        stands(&rt, op, x, y, Fixed { bits: left }, side);
     }
 }
 
 #[test]
 fn unsigned_fractions(rt: HostRuntime) {
     for (op, a, b, left, side) in [(Op::Sqrt, 255_u8, 0, 255, Fits)] {
-        let (x, y) = (FixedU8::<8> { bits: a }, FixedU8::<8> { bits: b });
-        let left = FixedU8::<8> { bits: left };
-        assert_eq!(rt;
-            answers(op, x, y),
-            forms(op, left, side),
-            "{op:?} of {a} and {b}"
-        );
+        let (x, y) = (FixedU8::<8> { bits: a }, Fixed { bits: b });
+        stands(&rt, op, x, y, Fixed { bits: left }, side);
     }
 }
 
 #[test]
 fn thirty_two_bits(rt: HostRuntime) {
     for (op, a, b, left, side) in [(Op::RemInt, i32::MIN, -1, 0, Fits)] {
-        let (x, y) = (FixedI32::<16> { bits: a }, FixedI32::<16> { bits: b });
-        let left = FixedI32::<16> { bits: left };
-        assert_eq!(rt;
-            answers(op, x, y),
-            forms(op, left, side),
-            "{op:?} of {a} and {b}"
-        );
+        let (x, y) = (FixedI32::<16> { bits: a }, Fixed { bits: b });
+        stands(&rt, op, x, y, Fixed { bits: left }, side);
     }
 }
 
@@ -181,13 +177,8 @@ fn thirty_two_bits_one_integer_bit(rt: HostRuntime) {
         (Op::RemEuclidInt, -1073741824_i32, 3, 1073741824, Above),
         (Op::RemEuclidInt, -536870912, 3, 1610612736, Above),
     ] {
-        let (x, y) = (FixedI32::<31> { bits: a }, FixedI32::<31> { bits: b });
-        let left = FixedI32::<31> { bits: left };
-        assert_eq!(rt;
-            answers(op, x, y),
-            forms(op, left, side),
-            "{op:?} of {a} and {b}"
-        );
+        let (x, y) = (FixedI32::<31> { bits: a }, Fixed { bits: b });
+        stands(&rt, op, x, y, Fixed { bits: left }, side);
     }
 }
 
@@ -199,13 +190,8 @@ fn thirty_two_fraction_bits(rt: HostRuntime) {
         (Op::Div, -2147483647, i32::MIN, -2, Above),
         (Op::RemEuclidInt, -1610612736, 1, -1610612736, Above),
     ] {
-        let (x, y) = (FixedI32::<32> { bits: a }, FixedI32::<32> { bits: b });
-        let left = FixedI32::<32> { bits: left };
-        assert_eq!(rt;
-            answers(op, x, y),
-            forms(op, left, side),
-            "{op:?} of {a} and {b}"
-        );
+        let (x, y) = (FixedI32::<32> { bits: a }, Fixed { bits: b });
+        stands(&rt, op, x, y, Fixed { bits: left }, side);
     }
 }
 
@@ -224,11 +210,6 @@ fn undefined(rt: HostRuntime) {
         (Op::RemEuclidInt, 1, 0),
         (Op::RemInt, 5, 0),
     ] {
-        let (x, y) = (FixedI8::<4> { bits: a }, FixedI8::<4> { bits: b });
-        assert_eq!(rt;
-            answers(op, x, y),
-            (None, None, None),
-            "{op:?} of {a} and {b}"
-        );
+        is_undefined(&rt, op, FixedI8::<4> { bits: a }, Fixed { bits: b });
     }
 }
