@@ -4,7 +4,7 @@ ghost use Rattle.std.specs.Prelude.{◌≤◌};
 
 use super::chained::Chained;
 use fixed_root::root;
-use fixed_word::{Count, Digits, Ledger, RawWord, Silent, Steps, Valued};
+use fixed_word::{Count, Digits, RawWord, Silent, Steps, Valued};
 use std::process::Abort;
 
 fn root_u8(val: u8, frac: u32) -> u8

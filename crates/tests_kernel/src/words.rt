@@ -1,6 +1,6 @@
 //! The eight words through their bounds, outcomes at the ends, and the calls of `Digits` under a count.
 
-use fixed_word::{Count, Digits, Ledger, RawWord, Side, Silent, Steps, Word, outcome_of};
+use fixed_word::{Count, Digits, RawWord, Side, Silent, Steps, Word, outcome_of};
 use std::process::Abort;
 
 /// Whether the value is below 0, and its magnitude.

@@ -3,10 +3,16 @@
 #![tactic(auto)]
 
 #[cfg(test)]
+mod calls;
+#[cfg(test)]
 mod first_lines;
+#[cfg(test)]
+mod fitting;
 #[cfg(test)]
 mod guide;
 #[cfg(test)]
-mod in_range;
+mod products;
 #[cfg(test)]
-mod unbounded;
+mod rows;
+#[cfg(test)]
+mod signs;
