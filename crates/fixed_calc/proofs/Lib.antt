@@ -11,3 +11,4 @@ pub mod Drawn
 pub mod Demonstrated
 pub mod Pushed
 pub mod Asked
+pub mod Divisors

@@ -1,6 +1,6 @@
 //! The row of an operation, over one word.
 
-ghost use Rattle.std.specs.Prelude.{◌≡◌, ◌≤◌, ℕ, ℤ, true};
+ghost use Rattle.std.specs.Prelude.{◌≡◌, ◌≢◌, ◌≤◌, ℕ, ℤ, pos, true};
 ghost use Rattle.fixed_calc.specs.Rows.{exact as exact_row};
 ghost use Rattle.fixed_calc.specs.Offered.{is_offered};
 ghost use Rattle.fixed_calc.specs.inside.Groups.{group, OfOne, SumOrProduct, ByDivisor};
@@ -114,17 +114,14 @@ fn outcome_of_sum_or_product<T: Word>(
     }
 }
 
-/// The outcome of a quotient, a remainder or a multiple, where the divisor is not 0.
-#[tactic(auto, unfolding(crate::specs::Rows::exact))]
-fn outcome_by_divisor<T: Word>(op: Op, x: T, y: T, frac: u32) -> Option<Outcome<T>>
+/// The outcome of a quotient, a remainder or a multiple. Condition: the divisor is not 0.
+fn outcome_of_quotient<T: Word>(op: Op, x: T, y: T, frac: u32) -> Option<Outcome<T>>
     requires group { group op ≡ ByDivisor }
+    requires divisor { T.value y ≢ pos 0 }
     requires frac { frac ≤ T.BITS }
     ensures { (c : ℤ) (g h : ℕ) → OutcomeTells T.value T.SIGNED T.BITS
         (exact_row op (T.value x) (T.value y) c frac g h) result }
 {
-    if y == T::ZERO {
-        return None;
-    }
     match op {
         Op::Div => Some(div_of(x, y, frac)),
         Op::DivInt => Some(div_int_of(x, y)),
@@ -137,6 +134,19 @@ fn outcome_by_divisor<T: Word>(op: Op, x: T, y: T, frac: u32) -> Option<Outcome<
         Op::NextMultipleOf => Some(next_multiple_of_of(x, y)),
         _ => None,
     }
+}
+
+/// The same, and None where the divisor is 0.
+fn outcome_by_divisor<T: Word>(op: Op, x: T, y: T, frac: u32) -> Option<Outcome<T>>
+    requires group { group op ≡ ByDivisor }
+    requires frac { frac ≤ T.BITS }
+    ensures { (c : ℤ) (g h : ℕ) → OutcomeTells T.value T.SIGNED T.BITS
+        (exact_row op (T.value x) (T.value y) c frac g h) result }
+{
+    if y == T::ZERO {
+        return None;
+    }
+    outcome_of_quotient(op, x, y, frac)
 }
 
 /// The outcome of the operation's row, where it is defined.
