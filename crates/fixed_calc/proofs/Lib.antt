@@ -15,3 +15,4 @@ pub mod Asked
 pub mod Wider
 pub mod WidenedRuns
 pub mod Headed
+pub mod Divisors

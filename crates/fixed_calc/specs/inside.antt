@@ -4,3 +4,4 @@ pub mod Commands
 pub mod Moves
 pub mod Reading
 pub mod Stepping
+pub mod Groups

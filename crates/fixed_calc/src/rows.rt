@@ -1,8 +1,9 @@
 //! The row of an operation, over one word.
 
-ghost use Rattle.std.specs.Prelude.{◌≡◌, ◌≤◌, pos, true, false};
+ghost use Rattle.std.specs.Prelude.{◌≡◌, ◌≢◌, ◌≤◌, ℕ, ℤ, pos, true};
 ghost use Rattle.fixed_calc.specs.Rows.{exact as exact_row};
 ghost use Rattle.fixed_calc.specs.Offered.{is_offered};
+ghost use Rattle.fixed_calc.specs.inside.Groups.{group, OfOne, SumOrProduct, ByDivisor};
 ghost use Rattle.fixed_calc.specs.inside.Stepping.{OutcomeTells};
 
 use fixed_kernel::{
@@ -20,36 +21,49 @@ pub(crate) struct Operand<T> {
     pub fraction: u32,
 }
 
-/// The outcome of the operation's row, where it is defined.
-#[tactic(auto, unfolding(crate::specs::Rows::exact, crate::specs::Offered::is_offered))]
-pub(crate) fn outcome_as<T: Word>(
-    policy: Policy,
-    op: Op,
-    a: Operand<T>,
-    b: Operand<T>,
-    c: Operand<T>,
-) -> Option<Outcome<T>>
-    requires offered { is_offered T.SIGNED policy op ≡ true }
-    requires a { a.fraction ≤ T.BITS }
-    requires b { b.fraction ≤ T.BITS }
-    requires c { c.fraction ≤ T.BITS }
-    ensures { OutcomeTells T.value T.SIGNED T.BITS
-        (exact_row op (T.value a.bits) (T.value b.bits) (T.value c.bits) a.fraction b.fraction c.fraction) result }
+/// Which operands decide whether an operation has a number.
+#[derive(Clone, Copy)]
+pub(crate) enum Group {
+    /// Operations on one number.
+    OfOne,
+    /// Sums, differences and products, which have a number for all operands.
+    SumOrProduct,
+    /// Quotients, remainders and multiples, which have none where the divisor is 0.
+    ByDivisor,
+}
+
+/// The operation's group.
+fn group_of(op: Op) -> Group
+    ensures { result ≡ group op }
 {
-    let x = a.bits;
-    let y = b.bits;
-    let z = c.bits;
-    let frac = a.fraction;
-    let is_zero = y == T::ZERO;
+    match op {
+        Op::Neg | Op::Abs | Op::Signum | Op::NextPowerOfTwo | Op::Recip | Op::Sqrt => Group::OfOne,
+        Op::Add | Op::Sub | Op::Dist | Op::Mul | Op::MulInt | Op::MulAdd | Op::AddProd => {
+            Group::SumOrProduct
+        }
+        Op::Div
+        | Op::DivInt
+        | Op::DivEuclid
+        | Op::DivEuclidInt
+        | Op::Rem
+        | Op::RemInt
+        | Op::RemEuclid
+        | Op::RemEuclidInt
+        | Op::NextMultipleOf => Group::ByDivisor,
+    }
+}
+
+/// The outcome of an operation on one number, where it is defined.
+#[tactic(auto, unfolding(crate::specs::Rows::exact, crate::specs::Offered::is_offered))]
+fn outcome_of_one<T: Word>(policy: Policy, op: Op, x: T, frac: u32) -> Option<Outcome<T>>
+    requires group { group op ≡ OfOne }
+    requires offered { is_offered T.SIGNED policy op ≡ true }
+    requires frac { frac ≤ T.BITS }
+    ensures { (b c : ℤ) (g h : ℕ) → OutcomeTells T.value T.SIGNED T.BITS
+        (exact_row op (T.value x) b c frac g h) result }
+{
     match op {
         Op::Neg => Some(neg_of(x)),
-        Op::Add => Some(add_of(x, y)),
-        Op::Sub => Some(sub_of(x, y)),
-        Op::Mul => Some(mul_of(x, y, frac)),
-        Op::MulAdd => Some(mul_add_of(x, y, z, b.fraction)),
-        Op::AddProd => Some(add_prod_of(x, y, z, frac, b.fraction, c.fraction)),
-        Op::MulInt => Some(mul_int_of(x, y)),
-        Op::Dist => Some(dist_of(x, y)),
         Op::Abs => Some(abs_of(x)),
         Op::Signum => Some(signum_of(x, frac)),
         Op::NextPowerOfTwo => Some(next_power_of_two_of(x)),
@@ -67,24 +81,93 @@ pub(crate) fn outcome_as<T: Word>(
                 Some(sqrt_of(x, frac))
             }
         }
-        Op::Div
-        | Op::DivInt
-        | Op::DivEuclid
-        | Op::DivEuclidInt
-        | Op::RemEuclidInt
-        | Op::NextMultipleOf
-        | Op::Rem
-        | Op::RemInt
-        | Op::RemEuclid
-            if is_zero => { None }
+        _ => None,
+    }
+}
+
+/// The outcome of a sum, a difference or a product.
+#[tactic(auto, unfolding(crate::specs::Rows::exact))]
+fn outcome_of_sum_or_product<T: Word>(
+    op: Op,
+    a: Operand<T>,
+    b: Operand<T>,
+    c: Operand<T>,
+) -> Option<Outcome<T>>
+    requires group { group op ≡ SumOrProduct }
+    requires a { a.fraction ≤ T.BITS }
+    requires b { b.fraction ≤ T.BITS }
+    requires c { c.fraction ≤ T.BITS }
+    ensures { OutcomeTells T.value T.SIGNED T.BITS
+        (exact_row op (T.value a.bits) (T.value b.bits) (T.value c.bits) a.fraction b.fraction c.fraction) result }
+{
+    match op {
+        Op::Add => Some(add_of(a.bits, b.bits)),
+        Op::Sub => Some(sub_of(a.bits, b.bits)),
+        Op::Dist => Some(dist_of(a.bits, b.bits)),
+        Op::Mul => Some(mul_of(a.bits, b.bits, a.fraction)),
+        Op::MulInt => Some(mul_int_of(a.bits, b.bits)),
+        Op::MulAdd => Some(mul_add_of(a.bits, b.bits, c.bits, b.fraction)),
+        Op::AddProd => Some(add_prod_of(
+            a.bits, b.bits, c.bits, a.fraction, b.fraction, c.fraction,
+        )),
+        _ => None,
+    }
+}
+
+/// The outcome of a quotient, a remainder or a multiple. Condition: the divisor is not 0.
+fn outcome_of_quotient<T: Word>(op: Op, x: T, y: T, frac: u32) -> Option<Outcome<T>>
+    requires group { group op ≡ ByDivisor }
+    requires divisor { T.value y ≢ pos 0 }
+    requires frac { frac ≤ T.BITS }
+    ensures { (c : ℤ) (g h : ℕ) → OutcomeTells T.value T.SIGNED T.BITS
+        (exact_row op (T.value x) (T.value y) c frac g h) result }
+{
+    match op {
         Op::Div => Some(div_of(x, y, frac)),
         Op::DivInt => Some(div_int_of(x, y)),
         Op::DivEuclid => Some(div_euclid_of(x, y, frac)),
         Op::DivEuclidInt => Some(div_euclid_int_of(x, y, frac)),
-        Op::RemEuclidInt => Some(rem_euclid_int_of(x, y, frac)),
-        Op::NextMultipleOf => Some(next_multiple_of_of(x, y)),
         Op::Rem => Some(rem_of(x, y)),
         Op::RemInt => Some(rem_int_of(x, y, frac)),
         Op::RemEuclid => Some(rem_euclid_of(x, y)),
+        Op::RemEuclidInt => Some(rem_euclid_int_of(x, y, frac)),
+        Op::NextMultipleOf => Some(next_multiple_of_of(x, y)),
+        _ => None,
+    }
+}
+
+/// The same, and None where the divisor is 0.
+fn outcome_by_divisor<T: Word>(op: Op, x: T, y: T, frac: u32) -> Option<Outcome<T>>
+    requires group { group op ≡ ByDivisor }
+    requires frac { frac ≤ T.BITS }
+    ensures { (c : ℤ) (g h : ℕ) → OutcomeTells T.value T.SIGNED T.BITS
+        (exact_row op (T.value x) (T.value y) c frac g h) result }
+{
+    if y == T::ZERO {
+        return None;
+    }
+    outcome_of_quotient(op, x, y, frac)
+}
+
+/// The outcome of the operation's row, where it is defined.
+#[tactic(auto)]
+pub(crate) fn outcome_as<T: Word>(
+    policy: Policy,
+    op: Op,
+    a: Operand<T>,
+    b: Operand<T>,
+    c: Operand<T>,
+) -> Option<Outcome<T>>
+    requires offered { is_offered T.SIGNED policy op ≡ true }
+    requires a { a.fraction ≤ T.BITS }
+    requires b { b.fraction ≤ T.BITS }
+    requires c { c.fraction ≤ T.BITS }
+    ensures { OutcomeTells T.value T.SIGNED T.BITS
+        (exact_row op (T.value a.bits) (T.value b.bits) (T.value c.bits) a.fraction b.fraction c.fraction) result }
+{
+    match group_of(op) {
+        Group::OfOne => outcome_of_one(policy, op, a.bits, a.fraction),
+        Group::SumOrProduct => outcome_of_sum_or_product(op, a, b, c),
+        Group::ByDivisor => outcome_by_divisor(op, a.bits, b.bits, a.fraction),
     }
 }

@@ -7,3 +7,4 @@ pub mod NamesFirst
 pub mod OneText
 pub mod Lengths
 pub mod TextsRead
+pub mod NamedGroups

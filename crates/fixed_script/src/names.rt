@@ -1,8 +1,9 @@
 //! The names that a script gives to policies and operations.
 
 ghost use Rattle.std.specs.Prelude.{◌≡◌, ◌∷◌, ◌++◌, IfSome, Some, length, true};
-ghost use Rattle.fixed_text.specs.Words.{word_named};
+ghost use Rattle.fixed_text.specs.Words.{named};
 ghost use Rattle.fixed_script.specs.Names.{policy_named, policy_name, op_named, op_name};
+ghost use Rattle.fixed_script.specs.inside.OpGroups.{arithmetic_ops, whole_ops, other_ops};
 ghost use Rattle.fixed_text.specs.Tokens.{tokens_of, next_by};
 
 /// A policy, by its name: `checked saturating wrapping overflowing strict`.
@@ -108,9 +109,9 @@ pub(crate) fn front_policy(bytes: &[u8]) -> Option<(Policy, &[u8])>
     }
 }
 
-/// The operation of that name.
-pub(crate) fn op_of(token: &[u8]) -> Option<Op>
-    ensures { result ≡ op_named token.now }
+/// The operation of that name, among sums, products, quotients and their kin.
+fn arithmetic_op_of(token: &[u8]) -> Option<Op>
+    ensures { result ≡ named op_name arithmetic_ops token.now }
 {
     if token == b"neg".as_slice() {
         Some(Op::Neg)
@@ -128,7 +129,16 @@ pub(crate) fn op_of(token: &[u8]) -> Option<Op>
         Some(Op::MulAdd)
     } else if token == b"add_prod".as_slice() {
         Some(Op::AddProd)
-    } else if token == b"mul_int".as_slice() {
+    } else {
+        None
+    }
+}
+
+/// The operation of that name, among those by an integer and those of whole quotients.
+fn whole_op_of(token: &[u8]) -> Option<Op>
+    ensures { result ≡ named op_name whole_ops token.now }
+{
+    if token == b"mul_int".as_slice() {
         Some(Op::MulInt)
     } else if token == b"div_int".as_slice() {
         Some(Op::DivInt)
@@ -140,7 +150,16 @@ pub(crate) fn op_of(token: &[u8]) -> Option<Op>
         Some(Op::RemEuclidInt)
     } else if token == b"next_multiple_of".as_slice() {
         Some(Op::NextMultipleOf)
-    } else if token == b"dist".as_slice() {
+    } else {
+        None
+    }
+}
+
+/// The operation of that name, among distances, roots, signs, remainders and powers.
+fn other_op_of(token: &[u8]) -> Option<Op>
+    ensures { result ≡ named op_name other_ops token.now }
+{
+    if token == b"dist".as_slice() {
         Some(Op::Dist)
     } else if token == b"sqrt".as_slice() {
         Some(Op::Sqrt)
@@ -158,6 +177,19 @@ pub(crate) fn op_of(token: &[u8]) -> Option<Op>
         Some(Op::NextPowerOfTwo)
     } else {
         None
+    }
+}
+
+/// The operation of that name.
+pub(crate) fn op_of(token: &[u8]) -> Option<Op>
+    ensures { result ≡ op_named token.now }
+{
+    if let Some(op) = arithmetic_op_of(token) {
+        Some(op)
+    } else if let Some(op) = whole_op_of(token) {
+        Some(op)
+    } else {
+        other_op_of(token)
     }
 }
 

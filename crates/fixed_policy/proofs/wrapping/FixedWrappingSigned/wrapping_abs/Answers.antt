@@ -1,0 +1,4 @@
+use Rattle.fixed_policy.proofs.wrapping.FixedWrappingSigned.wrapping_abs.Goals as goal
+
+pub returns : goal.returns
+returns g c = c.wrapping_number.ensures _ c.abs_of.ensures
