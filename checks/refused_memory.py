@@ -1,0 +1,51 @@
+"""Refuses each request for memory of the program in turn, on a script and on the words `demo 50`.
+
+    python3 checks/refused_memory.py
+
+Each run gives the status and the output of the run in which nothing is refused, or ends with 6 and has written a
+prefix of that output. Prints a line a run, and ends with 1 where one does neither. The program runs by `rt try`, without
+a proof, in about 20 seconds a run; the kit's `rt try` takes one number at a time, and fails requests for memory alone.
+"""
+import subprocess
+import sys
+from pathlib import Path
+
+PROGRAM = Path(__file__).resolve().parent.parent / "crates" / "fixed_prog"
+SCRIPT = "u8 4 4\nr0 set 255\nr1 set 32\nr0 checked mul r0 r1\nr1 wrapping add r0 r1\n"
+WANT_OF_MEMORY = 6
+MORE_THAN_ALL = 1000
+
+
+def tried(refused, words, script):
+    """The status and the output of a run whose request of that number is refused."""
+    command = ["rt", "try", "--fail-alloc", str(refused)] + (["--"] + words if words else [])
+    run = subprocess.run(command, cwd=PROGRAM, input=script, capture_output=True, text=True)
+    return run.returncode, run.stdout
+
+
+def is_named(run, fine):
+    """Whether a run is the one without a refusal, or want of memory with a prefix of its output."""
+    return run == fine or (run[0] == WANT_OF_MEMORY and fine[1].startswith(run[1]))
+
+
+def all_refused(name, words, script):
+    """Tries each request until none is left to refuse; whether each run is named."""
+    fine = tried(MORE_THAN_ALL, words, script)
+    good = True
+    refused = 1
+    while True:
+        run = tried(refused, words, script)
+        good = good and is_named(run, fine)
+        print(f"{name}: request {refused} refused, status {run[0]}, {len(run[1])} bytes written")
+        if run == fine:
+            return good
+        refused += 1
+
+
+def main():
+    both = [all_refused("a script", [], SCRIPT), all_refused("demo 50", ["demo", "50"], "")]
+    sys.exit(0 if all(both) else 1)
+
+
+if __name__ == "__main__":
+    main()
