@@ -6,6 +6,7 @@
 mod exact;
 #[cfg(test)]
 mod forms;
+pub mod machine;
 #[cfg(test)]
 mod operators;
 #[cfg(test)]

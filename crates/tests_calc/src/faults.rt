@@ -1,63 +1,8 @@
 //! A source, a sink and errors that fail.
 
-ghost use Rattle.std.specs.Prelude.{◌≡◌, None};
-
-use fixed_calc::{Cause, Failed, Refusal, Sink, Source, Status, SureSink, SureSource, calc_main};
+use super::devices::Failing;
+use fixed_calc::{Cause, Sink, Source, Status, SureSink, SureSource, calc_main};
 use std::test::Fail;
-
-/// A source or a sink of one byte a call, which fails at each call after the first ones. As a source it
-/// gives the letter i. It tells no bytes.
-#[derive(Drop)]
-struct Failing {
-    calls: u64,
-    taken: u64,
-    faults: u64,
-}
-
-impl Failing {
-    /// One that fails after so many calls.
-    fn after(calls: u64) -> Failing {
-        Failing {
-            calls,
-            taken: 0,
-            faults: 0,
-        }
-    }
-}
-
-impl Source for Failing {
-    ghost state = { λ s. record { left = None; faults = s.faults } };
-
-    fn read(&mut self, buf: &mut [u8]) -> Result<usize, Failed> {
-        if self.calls == 0 {
-            self.faults = self.faults.saturating_add(1);
-            return Err(Failed);
-        }
-        self.calls -= 1;
-        if buf.is_empty() {
-            return Ok(0);
-        }
-        buf[0] = b'i';
-        Ok(1)
-    }
-}
-
-impl Sink for Failing {
-    ghost state = { λ s. record { taken = None; faults = s.faults; shortages = 0 } };
-
-    fn write(&mut self, bytes: &[u8]) -> Result<usize, Refusal> {
-        if self.calls == 0 {
-            self.faults = self.faults.saturating_add(1);
-            return Err(Refusal::Failed);
-        }
-        self.calls -= 1;
-        if bytes.is_empty() {
-            return Ok(0);
-        }
-        self.taken = self.taken.saturating_add(1);
-        Ok(1)
-    }
-}
 
 /// A read that fails, at once or later, ends the work: nothing is written.
 #[test]

@@ -1,7 +1,6 @@
 //! Sources and sinks in memory of which any call may fail, a source without an end, and scripts cut short.
 
-ghost use Rattle.std.specs.Prelude.{None};
-
+use super::devices::Endless;
 use fixed_calc::{
     Cause, Failed, MemorySink, MemorySource, Refusal, Sink, Source, Status, SureSink, calc_main,
 };
@@ -121,19 +120,6 @@ fn failing_line(rt: HostRuntime) -> Result<(), Fail> {
     let script = b"i8 0\nr0 set 127\nr0 strict mul_int r0 2\nr0 wrapping add r0 r0\n";
     let want: (Status, &[u8], &[u8]) = (Status::Script(Cause::Overflow(3)), b"", b"lin");
     leaves(&rt, rt.alloc(), script, [FINE, FINE, tells], want)
-}
-
-/// A source that fills each buffer and has no end. It tells no bytes, and never fails.
-#[derive(Drop)]
-struct Endless;
-
-impl Source for Endless {
-    ghost state = { λ _. record { left = None; faults = 0 } };
-
-    fn read(&mut self, buf: &mut [u8]) -> Result<usize, Failed> {
-        buf.fill(b'a');
-        Ok(buf.len())
-    }
 }
 
 /// Reading stops past the limit.

@@ -6,6 +6,7 @@
 mod calls;
 #[cfg(test)]
 mod demo;
+pub mod devices;
 #[cfg(test)]
 mod faults;
 #[cfg(test)]

@@ -6,8 +6,7 @@
 mod bits;
 #[cfg(test)]
 mod calls;
-#[cfg(test)]
-mod chained;
+pub mod chained;
 #[cfg(test)]
 mod ends;
 #[cfg(test)]

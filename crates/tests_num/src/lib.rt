@@ -2,6 +2,7 @@
 //! computations, and each trait through its bound.
 #![tactic(auto)]
 
+pub mod bounds;
 #[cfg(test)]
 mod logarithms;
 #[cfg(test)]

@@ -2,6 +2,7 @@
 //! trait through its bound, and the code that the README and the guide show.
 #![tactic(auto)]
 
+pub mod bounds;
 #[cfg(test)]
 mod calls;
 #[cfg(test)]
