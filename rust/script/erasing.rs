@@ -17,7 +17,7 @@ pub enum Reading {
     Strict,
     /// The calls are made by proved code alone, and get no assertions.
     Inside,
-    /// The same of the calculator, which takes memory.
+    /// The same of the calculator, which takes memory, and whose tests do without Cargo.
     Program,
     /// Tests, which take no runtime in Rust.
     Tests,
@@ -82,6 +82,7 @@ impl Erasing<'_> {
             ["fn", " ", ..] => return self.function(),
             ["#", "!", "[", "tactic", ..] | ["#", "[", "tactic" | "error", ..] => self.skip(after_group),
             ["#", "[", "derive", ..] => self.derive(),
+            ["#", "[", "cfg", ..] if self.reading == Reading::Program => self.skip(after_item),
             ["use", " ", ..] if DROPPED_USES.contains(&self.item().as_str()) => self.skip(after_item),
             [piece, ..] => {
                 self.out.push_str(piece);
