@@ -10,22 +10,58 @@ use std::{env, fs};
 
 /// The crates that take no memory, lowest first.
 const LIBRARY: [Crate; 9] = [
-    Crate { folder: "fixed_word", module: "word" },
-    Crate { folder: "fixed_bits", module: "bits" },
-    Crate { folder: "fixed_root", module: "root" },
-    Crate { folder: "fixed_logs", module: "logs" },
-    Crate { folder: "fixed_kernel", module: "kernel" },
-    Crate { folder: "fixed_num", module: "num" },
-    Crate { folder: "fixed_policy", module: "policy" },
-    Crate { folder: "fixed_strict", module: "strict" },
-    Crate { folder: "fixed_ops", module: "ops" },
+    Crate {
+        folder: "fixed_word",
+        module: "word",
+    },
+    Crate {
+        folder: "fixed_bits",
+        module: "bits",
+    },
+    Crate {
+        folder: "fixed_root",
+        module: "root",
+    },
+    Crate {
+        folder: "fixed_logs",
+        module: "logs",
+    },
+    Crate {
+        folder: "fixed_kernel",
+        module: "kernel",
+    },
+    Crate {
+        folder: "fixed_num",
+        module: "num",
+    },
+    Crate {
+        folder: "fixed_policy",
+        module: "policy",
+    },
+    Crate {
+        folder: "fixed_strict",
+        module: "strict",
+    },
+    Crate {
+        folder: "fixed_ops",
+        module: "ops",
+    },
 ];
 
 /// The crates of the calculator, which take memory.
 const PROGRAM: [Crate; 3] = [
-    Crate { folder: "fixed_text", module: "text" },
-    Crate { folder: "fixed_script", module: "script" },
-    Crate { folder: "fixed_calc", module: "calc" },
+    Crate {
+        folder: "fixed_text",
+        module: "text",
+    },
+    Crate {
+        folder: "fixed_script",
+        module: "script",
+    },
+    Crate {
+        folder: "fixed_calc",
+        module: "calc",
+    },
 ];
 
 fn main() {
@@ -49,11 +85,17 @@ fn write_all() -> Result<(), String> {
 fn library(top: PathBuf) -> Result<String, String> {
     let mut names = names(&LIBRARY, "crate");
     names.push(("std", "core".to_string()));
-    let mut writing = Writing { top, names, clauses: Clauses::new() };
+    let mut writing = Writing {
+        top,
+        names,
+        clauses: Clauses::new(),
+    };
     let mut text = String::new();
     for item in LIBRARY {
         if item.module == "strict" {
-            writing.names.push(("fixed_num", "crate::stopping".to_string()));
+            writing
+                .names
+                .push(("fixed_num", "crate::stopping".to_string()));
             text.push_str(&writing.module(item, Reading::Strict)?);
             writing.names.pop();
         } else {
@@ -68,7 +110,11 @@ fn program(top: PathBuf) -> Result<String, String> {
     let mut names = names(&LIBRARY, "zugyelmas");
     names.extend(self::names(&PROGRAM, "crate"));
     let adapters = top.join("fixed_prog/src/adapters.rt");
-    let mut writing = Writing { top, names, clauses: Clauses::new() };
+    let mut writing = Writing {
+        top,
+        names,
+        clauses: Clauses::new(),
+    };
     let mut text = String::new();
     for item in PROGRAM {
         text.push_str(&writing.module(item, Reading::Program)?);
@@ -79,7 +125,10 @@ fn program(top: PathBuf) -> Result<String, String> {
 
 /// The crates by the modules that stand for them.
 fn names(crates: &[Crate], root: &str) -> Vec<(&'static str, String)> {
-    crates.iter().map(|item| (item.folder, format!("{root}::{}", item.module))).collect()
+    crates
+        .iter()
+        .map(|item| (item.folder, format!("{root}::{}", item.module)))
+        .collect()
 }
 
 fn write(name: &str, text: &str) -> Result<(), String> {

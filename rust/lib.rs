@@ -74,26 +74,34 @@ mod stopping {
     pub use crate::num::{Fixed, Held, Number};
 
     pub fn exact_number<T: Word, const F: u32>(outcome: Outcome<T>) -> Fixed<T, F> {
-        Fixed { bits: strict_of(outcome) }
+        Fixed {
+            bits: strict_of(outcome),
+        }
     }
 }
 
 #[doc(inline)]
 pub use num::{
-    Constants, Fixed, FixedI8, FixedI16, FixedI32, FixedI64, FixedU8, FixedU16, FixedU32, FixedU64, Held, Number,
+    Constants, Fixed, FixedI8, FixedI16, FixedI32, FixedI64, FixedU8, FixedU16, FixedU32, FixedU64,
+    Held, Number,
 };
 
 /// What most programs import: the numbers, and the traits of their calls.
 pub mod prelude {
     pub use crate::num::{
-        Constants, Fixed, FixedI8, FixedI16, FixedI32, FixedI64, FixedU8, FixedU16, FixedU32, FixedU64, Held, Number,
+        Constants, Fixed, FixedI8, FixedI16, FixedI32, FixedI64, FixedU8, FixedU16, FixedU32,
+        FixedU64, Held, Number,
     };
     pub use crate::ops::{Plain, PlainMulAdd, PlainProducts, PlainSigned, PlainUnsigned};
-    pub use crate::policy::{Checked, CheckedMulAdd, CheckedProducts, CheckedSigned, CheckedUnsigned};
+    pub use crate::policy::{
+        Checked, CheckedMulAdd, CheckedProducts, CheckedSigned, CheckedUnsigned,
+    };
     pub use crate::policy::{
         Overflowing, OverflowingMulAdd, OverflowingProducts, OverflowingSigned, OverflowingUnsigned,
     };
-    pub use crate::policy::{Wrapping, WrappingMulAdd, WrappingProducts, WrappingSigned, WrappingUnsigned};
+    pub use crate::policy::{
+        Wrapping, WrappingMulAdd, WrappingProducts, WrappingSigned, WrappingUnsigned,
+    };
     pub use crate::strict::{
         Saturating, SaturatingMulAdd, SaturatingProducts, SaturatingSigned, SaturatingUnsigned,
     };

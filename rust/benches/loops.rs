@@ -7,8 +7,8 @@
 
 use std::hint::black_box;
 use std::time::{Duration, Instant};
-use zugyelmas::prelude::*;
 use zugyelmas::Held;
+use zugyelmas::prelude::*;
 
 /// How many numbers an array has.
 const LENGTH: usize = 4096;
@@ -100,7 +100,9 @@ impl<N: Copy, R> Arrays<N, R> {
     /// One pass over the arrays.
     #[inline(never)]
     fn pass(&mut self, f: impl Fn(N, N, N) -> R) {
-        let Arrays { a, b, c, answers, .. } = self;
+        let Arrays {
+            a, b, c, answers, ..
+        } = self;
         for (((answer, a), b), c) in answers.iter_mut().zip(a).zip(b).zip(c) {
             *answer = f(*a, *b, *c);
         }
@@ -127,10 +129,17 @@ fn measured<N: Held<Bits = T> + Answer<Bits = T>, T: Word, R: Answer>(
     by_hand: impl Fn(T, T, T) -> R::Bits + Copy,
     call: impl Fn(N, N, N) -> R + Copy,
 ) -> (f64, f64) {
-    let numbers: Vec<_> = operands.iter().map(|(a, b, c)| (N::from_bits(*a), N::from_bits(*b), N::from_bits(*c))).collect();
+    let numbers: Vec<_> = operands
+        .iter()
+        .map(|(a, b, c)| (N::from_bits(*a), N::from_bits(*b), N::from_bits(*c)))
+        .collect();
     let mut plain = Arrays::new(operands, by_hand);
     let mut typed = Arrays::new(&numbers, call);
-    let alike = plain.answers.iter().zip(&typed.answers).all(|(plain, typed)| *plain == typed.bits());
+    let alike = plain
+        .answers
+        .iter()
+        .zip(&typed.answers)
+        .all(|(plain, typed)| *plain == typed.bits());
     assert!(alike, "both sides answer alike");
     let (mut ours, mut theirs) = (f64::MAX, f64::MAX);
     for _ in 0..SAMPLES {
@@ -145,12 +154,16 @@ struct Draws(u64);
 
 impl Draws {
     fn next(&mut self) -> u64 {
-        self.0 = self.0.wrapping_mul(6364136223846793005).wrapping_add(1442695040888963407);
+        self.0 = self
+            .0
+            .wrapping_mul(6364136223846793005)
+            .wrapping_add(1442695040888963407);
         self.0 ^ (self.0 >> 29)
     }
 }
 
 /// The module of a word: its operands, the exact numbers and their projections by hand, and its rows.
+#[rustfmt::skip]
 macro_rules! word {
     ($word:ident, $wide:ident, $unsigned:ident, $half:literal) => {
         mod $word {
@@ -166,7 +179,11 @@ macro_rules! word {
             /// Numbers from one to some more in magnitude, at which no call is past the range.
             fn small(draws: &mut Draws) -> $word {
                 let magnitude = ((1 << $half) + draws.next() % (1 << ($half * 3 / 2 - 1)) / 2) as $word;
-                if <$word>::MIN == 0 || draws.next() % 2 == 0 { magnitude } else { (0 as $word).wrapping_sub(magnitude) }
+                if <$word>::MIN == 0 || draws.next() % 2 == 0 {
+                    magnitude
+                } else {
+                    (0 as $word).wrapping_sub(magnitude)
+                }
             }
 
             fn operands(number: fn(&mut Draws) -> $word) -> Vec<($word, $word, $word)> {
@@ -261,19 +278,24 @@ macro_rules! word {
                 row!(small, None, strict_sub, |a, b, _| (a.max(b)).checked_sub(a.min(b)).unwrap(),
                     |a, b, _| (a.max(b)).strict_sub(a.min(b)));
                 row!(any, Some(1.1), wrapping_dist, |a, b, _| dist(a, b) as $word, |a, b, _| a.wrapping_dist(b));
-                row!(any, Some(1.1), checked_dist, |a, b, _| <$word>::try_from(dist(a, b)).ok(), |a, b, _| a.checked_dist(b));
+                row!(any, Some(1.1), checked_dist, |a, b, _| <$word>::try_from(dist(a, b)).ok(),
+                    |a, b, _| a.checked_dist(b));
                 row!(any, Some(1.1), overflowing_dist,
-                    |a, b, _| (dist(a, b) as $word, dist(a, b) > <$word>::MAX as $unsigned), |a, b, _| a.overflowing_dist(b));
+                    |a, b, _| (dist(a, b) as $word, dist(a, b) > <$word>::MAX as $unsigned),
+                    |a, b, _| a.overflowing_dist(b));
                 row!(any, Some(1.1), saturating_dist,
                     |a, b, _| dist(a, b).min(<$word>::MAX as $unsigned) as $word, |a, b, _| a.saturating_dist(b));
-                row!(small, None, strict_dist, |a, b, _| <$word>::try_from(dist(a, b)).unwrap(), |a, b, _| a.strict_dist(b));
+                row!(small, None, strict_dist, |a, b, _| <$word>::try_from(dist(a, b)).unwrap(),
+                    |a, b, _| a.strict_dist(b));
                 row!(any, Some(1.1), wrapping_mul, |a, b, _| mul(a, b) as $word, |a, b, _| a.wrapping_mul(b));
                 row!(any, Some(1.1), checked_mul, |a, b, _| checked(mul(a, b)), |a, b, _| a.checked_mul(b));
                 row!(any, Some(1.1), overflowing_mul, |a, b, _| overflowing(mul(a, b)), |a, b, _| a.overflowing_mul(b));
                 row!(any, Some(1.1), saturating_mul, |a, b, _| saturating(mul(a, b)), |a, b, _| a.saturating_mul(b));
                 row!(small, None, strict_mul, |a, b, _| strict(mul(a, b)), |a, b, _| a.strict_mul(b));
-                row!(any, Some(1.2), wrapping_mul_add, |a, b, c| mul_add(a, b, c) as $word, |a, b, c| a.wrapping_mul_add(b, c));
-                row!(any, Some(1.2), checked_mul_add, |a, b, c| checked(mul_add(a, b, c)), |a, b, c| a.checked_mul_add(b, c));
+                row!(any, Some(1.2), wrapping_mul_add, |a, b, c| mul_add(a, b, c) as $word,
+                    |a, b, c| a.wrapping_mul_add(b, c));
+                row!(any, Some(1.2), checked_mul_add, |a, b, c| checked(mul_add(a, b, c)),
+                    |a, b, c| a.checked_mul_add(b, c));
                 row!(any, Some(1.2), overflowing_mul_add,
                     |a, b, c| overflowing(mul_add(a, b, c)), |a, b, c| a.overflowing_mul_add(b, c));
                 row!(any, Some(1.2), saturating_mul_add,
@@ -285,28 +307,35 @@ macro_rules! word {
                 row!(any, Some(1.2), overflowing_div, |a, b, _| overflowing(div(a, b)), |a, b, _| a.overflowing_div(b));
                 row!(any, Some(1.2), saturating_div, |a, b, _| saturating(div(a, b)), |a, b, _| a.saturating_div(b));
                 row!(small, None, strict_div, |a, b, _| strict(div(a, b)), |a, b, _| a.strict_div(b));
-                row!(any, Some(1.2), wrapping_div_euclid, |a, b, _| div_euclid(a, b) as $word, |a, b, _| a.wrapping_div_euclid(b));
+                row!(any, Some(1.2), wrapping_div_euclid, |a, b, _| div_euclid(a, b) as $word,
+                    |a, b, _| a.wrapping_div_euclid(b));
                 row!(any, Some(1.2), checked_div_euclid,
                     |a, b, _| if b == 0 { None } else { checked(div_euclid(a, b)) }, |a, b, _| a.checked_div_euclid(b));
                 row!(any, Some(1.2), overflowing_div_euclid,
                     |a, b, _| overflowing(div_euclid(a, b)), |a, b, _| a.overflowing_div_euclid(b));
                 row!(any, Some(1.2), saturating_div_euclid,
                     |a, b, _| saturating(div_euclid(a, b)), |a, b, _| a.saturating_div_euclid(b));
-                row!(small, None, strict_div_euclid, |a, b, _| strict(div_euclid(a, b)), |a, b, _| a.strict_div_euclid(b));
+                row!(small, None, strict_div_euclid, |a, b, _| strict(div_euclid(a, b)),
+                    |a, b, _| a.strict_div_euclid(b));
                 row!(any, Some(1.2), checked_rem_euclid,
-                    |a, b, _| if b == 0 { None } else { Some(a.wrapping_rem_euclid(b)) }, |a, b, _| a.checked_rem_euclid(b));
+                    |a, b, _| if b == 0 { None } else { Some(a.wrapping_rem_euclid(b)) },
+                    |a, b, _| a.checked_rem_euclid(b));
                 row!(any, Some(1.2), rem_euclid, |a, b, _| a.wrapping_rem_euclid(b), |a, b, _| a.rem_euclid(b));
-                row!(any, Some(1.2), strict_rem_euclid, |a, b, _| a.wrapping_rem_euclid(b), |a, b, _| a.strict_rem_euclid(b));
+                row!(any, Some(1.2), strict_rem_euclid, |a, b, _| a.wrapping_rem_euclid(b),
+                    |a, b, _| a.strict_rem_euclid(b));
                 row!(any, Some(1.2), wrapping_recip, |_, b, _| recip(b) as $word, |_, b, _| b.wrapping_recip());
                 row!(any, Some(1.2), checked_recip,
                     |_, b, _| if b == 0 { None } else { checked(recip(b)) }, |_, b, _| b.checked_recip());
-                row!(any, Some(1.2), overflowing_recip, |_, b, _| overflowing(recip(b)), |_, b, _| b.overflowing_recip());
+                row!(any, Some(1.2), overflowing_recip, |_, b, _| overflowing(recip(b)),
+                    |_, b, _| b.overflowing_recip());
                 row!(any, Some(1.2), saturating_recip, |_, b, _| saturating(recip(b)), |_, b, _| b.saturating_recip());
                 row!(small, None, strict_recip, |_, b, _| strict(recip(b)), |_, b, _| b.strict_recip());
                 row!(roots, Some(1.0), wrapping_sqrt, |a, _, _| sqrt(a) as $word, |a, _, _| a.wrapping_sqrt());
                 row!(roots, Some(1.0), checked_sqrt,
-                    |a, _, _| if a < <$word>::MIN.max(0) { None } else { checked(sqrt(a)) }, |a, _, _| a.checked_sqrt());
-                row!(roots, Some(1.0), overflowing_sqrt, |a, _, _| overflowing(sqrt(a)), |a, _, _| a.overflowing_sqrt());
+                    |a, _, _| if a < <$word>::MIN.max(0) { None } else { checked(sqrt(a)) },
+                    |a, _, _| a.checked_sqrt());
+                row!(roots, Some(1.0), overflowing_sqrt, |a, _, _| overflowing(sqrt(a)),
+                    |a, _, _| a.overflowing_sqrt());
                 row!(roots, Some(1.0), saturating_sqrt, |a, _, _| saturating(sqrt(a)), |a, _, _| a.saturating_sqrt());
                 row!(roots, None, strict_sqrt, |a, _, _| strict(sqrt(a)), |a, _, _| a.strict_sqrt());
             }
@@ -327,7 +356,11 @@ const WORDS: [&str; 8] = ["i8", "i16", "i32", "i64", "u8", "u16", "u32", "u64"];
 
 /// A table of one figure for each call and word.
 fn table(rows: &[Row], figure: impl Fn(&Row) -> String) {
-    println!("| Call | {} |\n|---|{}", WORDS.join(" | "), "---|".repeat(WORDS.len()));
+    println!(
+        "| Call | {} |\n|---|{}",
+        WORDS.join(" | "),
+        "---|".repeat(WORDS.len())
+    );
     let mut calls: Vec<&str> = Vec::new();
     for row in rows {
         if !calls.contains(&row.call) {
@@ -335,15 +368,23 @@ fn table(rows: &[Row], figure: impl Fn(&Row) -> String) {
         }
     }
     for call in calls {
-        let of_word = |word| rows.iter().find(|row| row.call == call && row.word == word).map_or(String::new(), &figure);
+        let of_word = |word| {
+            rows.iter()
+                .find(|row| row.call == call && row.word == word)
+                .map_or(String::new(), &figure)
+        };
         println!("| `{call}` | {} |", WORDS.map(of_word).join(" | "));
     }
     println!();
 }
 
 fn main() {
-    let words: Vec<String> = std::env::args().skip(1).filter(|word| !word.starts_with('-')).collect();
-    let wanted = |name: &str| words.is_empty() || words.iter().any(|word| name.contains(word.as_str()));
+    let words: Vec<String> = std::env::args()
+        .skip(1)
+        .filter(|word| !word.starts_with('-'))
+        .collect();
+    let wanted =
+        |name: &str| words.is_empty() || words.iter().any(|word| name.contains(word.as_str()));
     let mut rows = Vec::new();
     i8::rows(&mut rows, wanted);
     i16::rows(&mut rows, wanted);
@@ -358,8 +399,18 @@ fn main() {
     println!("Nanoseconds an element, and by hand\n");
     table(&rows, |row| format!("{:.2} {:.2}", row.ours, row.by_hand));
     let missed: Vec<&Row> = rows.iter().filter(|row| row.misses()).collect();
-    println!("Rows past their goal: {} of {}\n", missed.len(), rows.iter().filter(|row| row.goal.is_some()).count());
+    println!(
+        "Rows past their goal: {} of {}\n",
+        missed.len(),
+        rows.iter().filter(|row| row.goal.is_some()).count()
+    );
     for row in missed {
-        println!("- `{}` of {}: {:.2}, goal {:.1}", row.call, row.word, row.ratio(), row.goal.unwrap_or_default());
+        println!(
+            "- `{}` of {}: {:.2}, goal {:.1}",
+            row.call,
+            row.word,
+            row.ratio(),
+            row.goal.unwrap_or_default()
+        );
     }
 }

@@ -4,8 +4,15 @@
 //!
 //! usage: zugyelmas [demo N]
 
-// The code that is included is the proved sources' own.
+// The code that is included is the proved sources' own, in the forms of which their proofs speak.
 #![allow(dead_code, unused_imports, unused_labels, unused_variables)]
+#![allow(
+    clippy::manual_map,
+    clippy::manual_range_contains,
+    clippy::question_mark,
+    clippy::single_match,
+    clippy::while_let_on_iterator
+)]
 
 mod memory;
 
@@ -19,7 +26,10 @@ use std::{env, io};
 /// The words of the command line. Where one is no text, one empty word stands for them, which is no form of the
 /// command.
 fn words() -> std::vec::Vec<String> {
-    let words: Result<_, _> = env::args_os().skip(1).map(|word| word.into_string()).collect();
+    let words: Result<_, _> = env::args_os()
+        .skip(1)
+        .map(|word| word.into_string())
+        .collect();
     words.unwrap_or_else(|_| vec![String::new()])
 }
 

@@ -19,12 +19,16 @@ pub struct Vec<T> {
 
 impl<T> Vec<T> {
     pub fn new(_alloc: Global) -> Vec<T> {
-        Vec { held: vec::Vec::new() }
+        Vec {
+            held: vec::Vec::new(),
+        }
     }
 
     pub fn with_capacity(alloc: Global, capacity: usize) -> Result<Vec<T>, AllocError> {
         let mut made = Vec::new(alloc);
-        made.held.try_reserve_exact(capacity).map_err(|_| AllocError)?;
+        made.held
+            .try_reserve_exact(capacity)
+            .map_err(|_| AllocError)?;
         Ok(made)
     }
 

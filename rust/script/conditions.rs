@@ -20,6 +20,7 @@ pub struct Condition {
 
 /// Each form of a clause, with `$` for one name and `..` for the rest: when a call stops, the test, and the
 /// words. No test stands where `exact_number` sees the side of the number, or an operator of std stops.
+#[rustfmt::skip]
 const KNOWN: [(&str, When, &str, &str); 39] = [
     ("Self.FRACTION ≤ Self.BITS", Always, "F <= T::BITS", "the fraction F is at most the width"),
     ("$ ≤ Self.BITS", Always, "$ <= T::BITS", "the fraction $ is at most the width"),
@@ -53,11 +54,15 @@ const KNOWN: [(&str, When, &str, &str); 39] = [
     ("outcome.side ≡ Side.Fits", Always, "outcome.side == Side::Fits", "the number fits"),
     ("InRange T.SIGNED T.BITS (pos (2 ^ F))", Always, "F + u32::from(T::SIGNED) < T::BITS", "the number 1 fits"),
     ("InRange T.SIGNED T.BITS (neg_ℤ (pos (2 ^ F)))", Always, "T::SIGNED && F < T::BITS", "the number -1 fits"),
-    ("root_of (T.value self.bits) F ≤ℤ highest T.SIGNED T.BITS", Debugging, "fixed_kernel::sqrt_of(self.bits, F).side == fixed_word::Side::Fits", "the root fits"),
-    ("T.SIGNED ≡ true → T.value rhs.bits ≡ negsuc 0 → T.value self.bits ≢ lowest T.SIGNED T.BITS", Debugging, "!T::SIGNED || self.bits != T::MIN || rhs.bits != T::residue(true, 1)", "the quotient fits"),
-    ("InRange SIGNED Self.BITS (Self.value self *ℤ pos (2 ^ by))", Debugging, "(self << by) >> by == self", "the number fits"),
-    ("InRange SIGNED Self.BITS (euclidean_quotient ..", Debugging, "self.checked_div_euclid(divisor).is_some()", "the number fits"),
-    ("the outcome's number fits", Debugging, "outcome.side == fixed_word::Side::Fits", "the number fits"),
+    ("root_of (T.value self.bits) F ≤ℤ highest T.SIGNED T.BITS", Debugging,
+        "fixed_kernel::sqrt_of(self.bits, F).side == fixed_word::Side::Fits", "the root fits"),
+    ("T.SIGNED ≡ true → T.value rhs.bits ≡ negsuc 0 → T.value self.bits ≢ lowest T.SIGNED T.BITS", Debugging,
+        "!T::SIGNED || self.bits != T::MIN || rhs.bits != T::residue(true, 1)", "the quotient fits"),
+    ("InRange SIGNED Self.BITS (Self.value self *ℤ pos (2 ^ by))", Debugging,
+        "(self << by) >> by == self", "the number fits"),
+    ("InRange SIGNED Self.BITS (euclidean_quotient ..", Debugging,
+        "self.checked_div_euclid(divisor).is_some()", "the number fits"),
+    ("the number of the outcome fits", Debugging, "outcome.side == fixed_word::Side::Fits", "the number fits"),
     ("InRange ..", Debugging, "", "the number fits"),
     ("SumsFit ..", Debugging, "", "each sum fits"),
     ("ProductsFit ..", Debugging, "", "each product fits"),
@@ -69,7 +74,11 @@ pub fn condition_of(clause: &str, strict: bool) -> Result<Condition, String> {
     let found = KNOWN.iter().find_map(|(form, when, test, words)| {
         let name = name_in(form, clause)?;
         let when = if strict { Always } else { *when };
-        Some(Condition { when, test: test.replace('$', name), words: words.replace('$', name) })
+        Some(Condition {
+            when,
+            test: test.replace('$', name),
+            words: words.replace('$', name),
+        })
     });
     found.ok_or_else(|| format!("a clause of no known form: {clause}"))
 }
@@ -83,6 +92,8 @@ fn name_in<'a>(form: &str, clause: &'a str) -> Option<&'a str> {
         return (clause == form).then_some("");
     };
     let name = clause.strip_prefix(before)?.strip_suffix(after)?;
-    let is_name = name.chars().all(|sign| sign.is_alphanumeric() || sign == '_' || sign == '.');
+    let is_name = name
+        .chars()
+        .all(|sign| sign.is_alphanumeric() || sign == '_' || sign == '.');
     (is_name && !name.is_empty()).then_some(name)
 }

@@ -12,15 +12,25 @@ const WRITTEN: [(&str, &str); 10] = [
     ("(rt, ", "("),
     ("(&rt)", "()"),
     ("(rt)", "()"),
-    ("use std::test::Fail;", "type Fail = std::boxed::Box<dyn std::error::Error>;"),
+    (
+        "use std::test::Fail;",
+        "type Fail = std::boxed::Box<dyn std::error::Error>;",
+    ),
 ];
 
 /// Lines that go.
-const DROPPED: [&str; 4] = ["use std::process::Abort;", "rt: &impl Abort,", "&rt,", "rt,"];
+const DROPPED: [&str; 4] = [
+    "use std::process::Abort;",
+    "rt: &impl Abort,",
+    "&rt,",
+    "rt,",
+];
 
 /// A test's source without the runtime.
 pub fn without_runtime(source: &str) -> String {
-    let kept = source.lines().filter(|line| !DROPPED.contains(&line.trim()));
+    let kept = source
+        .lines()
+        .filter(|line| !DROPPED.contains(&line.trim()));
     let mut text: String = kept.flat_map(|line| [line, "\n"]).collect();
     for (proved, plain) in WRITTEN {
         text = text.replace(proved, plain);

@@ -14,7 +14,11 @@ pub struct Crate {
 }
 
 /// The files that no crate offers: their public calls are made by the proved code beside them alone.
-const INSIDE: [&str; 3] = ["fixed_kernel/src/whole.rt", "fixed_kernel/src/wide.rt", "fixed_logs/src/exact.rt"];
+const INSIDE: [&str; 3] = [
+    "fixed_kernel/src/whole.rt",
+    "fixed_kernel/src/wide.rt",
+    "fixed_logs/src/exact.rt",
+];
 
 /// What is written over several crates: the folder of all crates, what each name at the front of a path becomes,
 /// and the clauses of the traits so far.
@@ -28,17 +32,28 @@ impl Writing {
     /// The crate as a module.
     pub fn module(&mut self, item: Crate, reading: Reading) -> Result<String, String> {
         let source = self.top.join(item.folder).join("src");
-        self.names.push(("crate", format!("crate::{}", item.module)));
+        self.names
+            .push(("crate", format!("crate::{}", item.module)));
         let text = self.file(item.module, &source.join("lib.rt"), &source, reading);
         self.names.pop();
         Ok(format!("pub {}", text?))
     }
 
     /// A file as a module, with those that it names inside.
-    pub fn file(&mut self, name: &str, file: &Path, folder: &Path, reading: Reading) -> Result<String, String> {
+    pub fn file(
+        &mut self,
+        name: &str,
+        file: &Path,
+        folder: &Path,
+        reading: Reading,
+    ) -> Result<String, String> {
         let at = |error| format!("{}: {error}", file.display());
         let source = fs::read_to_string(file).map_err(|error| at(error.to_string()))?;
-        let source = if reading == Reading::Tests { without_runtime(&source) } else { source };
+        let source = if reading == Reading::Tests {
+            without_runtime(&source)
+        } else {
+            source
+        };
         let text = erased(&source, reading, &mut self.clauses).map_err(at)?;
         let mut out = format!("mod {name} {{\n");
         let mut for_tests = reading == Reading::Tests;
@@ -48,7 +63,13 @@ impl Writing {
                     let below = folder.join(inner);
                     let file = below.with_extension("rt");
                     let is_inside = INSIDE.iter().any(|inside| file.ends_with(inside));
-                    let reading = if for_tests { Reading::Tests } else if is_inside { Reading::Inside } else { reading };
+                    let reading = if for_tests {
+                        Reading::Tests
+                    } else if is_inside {
+                        Reading::Inside
+                    } else {
+                        reading
+                    };
                     out.push_str(public);
                     out.push_str(&self.file(inner, &file, &below, reading)?);
                 }
@@ -76,7 +97,11 @@ impl Writing {
                 continue;
             }
             let is_kept = *piece == "std" && reading == Reading::Tests;
-            let found = self.names.iter().rev().find(|(name, _)| name == piece && !is_kept);
+            let found = self
+                .names
+                .iter()
+                .rev()
+                .find(|(name, _)| name == piece && !is_kept);
             match (found, pieces.get(at + 1)) {
                 (Some((_, path)), Some(&":")) => out.push_str(path),
                 _ => out.push_str(piece),
@@ -87,8 +112,13 @@ impl Writing {
 
     /// A comment whose links name the crates by their modules.
     fn relinked(&self, comment: &str) -> String {
-        let crates = self.names.iter().filter(|(name, _)| name.starts_with("fixed_"));
-        crates.fold(comment.to_string(), |text, (name, path)| text.replace(&format!("]({name}"), &format!("]({path}")))
+        let crates = self
+            .names
+            .iter()
+            .filter(|(name, _)| name.starts_with("fixed_"));
+        crates.fold(comment.to_string(), |text, (name, path)| {
+            text.replace(&format!("]({name}"), &format!("]({path}"))
+        })
     }
 }
 

@@ -123,11 +123,19 @@ stops_when_debugging! {
 /// Where the conditions hold, nothing stops: the ends of each kind.
 #[test]
 fn at_the_ends() {
-    assert_eq!(FixedI8::<8>::from_bits(127).wrapping_mul(FixedI8::from_bits(127)).bits, 63);
+    assert_eq!(
+        FixedI8::<8>::from_bits(127)
+            .wrapping_mul(FixedI8::from_bits(127))
+            .bits,
+        63
+    );
     assert_eq!(FixedI8::<6>::one().bits, 64);
     assert_eq!(FixedI8::<7>::neg_one().bits, -128);
     assert_eq!(FixedU8::<7>::one().bits, 128);
-    assert_eq!(kernel::overflowing_mul_add(-128_i8, -128, 0, 16), (0, false));
+    assert_eq!(
+        kernel::overflowing_mul_add(-128_i8, -128, 0, 16),
+        (0, false)
+    );
     assert_eq!(kernel::overflowing_mul_add(1_i8, 0, 1, -8), (1, false));
     assert_eq!((byte(1) << 7).bits, -128);
     assert_eq!(strict::strict_of(kernel::add_of(126_i8, 1)), 127);

@@ -20,7 +20,8 @@ fn read(source: &str) -> String {
 
 #[test]
 fn pieces_are_the_source() {
-    let source = "fn f<'a>(x: &'a u8) -> char { /* } */ '{' } // }\nconst B: u8 = b'}'; \"}\\\"}\" '\\'' λ x. x ≤ℤ y";
+    let source = "fn f<'a>(x: &'a u8) -> char { /* } */ '{' } // }
+const B: u8 = b'}'; \"}\\\"}\" '\\'' λ x. x ≤ℤ y";
     let cut = pieces(source);
     assert_eq!(cut.concat(), source);
     for whole in ["'{'", "// }", "\"}\\\"}\"", "'\\''", "'}'", "λ"] {
@@ -30,33 +31,108 @@ fn pieces_are_the_source() {
 
 #[test]
 fn braces_that_close_nothing() {
-    let source = "fn f() -> [char; 2]\n    ensures { result ≡ \"}\" ++ codes \"{\" }\n{\n    // }\n    ['}', '{']\n}\n";
-    assert_eq!(read(source), "fn f() -> [char; 2] {\n    // }\n    ['}', '{']\n}\n");
+    let source = "fn f() -> [char; 2]
+    ensures { result ≡ \"}\" ++ codes \"{\" }
+{
+    // }
+    ['}', '{']
+}
+";
+    assert_eq!(
+        read(source),
+        "fn f() -> [char; 2] {\n    // }\n    ['}', '{']\n}\n"
+    );
 }
 
 #[test]
 fn nested_clauses() {
-    let source = "fn f<T>(x: T) -> T\nwhere\n    T: Copy,\n    // why\n    requires a { record { b = { x } } }\n    ensures { IfSome x (λ y. { y }) }\n{\n    x\n}\n";
-    assert_eq!(read(source), "fn f<T>(x: T) -> T\nwhere\n    T: Copy, {\n    x\n}\n");
+    let source = "fn f<T>(x: T) -> T
+where
+    T: Copy,
+    // why
+    requires a { record { b = { x } } }
+    ensures { IfSome x (λ y. { y }) }
+{
+    x
+}
+";
+    assert_eq!(
+        read(source),
+        "fn f<T>(x: T) -> T\nwhere\n    T: Copy, {\n    x\n}\n"
+    );
 }
 
 #[test]
 fn ghost_fields_and_members() {
-    let source = "ghost use A.{b, c};\n\n#[derive(Debug, Drop)]\nstruct S {\n    at: usize,\n    ghost within: { at ≤ length (x, y) },\n}\n\n#[derive(Drop)]\nstruct D;\n";
-    assert_eq!(read(source).trim(), "#[derive(Debug)]\nstruct S {\n    at: usize,\n}\n\nstruct D;");
-    let source = "trait V {\n    const B: u32;\n\n    /// The state.\n    ghost state: { Self → ℕ };\n\n    fn v(&self);\n}\n\nimpl Model for S {\n    ghost Value = { ℕ };\n}\n";
-    assert_eq!(read(source).trim(), "trait V {\n    const B: u32;\n\n    fn v(&self);\n}");
+    let source = "ghost use A.{b, c};
+
+#[derive(Debug, Drop)]
+struct S {
+    at: usize,
+    ghost within: { at ≤ length (x, y) },
+}
+
+#[derive(Drop)]
+struct D;
+";
+    assert_eq!(
+        read(source).trim(),
+        "#[derive(Debug)]
+struct S {
+    at: usize,
+}
+
+struct D;"
+    );
+    let source = "trait V {
+    const B: u32;
+
+    /// The state.
+    ghost state: { Self → ℕ };
+
+    fn v(&self);
+}
+
+impl Model for S {
+    ghost Value = { ℕ };
+}
+";
+    assert_eq!(
+        read(source).trim(),
+        "trait V {\n    const B: u32;\n\n\n    fn v(&self);\n}"
+    );
 }
 
 #[test]
 fn what_the_prover_reads() {
-    let source = "//! A crate.\n#![tactic(auto)]\n\nuse std::marker::Model;\nuse std::ops::Add;\n\n#[tactic(auto, using(a::b))]\nfn f() {}\n";
-    assert_eq!(read(source), "//! A crate.\n\nuse std::ops::Add;\n\nfn f() {}\n");
+    let source = "//! A crate.
+#![tactic(auto)]
+
+use std::marker::Model;
+use std::ops::Add;
+
+#[tactic(auto, using(a::b))]
+fn f() {}
+";
+    assert_eq!(
+        read(source),
+        "//! A crate.\n\nuse std::ops::Add;\n\nfn f() {}\n"
+    );
 }
 
 #[test]
 fn a_public_call() {
-    let source = "/// The quotient.\n#[inline]\npub fn div<T: Word>(a: T, b: T, frac: u32) -> T\n    requires frac { frac ≤ T.BITS }\n    requires divisor { T.value b\n        ≢ pos 0 }\n    ensures { T.value result ≡ x }\n{\n    a\n}\n";
+    let source = "/// The quotient.
+#[inline]
+pub fn div<T: Word>(a: T, b: T, frac: u32) -> T
+    requires frac { frac ≤ T.BITS }
+    requires divisor { T.value b
+        ≢ pos 0 }
+    ensures { T.value result ≡ x }
+{
+    a
+}
+";
     let want = "/// The quotient.
 #[inline]
 ///
@@ -80,14 +156,30 @@ pub fn div<T: Word>(a: T, b: T, frac: u32) -> T {
 ";
     assert_eq!(read(source), want);
     let private = read(&source.replace("pub ", ""));
-    assert!(!private.contains("assert") && !private.contains("Panics"), "{private}");
+    assert!(
+        !private.contains("assert") && !private.contains("Panics"),
+        "{private}"
+    );
     let inside = erased(source, Reading::Inside, &mut Clauses::new()).unwrap();
-    assert!(!inside.contains("assert") && !inside.contains("Panics"), "{inside}");
+    assert!(
+        !inside.contains("assert") && !inside.contains("Panics"),
+        "{inside}"
+    );
 }
 
 #[test]
 fn a_trait_hands_its_clauses_on() {
-    let source = "pub trait Shift: Number {\n    fn shift(self, rhs: u32) -> Self\n        requires { rhs < Self.BITS };\n}\n\nimpl<T: Word, const F: u32> Shift for Fixed<T, F> {\n    fn shift(self, rhs: u32) -> Self {\n        self\n    }\n}\n";
+    let source = "pub trait Shift: Number {
+    fn shift(self, rhs: u32) -> Self
+        requires { rhs < Self.BITS };
+}
+
+impl<T: Word, const F: u32> Shift for Fixed<T, F> {
+    fn shift(self, rhs: u32) -> Self {
+        self
+    }
+}
+";
     let text = read(source);
     assert_eq!(text.matches("assert!(rhs < T::BITS").count(), 1, "{text}");
     assert!(text.contains("fn shift(self, rhs: u32) -> Self;"), "{text}");
@@ -95,25 +187,48 @@ fn a_trait_hands_its_clauses_on() {
 
 #[test]
 fn an_operator() {
-    let source = "impl<T: Word, const F: u32> Div for Fixed<T, F> {\n    type Output = Self;\n\n    ghost can_div = { λ a b. (F ≤ T.BITS) × (T.value b.bits ≢ pos 0)\n        × InRange T.SIGNED T.BITS (q a.bits) };\n\n    /// The quotient.\n    fn div(self, rhs: Self) -> Self {\n        self\n    }\n}\n";
+    let source = "impl<T: Word, const F: u32> Div for Fixed<T, F> {
+    type Output = Self;
+
+    ghost can_div = { λ a b. (F ≤ T.BITS) × (T.value b.bits ≢ pos 0)
+        × InRange T.SIGNED T.BITS (q a.bits) };
+
+    /// The quotient.
+    fn div(self, rhs: Self) -> Self {
+        self
+    }
+}
+";
     let text = read(source);
     assert!(text.contains("assert!(F <= T::BITS"), "{text}");
     assert!(text.contains("assert!(rhs.bits != T::ZERO"), "{text}");
-    assert!(text.contains("/// With debug assertions, unless the number fits"), "{text}");
-    assert!(text.contains("/// can_div = { λ a b. (F ≤ T.BITS) × (T.value b.bits ≢ pos 0)"), "{text}");
+    assert!(
+        text.contains("/// With debug assertions, unless the number fits"),
+        "{text}"
+    );
+    assert!(
+        text.contains("/// can_div = { λ a b. (F ≤ T.BITS) × (T.value b.bits ≢ pos 0)"),
+        "{text}"
+    );
 }
 
 #[test]
 fn an_unknown_clause() {
     let source = "pub fn f(x: u8)\n    requires { x ≡ 7 }\n{}\n";
-    assert_eq!(library(source), Err("f: a clause of no known form: x ≡ 7".to_string()));
+    assert_eq!(
+        library(source),
+        Err("f: a clause of no known form: x ≡ 7".to_string())
+    );
     assert!(library(&source.replace("pub ", "")).is_ok());
 }
 
 #[test]
 fn forms_of_clauses() {
     let fraction = condition_of("G ≤ T.BITS", false).unwrap();
-    assert_eq!((fraction.when, fraction.test.as_str()), (When::Always, "G <= T::BITS"));
+    assert_eq!(
+        (fraction.when, fraction.test.as_str()),
+        (When::Always, "G <= T::BITS")
+    );
     let fits = "InRange T.SIGNED T.BITS (exact_neg (T.value a))";
     assert_eq!(condition_of(fits, false).unwrap().when, When::Debugging);
     assert_eq!(condition_of(fits, true).unwrap().when, When::Always);
@@ -123,7 +238,37 @@ fn forms_of_clauses() {
 
 #[test]
 fn tests_without_the_runtime() {
-    let source = "use std::process::Abort;\n\n#[test]\nfn t(rt: HostRuntime) {\n    assert_eq!(rt; f(&rt, 1), 2, \"rt; a\");\n    assert!(rt;\n        g(\n            &rt,\n            1,\n        )\n    );\n}\n\nfn f(rt: &impl Abort, x: u8) -> u8 {\n    h(rt)\n}\n";
-    let want = "\n#[test]\nfn t() {\n    assert_eq!(f(1), 2, \"rt; a\");\n    assert!(\n        g(\n            1,\n        )\n    );\n}\n\nfn f(x: u8) -> u8 {\n    h()\n}\n";
+    let source = "use std::process::Abort;
+
+#[test]
+fn t(rt: HostRuntime) {
+    assert_eq!(rt; f(&rt, 1), 2, \"rt; a\");
+    assert!(rt;
+        g(
+            &rt,
+            1,
+        )
+    );
+}
+
+fn f(rt: &impl Abort, x: u8) -> u8 {
+    h(rt)
+}
+";
+    let want = "
+#[test]
+fn t() {
+    assert_eq!(f(1), 2, \"rt; a\");
+    assert!(
+        g(
+            1,
+        )
+    );
+}
+
+fn f(x: u8) -> u8 {
+    h()
+}
+";
     assert_eq!(without_runtime(source), want);
 }
