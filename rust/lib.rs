@@ -66,6 +66,8 @@
 extern crate std;
 
 include!(concat!(env!("OUT_DIR"), "/library.rs"));
+#[cfg(test)]
+include!(concat!(env!("OUT_DIR"), "/tests.rs"));
 
 /// What the strict forms know as the numbers: the same, but that the number has to fit in every build.
 mod stopping {

@@ -6,13 +6,6 @@ use crate::script::pieces::pieces;
 use std::fs;
 use std::path::{Path, PathBuf};
 
-/// A crate: its folder, and the module that it becomes.
-#[derive(Clone, Copy)]
-pub struct Crate {
-    pub folder: &'static str,
-    pub module: &'static str,
-}
-
 /// The files that no crate offers: their public calls are made by the proved code beside them alone.
 const INSIDE: [&str; 3] = [
     "fixed_kernel/src/whole.rt",
@@ -23,18 +16,32 @@ const INSIDE: [&str; 3] = [
 /// What is written over several crates: the folder of all crates, what each name at the front of a path becomes,
 /// and the clauses of the traits so far.
 pub struct Writing {
-    pub top: PathBuf,
-    pub names: Vec<(&'static str, String)>,
-    pub clauses: Clauses,
+    top: PathBuf,
+    pub names: Vec<(String, String)>,
+    clauses: Clauses,
 }
 
 impl Writing {
-    /// The crate as a module.
-    pub fn module(&mut self, item: Crate, reading: Reading) -> Result<String, String> {
-        let source = self.top.join(item.folder).join("src");
-        self.names
-            .push(("crate", format!("crate::{}", item.module)));
-        let text = self.file(item.module, &source.join("lib.rt"), &source, reading);
+    pub fn new(top: PathBuf, names: Vec<(String, String)>) -> Writing {
+        let clauses = Clauses::new();
+        Writing {
+            top,
+            names,
+            clauses,
+        }
+    }
+
+    /// A crate as a module of its name without the `fixed_` in front.
+    pub fn library_crate(&mut self, name: &str, reading: Reading) -> Result<String, String> {
+        self.module(&format!("fixed_{name}"), name, reading)
+    }
+
+    /// The crate of a folder as a module.
+    pub fn module(&mut self, folder: &str, name: &str, reading: Reading) -> Result<String, String> {
+        let source = self.top.join(folder).join("src");
+        let own = ("crate".to_string(), format!("crate::{name}"));
+        self.names.push(own);
+        let text = self.file(name, &source.join("lib.rt"), &source, reading);
         self.names.pop();
         Ok(format!("pub {}", text?))
     }
