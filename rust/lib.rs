@@ -75,6 +75,7 @@ mod stopping {
 
     pub use crate::num::{Fixed, Held, Number};
 
+    #[track_caller]
     pub fn exact_number<T: Word, const F: u32>(outcome: Outcome<T>) -> Fixed<T, F> {
         Fixed {
             bits: strict_of(outcome),

@@ -188,10 +188,15 @@ impl Erasing<'_> {
         if has_body {
             self.out.push_str(&assertions(&conditions, indent + 4));
         }
+        let mut above = String::new();
         if is_documented(&self.out[..line]) && !contract.is_empty() {
-            self.out
-                .insert_str(line, &docs(&contract, &conditions, indent));
+            above.push_str(&docs(&contract, &conditions, indent));
         }
+        if has_body && !conditions.is_empty() {
+            // So that a call that stops names the line of its caller.
+            above.push_str(&format!("{:indent$}#[track_caller]\n", ""));
+        }
+        self.out.insert_str(line, &above);
         Ok(())
     }
 

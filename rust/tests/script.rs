@@ -148,6 +148,7 @@ pub fn div<T: Word>(a: T, b: T, frac: u32) -> T
 ///     ≢ pos 0 }
 /// ensures { T.value result ≡ x }
 /// ```
+#[track_caller]
 pub fn div<T: Word>(a: T, b: T, frac: u32) -> T {
     assert!(frac <= T::BITS, \"condition: the fraction frac is at most the width\");
     assert!(b != T::ZERO, \"condition: the divisor is not 0\");
