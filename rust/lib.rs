@@ -83,34 +83,43 @@ mod stopping {
     }
 }
 
-#[doc(inline)]
 pub use num::{
     Constants, Fixed, FixedI8, FixedI16, FixedI32, FixedI64, FixedU8, FixedU16, FixedU32, FixedU64,
     Held, Number,
 };
+pub use ops::{Plain, PlainMulAdd, PlainProducts, PlainSigned, PlainUnsigned, product, sum};
+pub use policy::{Checked, CheckedMulAdd, CheckedProducts, CheckedSigned, CheckedUnsigned};
+pub use policy::{
+    Overflowing, OverflowingMulAdd, OverflowingProducts, OverflowingSigned, OverflowingUnsigned,
+};
+pub use policy::{Wrapping, WrappingMulAdd, WrappingProducts, WrappingSigned, WrappingUnsigned};
+pub use strict::{
+    Saturating, SaturatingMulAdd, SaturatingProducts, SaturatingSigned, SaturatingUnsigned,
+};
+pub use strict::{Strict, StrictMulAdd, StrictProducts, StrictSigned, StrictUnsigned};
+pub use strict::{
+    Unwrapped, UnwrappedMulAdd, UnwrappedProducts, UnwrappedSigned, UnwrappedUnsigned,
+};
+pub use word::{SignedWord, UnsignedWord, Word};
 
 /// What most programs import: the numbers, and the traits of their calls.
 pub mod prelude {
-    pub use crate::num::{
+    pub use crate::{Checked, CheckedMulAdd, CheckedProducts, CheckedSigned, CheckedUnsigned};
+    pub use crate::{
         Constants, Fixed, FixedI8, FixedI16, FixedI32, FixedI64, FixedU8, FixedU16, FixedU32,
         FixedU64, Held, Number,
     };
-    pub use crate::ops::{Plain, PlainMulAdd, PlainProducts, PlainSigned, PlainUnsigned};
-    pub use crate::policy::{
-        Checked, CheckedMulAdd, CheckedProducts, CheckedSigned, CheckedUnsigned,
-    };
-    pub use crate::policy::{
+    pub use crate::{
         Overflowing, OverflowingMulAdd, OverflowingProducts, OverflowingSigned, OverflowingUnsigned,
     };
-    pub use crate::policy::{
-        Wrapping, WrappingMulAdd, WrappingProducts, WrappingSigned, WrappingUnsigned,
-    };
-    pub use crate::strict::{
+    pub use crate::{Plain, PlainMulAdd, PlainProducts, PlainSigned, PlainUnsigned};
+    pub use crate::{
         Saturating, SaturatingMulAdd, SaturatingProducts, SaturatingSigned, SaturatingUnsigned,
     };
-    pub use crate::strict::{Strict, StrictMulAdd, StrictProducts, StrictSigned, StrictUnsigned};
-    pub use crate::strict::{
+    pub use crate::{SignedWord, UnsignedWord, Word};
+    pub use crate::{Strict, StrictMulAdd, StrictProducts, StrictSigned, StrictUnsigned};
+    pub use crate::{
         Unwrapped, UnwrappedMulAdd, UnwrappedProducts, UnwrappedSigned, UnwrappedUnsigned,
     };
-    pub use crate::word::{SignedWord, UnsignedWord, Word};
+    pub use crate::{Wrapping, WrappingMulAdd, WrappingProducts, WrappingSigned, WrappingUnsigned};
 }

@@ -19,7 +19,7 @@ pub struct Condition {
 }
 
 /// Each form of a clause, with `$` for one name and `..` for the rest: when a call stops, the test, and the
-/// words. No test stands where `exact_number` sees the side of the number, or an operator of std stops.
+/// words. No test stands where something in the body stops: one of `STOPPING` has to be there.
 #[rustfmt::skip]
 const KNOWN: [(&str, When, &str, &str); 39] = [
     ("Self.FRACTION ≤ Self.BITS", Always, "F <= T::BITS", "the fraction F is at most the width"),
@@ -68,6 +68,27 @@ const KNOWN: [(&str, When, &str, &str); 39] = [
     ("ProductsFit ..", Debugging, "", "each product fits"),
 ];
 
+/// What stops by itself: `exact_number` and calls that stand on it see the side of the number, std's division a
+/// divisor of 0, and std's sums and products an overflow.
+const STOPPING: [&str; 16] = [
+    "exact_number(",
+    "self.strict_",
+    "self.add_prod(",
+    "self.unwrapped_add_prod(",
+    "*self + rhs",
+    "*self - rhs",
+    "*self / rhs",
+    "*self % rhs",
+    "rhs * self",
+    "total += ",
+    "Fixed::one()",
+    "self + other",
+    "self * other",
+    "/ divisor",
+    "% divisor",
+    "(divisor)",
+];
+
 /// The condition of a clause, written with one space between its words. In the strict forms each number has to
 /// fit in every build. An unknown clause is an error, so that no condition is dropped unseen.
 pub fn condition_of(clause: &str, strict: bool) -> Result<Condition, String> {
@@ -81,6 +102,11 @@ pub fn condition_of(clause: &str, strict: bool) -> Result<Condition, String> {
         })
     });
     found.ok_or_else(|| format!("a clause of no known form: {clause}"))
+}
+
+/// Whether a condition without a test is seen by what a body calls.
+pub fn is_seen(condition: &Condition, body: &str) -> bool {
+    !condition.test.is_empty() || STOPPING.iter().any(|call| body.contains(call))
 }
 
 /// The name that stands in a clause where its form has `$`, or nothing where it has none.

@@ -1,7 +1,7 @@
 //! A proved source as Rust: contracts, ghost items and what speaks to the prover go, code and docs stay letter for
 //! letter. The contract of a public call joins its docs, and its conditions are asserted before its body.
 
-use crate::script::conditions::{Condition, condition_of};
+use crate::script::conditions::{Condition, condition_of, is_seen};
 use crate::script::contracts::{assertions, docs, required, required_of_operator};
 use crate::script::pieces::{after_group, after_item, depth_of, pieces};
 use std::collections::BTreeMap;
@@ -186,6 +186,15 @@ impl Erasing<'_> {
             .map_err(|error| format!("{name}: {error}"))?;
         self.out.push_str(if has_body { " {" } else { ";" });
         if has_body {
+            let end = after_group(&self.pieces, self.at - 1);
+            let body = self.pieces[self.at..end].concat();
+            if let Some(unseen) = conditions
+                .iter()
+                .find(|condition| !is_seen(condition, &body))
+            {
+                let words = &unseen.words;
+                return Err(format!("{name}: nothing in its body stops unless {words}"));
+            }
             self.out.push_str(&assertions(&conditions, indent + 4));
         }
         let mut above = String::new();

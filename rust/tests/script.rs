@@ -196,7 +196,7 @@ fn an_operator() {
 
     /// The quotient.
     fn div(self, rhs: Self) -> Self {
-        self
+        exact_number(self)
     }
 }
 ";
@@ -221,6 +221,20 @@ fn an_unknown_clause() {
         Err("f: a clause of no known form: x ≡ 7".to_string())
     );
     assert!(library(&source.replace("pub ", "")).is_ok());
+}
+
+#[test]
+fn a_condition_that_nothing_sees() {
+    let source = "pub fn f<T: Word>(a: T) -> T
+    requires { InRange T.SIGNED T.BITS (exact_neg (T.value a)) }
+{
+    exact_number(a)
+}
+";
+    assert!(library(source).is_ok());
+    let unseen = library(&source.replace("exact_number", "wrapped"));
+    let error = "f: nothing in its body stops unless the number fits";
+    assert_eq!(unseen, Err(error.to_string()));
 }
 
 #[test]
