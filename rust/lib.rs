@@ -58,7 +58,9 @@
         clippy::items_after_test_module,
         clippy::manual_map,
         clippy::modulo_one,
-        clippy::partialeq_to_none
+        clippy::partialeq_to_none,
+        clippy::single_element_loop,
+        clippy::type_complexity
     )
 )]
 

@@ -149,6 +149,30 @@ fn measured<N: Held<Bits = T> + Answer<Bits = T>, T: Word, R: Answer>(
     (ours, theirs)
 }
 
+/// Measures a call on whole slices and the loop by hand.
+fn measured_slices<N: Held<Bits = T> + Answer<Bits = T>, T: Word, R: Answer>(
+    operands: &Operands<T>,
+    by_hand: impl Fn(&[T], &[T]) -> R::Bits,
+    call: impl Fn(&[N], &[N]) -> R,
+) -> (f64, f64) {
+    let numbers: Vec<_> = operands
+        .iter()
+        .map(|(a, b, c)| (N::from_bits(*a), N::from_bits(*b), N::from_bits(*c)))
+        .collect();
+    let plain = Arrays::new(operands, |_, _, _| ());
+    let typed = Arrays::new(&numbers, |_, _, _| ());
+    let (ours, theirs) = (call(&typed.a, &typed.b), by_hand(&plain.a, &plain.b));
+    assert!(ours.bits() == theirs, "both sides answer alike");
+    let (mut ours, mut theirs) = (f64::MAX, f64::MAX);
+    for _ in 0..SAMPLES {
+        let pass = || drop(black_box(by_hand(black_box(&plain.a), black_box(&plain.b))));
+        theirs = theirs.min(sample(pass));
+        let pass = || drop(black_box(call(black_box(&typed.a), black_box(&typed.b))));
+        ours = ours.min(sample(pass));
+    }
+    (ours, theirs)
+}
+
 /// Numbers of 64 bits, one after the other.
 struct Draws(u64);
 
@@ -165,7 +189,7 @@ impl Draws {
 /// The module of a word: its operands, the exact numbers and their projections by hand, and its rows.
 #[rustfmt::skip]
 macro_rules! word {
-    ($word:ident, $wide:ident, $unsigned:ident, $half:literal) => {
+    ($sign:ident $word:ident, $wide:ident, $unsigned:ident, $signed:ident, $half:literal) => {
         mod $word {
             use super::*;
 
@@ -266,6 +290,16 @@ macro_rules! word {
                         }
                     };
                 }
+                /// The same of a call on whole slices.
+                macro_rules! slices {
+                    ($operands:ident, $call:ident, $by_hand:expr, $ours:expr) => {
+                        let word = stringify!($word);
+                        if wanted(stringify!($call)) || wanted(word) {
+                            let (ours, by_hand) = measured_slices::<Number, _, _>(&$operands, $by_hand, $ours);
+                            rows.push(Row { call: stringify!($call), word, goal: None, ours, by_hand });
+                        }
+                    };
+                }
                 row!(any, Some(1.1), wrapping_add, |a, b, _| a.wrapping_add(b), |a, b, _| a.wrapping_add(b));
                 row!(any, Some(1.1), checked_add, |a, b, _| a.checked_add(b), |a, b, _| a.checked_add(b));
                 row!(any, Some(1.1), overflowing_add, |a, b, _| a.overflowing_add(b), |a, b, _| a.overflowing_add(b));
@@ -338,19 +372,66 @@ macro_rules! word {
                     |a, _, _| a.overflowing_sqrt());
                 row!(roots, Some(1.0), saturating_sqrt, |a, _, _| saturating(sqrt(a)), |a, _, _| a.saturating_sqrt());
                 row!(roots, None, strict_sqrt, |a, _, _| strict(sqrt(a)), |a, _, _| a.strict_sqrt());
+                row!(any, None, wrapping_neg, |a, _, _| a.wrapping_neg(), |a, _, _| a.wrapping_neg());
+                row!(any, None, checked_neg, |a, _, _| a.checked_neg(), |a, _, _| a.checked_neg());
+                row!(any, None, wrapping_shl,
+                    |a, _, c| a.wrapping_shl(c as u32), |a, _, c| a.wrapping_shl(c.to_bits() as u32));
+                row!(any, None, wrapping_shr,
+                    |a, _, c| a.wrapping_shr(c as u32), |a, _, c| a.wrapping_shr(c.to_bits() as u32));
+                row!(any, None, mean, |a, b, _| ((a as $wide + b as $wide) >> 1) as $word, |a, b, _| a.mean(b));
+                macro_rules! of_sign {
+                    (signed) => {
+                        row!(any, None, wrapping_abs, |a, _, _| a.wrapping_abs(), |a, _, _| a.wrapping_abs());
+                        row!(any, None, checked_abs, |a, _, _| a.checked_abs(), |a, _, _| a.checked_abs());
+                        row!(any, None, saturating_abs, |a, _, _| a.saturating_abs(), |a, _, _| a.saturating_abs());
+                        row!(any, None, wrapping_signum, |a, _, _| a.signum() << $half, |a, _, _| a.wrapping_signum());
+                        row!(any, None, checked_add_mixed, |a, b, _| a.checked_add_unsigned(b as $unsigned),
+                            |a, b, _| a.checked_add_unsigned(Fixed::from_bits(b.to_bits() as $unsigned)));
+                        row!(any, None, saturating_sub_mixed, |a, b, _| a.saturating_sub_unsigned(b as $unsigned),
+                            |a, b, _| a.saturating_sub_unsigned(Fixed::from_bits(b.to_bits() as $unsigned)));
+                    };
+                    (unsigned) => {
+                        row!(any, None, checked_next_power_of_two,
+                            |a, _, _| a.checked_next_power_of_two(), |a, _, _| a.checked_next_power_of_two());
+                        row!(any, None, checked_add_mixed, |a, b, _| a.checked_add_signed(b as $signed),
+                            |a, b, _| a.checked_add_signed(Fixed::from_bits(b.to_bits() as $signed)));
+                    };
+                }
+                of_sign!($sign);
+                // Products of which none passes the range, however long the slices are.
+                let zeros: Vec<_> = any.iter().map(|(a, _, c)| (*a, 0, *c)).collect();
+                slices!(any, sum_of_slice, |a, _| a.iter().fold(0, |sum: $word, a| sum.wrapping_add(*a)),
+                    |a, _| zugyelmas::sum(a));
+                slices!(any, product_of_slice, |a, _| a[1..].iter().fold(a[0], |product, a| mul(product, *a) as $word),
+                    |a, _| zugyelmas::product(a));
+                slices!(any, wrapping_mul_acc,
+                    |a, b| a.iter().zip(b).fold(0, |sum: $word, (a, b)| sum.wrapping_add(mul(*a, *b) as $word)),
+                    |a, b| {
+                        let mut sum = Number::ZERO;
+                        for (a, b) in a.iter().zip(b) {
+                            sum.wrapping_mul_acc(*a, *b);
+                        }
+                        sum
+                    });
+                slices!(zeros, checked_dot_acc,
+                    |a, b| a.iter().zip(b).try_fold(0, |sum: $word, (a, b)| checked(sum as $wide + mul(*a, *b))),
+                    |a, b| {
+                        let mut sum = Number::ZERO;
+                        sum.checked_dot_acc(a, b).map(|()| sum)
+                    });
             }
         }
     };
 }
 
-word!(i8, i16, u8, 4);
-word!(i16, i32, u16, 8);
-word!(i32, i64, u32, 16);
-word!(i64, i128, u64, 32);
-word!(u8, u16, u8, 4);
-word!(u16, u32, u16, 8);
-word!(u32, u64, u32, 16);
-word!(u64, u128, u64, 32);
+word!(signed i8, i16, u8, i8, 4);
+word!(signed i16, i32, u16, i16, 8);
+word!(signed i32, i64, u32, i32, 16);
+word!(signed i64, i128, u64, i64, 32);
+word!(unsigned u8, u16, u8, i8, 4);
+word!(unsigned u16, u32, u16, i16, 8);
+word!(unsigned u32, u64, u32, i32, 16);
+word!(unsigned u64, u128, u64, i64, 32);
 
 const WORDS: [&str; 8] = ["i8", "i16", "i32", "i64", "u8", "u16", "u32", "u64"];
 
