@@ -1,0 +1,127 @@
+//! Fixed-point numbers whose every call is proved: binary numbers of 8, 16, 32 and 64 bits with 0 to n bits behind
+//! the point, in the words of the Rust crate `fixed`.
+//!
+//! ```
+//! use zugyelmas::prelude::*;
+//!
+//! let gain = FixedI32::<16>::from_bits(98304); // 1.5
+//! let level = FixedI32::<16>::from_bits(131072); // 2
+//! assert_eq!(gain.checked_mul(level), Some(FixedI32::from_bits(196608))); // 3
+//! assert_eq!(level.saturating_mul_int(1_000_000), FixedI32::MAX);
+//! assert_eq!(gain * level + 2 * level, FixedI32::from_bits(458752)); // 7
+//!
+//! let (wrapped, past) = FixedI8::<4>::MAX.overflowing_add(FixedI8::DELTA);
+//! assert_eq!((wrapped, past), (FixedI8::MIN, true));
+//! assert_eq!(FixedU8::<8>::from_bits(64).checked_sqrt(), Some(FixedU8::from_bits(128))); // 1/4, 1/2
+//! ```
+//!
+//! # What is proved
+//!
+//! The code is that of a library in Rattle, which is Rust with contracts, letter for letter: each public call was
+//! proved, for every input, to answer what its contract says, to be safe and to return. The build script leaves out
+//! the contracts and the proofs; each call's page ends in its contract as the source states it, under "Proved". So
+//! the checked, saturating, wrapping, overflowing and strict forms of an operation are known to speak of the same
+//! exact whole number, and to differ only in what they do where it does not fit. The repository's `docs/` have the
+//! definitions that the contracts cite.
+//!
+//! # What is trusted
+//!
+//! The proofs are those of the kit `rattle-kit-13f logic dac8208d650f15bf` and speak of its language. That rustc's
+//! code does the same stands on rustc itself, on the build script, and on the kit's table of forms that compile in
+//! both languages and act apart: none of them is used here (`docs/DECISIONS.md` says how that was seen). The tests
+//! of the proved crates run here too.
+//!
+//! # Conditions
+//!
+//! Where the proved language has a proof at each call that the call's condition holds, Rust has an assertion, which
+//! each page names under "Panics". The strict and unwrapped forms stop where the number does not fit, and every call
+//! stops on a divisor of 0, the root of a number below 0, a shift by the width or more and a fraction past the width.
+//! The operators and plain calls stop where the number does not fit in builds with debug assertions, and otherwise
+//! answer the wrapped number, as those of integers do.
+#![no_std]
+// The code below is the proved sources' own, which name the traits of the calls that they use and the operands of laws.
+#![allow(unused_imports, unused_variables)]
+// Taste, not faults: proved sources keep the forms of which their proofs speak.
+#![allow(
+    clippy::implicit_saturating_add,
+    clippy::manual_div_ceil,
+    clippy::manual_is_multiple_of,
+    clippy::module_inception,
+    clippy::new_without_default
+)]
+// The tests compare numbers with themselves and divide by -1, since these are the calls under test.
+#![cfg_attr(
+    test,
+    allow(
+        clippy::bool_assert_comparison,
+        clippy::eq_op,
+        clippy::items_after_test_module,
+        clippy::manual_map,
+        clippy::modulo_one,
+        clippy::partialeq_to_none,
+        clippy::single_element_loop,
+        clippy::type_complexity
+    )
+)]
+
+#[cfg(test)]
+extern crate std;
+
+include!(concat!(env!("OUT_DIR"), "/library.rs"));
+#[cfg(test)]
+include!(concat!(env!("OUT_DIR"), "/tests.rs"));
+
+/// What the strict forms know as the numbers: the same, but that the number has to fit in every build.
+mod stopping {
+    use crate::word::{Outcome, Word, strict_of};
+
+    pub use crate::num::{Fixed, Held, Number};
+
+    #[track_caller]
+    pub fn exact_number<T: Word, const F: u32>(outcome: Outcome<T>) -> Fixed<T, F> {
+        Fixed {
+            bits: strict_of(outcome),
+        }
+    }
+}
+
+pub use num::{
+    Constants, Fixed, FixedI8, FixedI16, FixedI32, FixedI64, FixedU8, FixedU16, FixedU32, FixedU64,
+    Held, Number,
+};
+pub use ops::{Plain, PlainMulAdd, PlainProducts, PlainSigned, PlainUnsigned, product, sum};
+pub use policy::{Checked, CheckedMulAdd, CheckedProducts, CheckedSigned, CheckedUnsigned};
+pub use policy::{
+    Overflowing, OverflowingMulAdd, OverflowingProducts, OverflowingSigned, OverflowingUnsigned,
+};
+pub use policy::{Wrapping, WrappingMulAdd, WrappingProducts, WrappingSigned, WrappingUnsigned};
+pub use strict::{
+    Saturating, SaturatingMulAdd, SaturatingProducts, SaturatingSigned, SaturatingUnsigned,
+};
+pub use strict::{Strict, StrictMulAdd, StrictProducts, StrictSigned, StrictUnsigned};
+pub use strict::{
+    Unwrapped, UnwrappedMulAdd, UnwrappedProducts, UnwrappedSigned, UnwrappedUnsigned,
+};
+pub use word::{SignedWord, UnsignedWord, Word};
+
+/// What most programs import: the numbers, and the traits of their calls.
+pub mod prelude {
+    pub use crate::{Checked, CheckedMulAdd, CheckedProducts, CheckedSigned, CheckedUnsigned};
+    pub use crate::{
+        Constants, Fixed, FixedI8, FixedI16, FixedI32, FixedI64, FixedU8, FixedU16, FixedU32,
+        FixedU64, Held, Number,
+    };
+    pub use crate::{
+        Overflowing, OverflowingMulAdd, OverflowingProducts, OverflowingSigned, OverflowingUnsigned,
+    };
+    pub use crate::{Plain, PlainMulAdd, PlainProducts, PlainSigned, PlainUnsigned};
+    pub use crate::{
+        Saturating, SaturatingMulAdd, SaturatingProducts, SaturatingSigned, SaturatingUnsigned,
+    };
+    pub use crate::{SignedWord, UnsignedWord, Word};
+    pub use crate::{Strict, StrictMulAdd, StrictProducts, StrictSigned, StrictUnsigned};
+    pub use crate::{
+        Unwrapped, UnwrappedMulAdd, UnwrappedProducts, UnwrappedSigned, UnwrappedUnsigned,
+    };
+    pub use crate::{Wrapping, WrappingMulAdd, WrappingProducts, WrappingSigned, WrappingUnsigned};
+}

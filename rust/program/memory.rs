@@ -1,0 +1,70 @@
+//! Memory as the proved sources ask for it: from an allocator that is passed, and with want of memory as an answer.
+
+use std::ops::{Deref, DerefMut};
+use std::vec;
+
+/// The allocator, which is that of the process.
+#[derive(Clone, Copy)]
+pub struct Global;
+
+/// Want of memory.
+#[derive(Clone, Copy, Debug, PartialEq, Eq)]
+pub struct AllocError;
+
+/// A vector that says where there is no memory.
+#[derive(Debug, PartialEq, Eq)]
+pub struct Vec<T> {
+    held: vec::Vec<T>,
+}
+
+impl<T> Vec<T> {
+    pub fn new(_alloc: Global) -> Vec<T> {
+        Vec {
+            held: vec::Vec::new(),
+        }
+    }
+
+    pub fn with_capacity(alloc: Global, capacity: usize) -> Result<Vec<T>, AllocError> {
+        let mut made = Vec::new(alloc);
+        made.held
+            .try_reserve_exact(capacity)
+            .map_err(|_| AllocError)?;
+        Ok(made)
+    }
+
+    /// Adds an item for which there is room.
+    pub fn push_reserved(&mut self, item: T) {
+        self.held.push(item);
+    }
+
+    pub fn extend_from_slice(&mut self, items: &[T]) -> Result<(), AllocError>
+    where
+        T: Copy,
+    {
+        self.held.try_reserve(items.len()).map_err(|_| AllocError)?;
+        self.held.extend_from_slice(items);
+        Ok(())
+    }
+
+    pub fn clear(&mut self) {
+        self.held.clear();
+    }
+
+    pub fn as_slice(&self) -> &[T] {
+        &self.held
+    }
+}
+
+impl<T> Deref for Vec<T> {
+    type Target = [T];
+
+    fn deref(&self) -> &[T] {
+        &self.held
+    }
+}
+
+impl<T> DerefMut for Vec<T> {
+    fn deref_mut(&mut self) -> &mut [T] {
+        &mut self.held
+    }
+}

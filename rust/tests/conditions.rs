@@ -1,0 +1,143 @@
+//! Each kind of condition stops the call, at each layer that has it.
+
+use zugyelmas::prelude::*;
+use zugyelmas::{bits, kernel, logs, num, ops, policy, root, strict, word};
+
+type Byte = FixedI8<4>;
+type Unsigned = FixedU8<4>;
+
+/// A format with more bits behind the point than there are.
+type Past = FixedI8<9>;
+
+fn byte(bits: i8) -> Byte {
+    Byte::from_bits(bits)
+}
+
+fn past(bits: i8) -> Past {
+    Past::from_bits(bits)
+}
+
+/// A test for each call: it stops, and the message has the condition in words.
+macro_rules! stops {
+    ($($name:ident, $words:literal, $call:expr;)*) => {$(
+        #[test]
+        #[should_panic(expected = $words)]
+        fn $name() {
+            let _ = $call;
+        }
+    )*};
+}
+
+/// The same of calls that stop on overflow where assertions for debugging are compiled in.
+macro_rules! stops_when_debugging {
+    ($($name:ident, $words:literal, $call:expr, $wrapped:expr;)*) => {$(
+        #[test]
+        #[cfg_attr(debug_assertions, should_panic(expected = $words))]
+        fn $name() {
+            assert_eq!($call, $wrapped);
+        }
+    )*};
+}
+
+stops! {
+    word_divisor, "divide by zero", word::Arithmetic::quotient(1_i8, 0);
+    word_remainder, "with a divisor of zero", word::Arithmetic::euclid_remainder(1_u16, 0);
+    word_integer_divisor, "divide by zero", word::Integer::over(1_i32, 0);
+    word_scaled, "the shift is below the width", word::Integer::scaled(0_i16, 16);
+    word_floored, "the shift is below the width", word::Integer::floored(1_u128, 128);
+    word_digits_shift, "the shift is below the width",
+        word::Digits::shl(1_u8, 8, &mut word::Steps::new(word::Silent::new()));
+    word_strict_of, "the number fits", word::strict_of(kernel::add_of(127_i8, 1));
+    bits_shift_left, "the shift is below the width", bits::BitWord::shift_left(1_u8, 8);
+    bits_shift_right, "the shift is below the width", bits::BitWord::shift_right(-1_i64, 64);
+    root_fraction, "the fraction frac is at most the width",
+        root::root(1_u8, 9, &mut word::Steps::new(word::Silent::new()));
+    logs_zero, "the number is not 0", logs::int_log10_part(0_u8, &mut word::Steps::new(word::Silent::new()));
+    logs_fraction_zero, "the number is not 0",
+        logs::frac_log10_part(0_u64, &mut word::Steps::new(word::Silent::new()));
+    kernel_fraction, "the fraction frac is at most the width", kernel::mul_of(1_i8, 1, 9);
+    kernel_divisor, "the divisor is not 0", kernel::div_of(1_i8, 0, 4);
+    kernel_root, "the number is not below 0", kernel::sqrt_of(-1_i8, 4);
+    kernel_signed, "the word is signed", kernel::abs_of(1_u8);
+    kernel_unsigned, "the word is unsigned", kernel::next_power_of_two_of(1_i8);
+    kernel_widths, "both words have one width", kernel::mixed_add_of(1_i8, 1_u16);
+    kernel_places_down, "frac_nbits is at most twice the width", kernel::overflowing_mul_add(1_i8, 1, 1, 17);
+    kernel_places_up, "frac_nbits is at least minus the width", kernel::overflowing_mul_add(1_i8, 1, 1, -9);
+    num_fraction, "the fraction F is at most the width", Past::int_nbits();
+    num_one, "the number 1 fits", FixedI8::<7>::one();
+    num_minus_one, "the number -1 fits", FixedU8::<4>::neg_one();
+    num_logarithm, "the number is above 0", byte(0).int_log2();
+    num_base, "the base is at least 2", byte(1).int_log(1);
+    num_counted_root, "the number is not below 0",
+        byte(-1).sqrt_counted(&mut word::Steps::new(word::Silent::new()));
+    num_sum_of_fractions, "H is F + G", byte(1).wide_mul::<4, 9>(byte(1));
+    num_place, "H + G is the width and F", byte(1).wide_div::<4, 9>(byte(1));
+    num_signed_place, "H + G + 1 is the width and F", byte(1).wide_sdiv::<4, 8>(byte(1));
+    num_twice_the_width, "the fraction H is at most twice the width",
+        FixedI8::<8>::from_bits(1).wide_div::<0, 17>(FixedI8::<0>::from_bits(1));
+    num_wide_divisor, "the divisor is not 0", byte(1).wide_div::<4, 8>(byte(0));
+    num_wide_unsigned_divisor, "the divisor is not 0", byte(1).wide_div_unsigned::<4, 8>(Unsigned::from_bits(0));
+    num_operator_fraction, "the fraction F is at most the width", past(1) * past(1);
+    num_operator_divisor, "the divisor is not 0", byte(1) / byte(0);
+    num_operator_integer, "the divisor is not 0", byte(1) % 0;
+    num_operator_shift, "the shift is below the width", byte(1) << 8;
+    policy_fraction, "the fraction F is at most the width", past(1).checked_mul(past(1));
+    policy_fraction_before_the_divisor, "the fraction F is at most the width", past(1).checked_div(past(0));
+    policy_divisor, "the divisor is not 0", byte(1).wrapping_div(byte(0));
+    policy_integer, "the divisor is not 0", byte(1).overflowing_div_int(0);
+    policy_root, "the number is not below 0", byte(-1).wrapping_sqrt();
+    policy_factor, "the fraction G is at most the width", byte(1).checked_mul_add(past(1), byte(1));
+    policy_lengths, "both slices have one length", byte(1).checked_dot_acc(&[byte(1)], &[] as &[Byte]);
+    strict_overflow, "the number fits", Byte::MAX.strict_add(Byte::DELTA);
+    strict_product, "the number fits", Byte::MAX.strict_mul_add(Byte::MAX, Byte::MAX);
+    strict_divisor, "the divisor is not 0", byte(1).strict_div(byte(0));
+    strict_root, "the number is not below 0", byte(-1).strict_sqrt();
+    strict_shift, "the shift is below the width", byte(1).strict_shl(8);
+    strict_fraction, "the fraction F is at most the width", past(1).strict_recip();
+    unwrapped_overflow, "the number fits", Byte::MIN.unwrapped_neg();
+    unwrapped_shift, "the shift is below the width", byte(1).unwrapped_shr(8);
+    saturating_divisor, "the divisor is not 0", byte(1).saturating_next_multiple_of(byte(0));
+    ops_divisor, "the divisor is not 0", byte(0).recip();
+    ops_root, "the number is not below 0", byte(-1).sqrt();
+    ops_product_of_none, "the number 1 fits", ops::product::<i8, 7>(&[]);
+    ops_factors, "the fraction A is at most the width", byte(1).add_prod(past(1), byte(1));
+}
+
+stops_when_debugging! {
+    word_sum, "overflow", word::Integer::plus(i16::MAX, 1), i16::MIN;
+    word_up, "the number fits", word::Integer::scaled(i16::MAX, 1), -2;
+    word_euclid, "the number fits", word::Integer::euclid_quotient(i16::MIN, -1), i16::MIN;
+    num_root, "the root fits",
+        FixedI8::<8>::from_bits(64).sqrt_counted(&mut word::Steps::new(word::Silent::new())).bits, -128;
+    num_wide_quotient, "the quotient fits",
+        FixedI8::<0>::MIN.wide_div::<0, 8>(FixedI8::<0>::from_bits(-1)).bits, i16::MIN;
+    num_exact, "the number fits", num::exact_number::<i8, 4>(kernel::add_of(127, 1)), Byte::MIN;
+    num_sum, "the number fits", Byte::MAX + Byte::DELTA, Byte::MIN;
+    num_neg, "the number fits", -Byte::MIN, Byte::MIN;
+    num_integer_first, "the number fits", 2 * Byte::MAX, byte(-2);
+    ops_overflow, "the number fits", Byte::MIN.abs(), Byte::MIN;
+    ops_sum, "the number fits", ops::sum(&[Byte::MAX, Byte::DELTA]), Byte::MIN;
+    ops_product, "the number fits", ops::product(&[Byte::MAX, Byte::MAX]), byte(-16);
+}
+
+/// Where the conditions hold, nothing stops: the ends of each kind.
+#[test]
+fn at_the_ends() {
+    assert_eq!(
+        FixedI8::<8>::from_bits(127)
+            .wrapping_mul(FixedI8::from_bits(127))
+            .bits,
+        63
+    );
+    assert_eq!(FixedI8::<6>::one().bits, 64);
+    assert_eq!(FixedI8::<7>::neg_one().bits, -128);
+    assert_eq!(FixedU8::<7>::one().bits, 128);
+    assert_eq!(
+        kernel::overflowing_mul_add(-128_i8, -128, 0, 16),
+        (0, false)
+    );
+    assert_eq!(kernel::overflowing_mul_add(1_i8, 0, 1, -8), (1, false));
+    assert_eq!((byte(1) << 7).bits, -128);
+    assert_eq!(strict::strict_of(kernel::add_of(126_i8, 1)), 127);
+    assert_eq!(policy::wrapping_of(kernel::add_of(127_i8, 1)), -128);
+}

@@ -1,0 +1,289 @@
+//! The build script on small sources.
+
+#[path = "../script/mod.rs"]
+#[allow(dead_code)]
+mod script;
+
+use script::conditions::{When, condition_of};
+use script::erasing::{Clauses, Reading, erased};
+use script::handles::without_runtime;
+use script::pieces::pieces;
+
+fn library(source: &str) -> Result<String, String> {
+    erased(source, Reading::Library, &mut Clauses::new())
+}
+
+/// The source read as one of a library, where no clause is unknown.
+fn read(source: &str) -> String {
+    library(source).unwrap()
+}
+
+#[test]
+fn pieces_are_the_source() {
+    let source = "fn f<'a>(x: &'a u8) -> char { /* } */ '{' } // }
+const B: u8 = b'}'; \"}\\\"}\" '\\'' λ x. x ≤ℤ y";
+    let cut = pieces(source);
+    assert_eq!(cut.concat(), source);
+    for whole in ["'{'", "// }", "\"}\\\"}\"", "'\\''", "'}'", "λ"] {
+        assert!(cut.contains(&whole), "{whole}");
+    }
+}
+
+#[test]
+fn braces_that_close_nothing() {
+    let source = "fn f() -> [char; 2]
+    ensures { result ≡ \"}\" ++ codes \"{\" }
+{
+    // }
+    ['}', '{']
+}
+";
+    assert_eq!(
+        read(source),
+        "fn f() -> [char; 2] {\n    // }\n    ['}', '{']\n}\n"
+    );
+}
+
+#[test]
+fn nested_clauses() {
+    let source = "fn f<T>(x: T) -> T
+where
+    T: Copy,
+    // why
+    requires a { record { b = { x } } }
+    ensures { IfSome x (λ y. { y }) }
+{
+    x
+}
+";
+    assert_eq!(
+        read(source),
+        "fn f<T>(x: T) -> T\nwhere\n    T: Copy, {\n    x\n}\n"
+    );
+}
+
+#[test]
+fn ghost_fields_and_members() {
+    let source = "ghost use A.{b, c};
+
+#[derive(Debug, Drop)]
+struct S {
+    at: usize,
+    ghost within: { at ≤ length (x, y) },
+}
+
+#[derive(Drop)]
+struct D;
+";
+    assert_eq!(
+        read(source).trim(),
+        "#[derive(Debug)]
+struct S {
+    at: usize,
+}
+
+struct D;"
+    );
+    let source = "trait V {
+    const B: u32;
+
+    /// The state.
+    ghost state: { Self → ℕ };
+
+    fn v(&self);
+}
+
+impl Model for S {
+    ghost Value = { ℕ };
+}
+";
+    assert_eq!(
+        read(source).trim(),
+        "trait V {\n    const B: u32;\n\n\n    fn v(&self);\n}"
+    );
+}
+
+#[test]
+fn what_the_prover_reads() {
+    let source = "//! A crate.
+#![tactic(auto)]
+
+use std::marker::Model;
+use std::ops::Add;
+
+#[tactic(auto, using(a::b))]
+fn f() {}
+";
+    assert_eq!(
+        read(source),
+        "//! A crate.\n\nuse std::ops::Add;\n\nfn f() {}\n"
+    );
+}
+
+#[test]
+fn a_public_call() {
+    let source = "/// The quotient.
+#[inline]
+pub fn div<T: Word>(a: T, b: T, frac: u32) -> T
+    requires frac { frac ≤ T.BITS }
+    requires divisor { T.value b
+        ≢ pos 0 }
+    ensures { T.value result ≡ x }
+{
+    a
+}
+";
+    let want = "/// The quotient.
+#[inline]
+///
+/// # Panics
+///
+/// Unless all of this holds: the fraction frac is at most the width; the divisor is not 0.
+///
+/// # Proved
+///
+/// ```text
+/// requires frac { frac ≤ T.BITS }
+/// requires divisor { T.value b
+///     ≢ pos 0 }
+/// ensures { T.value result ≡ x }
+/// ```
+#[track_caller]
+pub fn div<T: Word>(a: T, b: T, frac: u32) -> T {
+    assert!(frac <= T::BITS, \"condition: the fraction frac is at most the width\");
+    assert!(b != T::ZERO, \"condition: the divisor is not 0\");
+    a
+}
+";
+    assert_eq!(read(source), want);
+    let private = read(&source.replace("pub ", ""));
+    assert!(
+        !private.contains("assert") && !private.contains("Panics"),
+        "{private}"
+    );
+    let inside = erased(source, Reading::Inside, &mut Clauses::new()).unwrap();
+    assert!(
+        !inside.contains("assert") && !inside.contains("Panics"),
+        "{inside}"
+    );
+}
+
+#[test]
+fn a_trait_hands_its_clauses_on() {
+    let source = "pub trait Shift: Number {
+    fn shift(self, rhs: u32) -> Self
+        requires { rhs < Self.BITS };
+}
+
+impl<T: Word, const F: u32> Shift for Fixed<T, F> {
+    fn shift(self, rhs: u32) -> Self {
+        self
+    }
+}
+";
+    let text = read(source);
+    assert_eq!(text.matches("assert!(rhs < T::BITS").count(), 1, "{text}");
+    assert!(text.contains("fn shift(self, rhs: u32) -> Self;"), "{text}");
+}
+
+#[test]
+fn an_operator() {
+    let source = "impl<T: Word, const F: u32> Div for Fixed<T, F> {
+    type Output = Self;
+
+    ghost can_div = { λ a b. (F ≤ T.BITS) × (T.value b.bits ≢ pos 0)
+        × InRange T.SIGNED T.BITS (q a.bits) };
+
+    /// The quotient.
+    fn div(self, rhs: Self) -> Self {
+        exact_number(self)
+    }
+}
+";
+    let text = read(source);
+    assert!(text.contains("assert!(F <= T::BITS"), "{text}");
+    assert!(text.contains("assert!(rhs.bits != T::ZERO"), "{text}");
+    assert!(
+        text.contains("/// With debug assertions, unless the number fits"),
+        "{text}"
+    );
+    assert!(
+        text.contains("/// can_div = { λ a b. (F ≤ T.BITS) × (T.value b.bits ≢ pos 0)"),
+        "{text}"
+    );
+}
+
+#[test]
+fn an_unknown_clause() {
+    let source = "pub fn f(x: u8)\n    requires { x ≡ 7 }\n{}\n";
+    assert_eq!(
+        library(source),
+        Err("f: a clause of no known form: x ≡ 7".to_string())
+    );
+    assert!(library(&source.replace("pub ", "")).is_ok());
+}
+
+#[test]
+fn a_condition_that_nothing_sees() {
+    let source = "pub fn f<T: Word>(a: T) -> T
+    requires { InRange T.SIGNED T.BITS (exact_neg (T.value a)) }
+{
+    exact_number(a)
+}
+";
+    assert!(library(source).is_ok());
+    let unseen = library(&source.replace("exact_number", "wrapped"));
+    let error = "f: nothing in its body stops unless the number fits";
+    assert_eq!(unseen, Err(error.to_string()));
+}
+
+#[test]
+fn forms_of_clauses() {
+    let fraction = condition_of("G ≤ T.BITS", false).unwrap();
+    assert_eq!(
+        (fraction.when, fraction.test.as_str()),
+        (When::Always, "G <= T::BITS")
+    );
+    let fits = "InRange T.SIGNED T.BITS (exact_neg (T.value a))";
+    assert_eq!(condition_of(fits, false).unwrap().when, When::Debugging);
+    assert_eq!(condition_of(fits, true).unwrap().when, When::Always);
+    assert!(condition_of("F + G ≤ T.BITS", false).is_err());
+    assert!(condition_of(" ≤ T.BITS", false).is_err());
+}
+
+#[test]
+fn tests_without_the_runtime() {
+    let source = "use std::process::Abort;
+
+#[test]
+fn t(rt: HostRuntime) {
+    assert_eq!(rt; f(&rt, 1), 2, \"rt; a\");
+    assert!(rt;
+        g(
+            &rt,
+            1,
+        )
+    );
+}
+
+fn f(rt: &impl Abort, x: u8) -> u8 {
+    h(rt)
+}
+";
+    let want = "
+#[test]
+fn t() {
+    assert_eq!(f(1), 2, \"rt; a\");
+    assert!(
+        g(
+            1,
+        )
+    );
+}
+
+fn f(x: u8) -> u8 {
+    h()
+}
+";
+    assert_eq!(without_runtime(source), want);
+}
