@@ -1,0 +1,4 @@
+use Rattle.fixed_policy.proofs.overflowing.FixedOverflowing.overflowing_div_euclid.Goals as goal
+
+pub returns : goal.returns
+returns g c = c.overflowing_number.ensures _ c.div_euclid_of.ensures

@@ -1,0 +1,4 @@
+use Rattle.fixed_policy.proofs.overflowing.FixedOverflowing.overflowing_sqrt.Goals as goal
+
+pub returns : goal.returns
+returns g c = c.overflowing_number.ensures _ c.sqrt_of.ensures
