@@ -5,9 +5,10 @@ use Rattle.fixed_calc.specs.Types.{Checked, Saturating, Wrapping, Overflowing, O
 use Rattle.fixed_calc.specs.Rows.{exact}
 use Rattle.fixed_calc.specs.declared.answer.Answer.TheVariants.{Absent, Bits}
 use Rattle.fixed_calc.specs.Machine.{Taken, row_of}
-use Rattle.fixed_calc.specs.Projection.{plain, project}
+use Rattle.fixed_calc.specs.Projection.{flagged, plain, project}
 use Rattle.fixed_calc.proofs.Fits.{in_range}
 use Rattle.fixed_word.specs.Format.{IsWidth, fits, wrap}
+use Rattle.fixed_word.specs.Policies.{checked, overflowing, saturating, wrapping}
 use Rattle.fixed_word.proofs.Wraps.{width_pos, wrap_same}
 use Rattle.fixed_agree.specs.declared.forms.Forms.{Forms}
 use Rattle.fixed_agree.specs.Agreement.{MachineAnswers}
@@ -33,6 +34,13 @@ of_row signed n (Some x) forms w d c o r s = record {
   by_wrapping = r;
   by_saturating = s;
 }
+
+-- four typed calls whose contracts name one number
+pub typed : (signed : Bool) (n : ℕ) (x : ℤ) (forms : Forms) (kept : Option ℤ) (wrapped held : ℤ) (flag : ℤ × Bool) → IsWidth n
+    → forms.checked ≡ plain kept → kept ≡ checked signed n (Some x) → forms.overflowing ≡ flagged (Some flag) → Some flag ≡ overflowing signed n (Some x)
+    → forms.wrapping ≡ Bits wrapped → Some wrapped ≡ wrapping signed n (Some x) → forms.saturating ≡ Bits held → Some held ≡ saturating signed n (Some x) → FormsAgree signed n (Some x) forms
+typed signed n x forms kept wrapped held flag w c kept_is o flag_is r wrapped_is s held_is =
+    of_row signed n (Some x) forms w refl (c ∙ ap plain kept_is) (o ∙ ap flagged flag_is) (r ∙ ap plain wrapped_is) (s ∙ ap plain held_is)
 
 pub forms_agree : (signed : Bool) (n : ℕ) (op : Op) (operands : Taken) (forms : Forms) → IsWidth n → IsSome (row_of op operands) → MachineAnswers signed n Checked op operands forms.checked
     → MachineAnswers signed n Overflowing op operands forms.overflowing → MachineAnswers signed n Wrapping op operands forms.wrapping → MachineAnswers signed n Saturating op operands forms.saturating

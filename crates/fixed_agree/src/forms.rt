@@ -1,7 +1,7 @@
 //! Four forms of one operation on the same operands, and how their answers agree.
 #![tactic(auto, unfolding(fixed_calc::specs::Offered::is_offered))]
 
-ghost use Rattle.std.specs.Prelude.{◌≡◌, ◌≤◌, ◌%◌, ◌^◌, ◌*ℤ◌, pos, IsSome, Some, true};
+ghost use Rattle.std.specs.Prelude.{◌≡◌, ◌≤◌, ◌%◌, ◌^◌, ◌*ℤ◌, pos, IsSome, None, Some, if◌then◌else◌, is_some, option_map, true};
 ghost use Rattle.fixed_calc.specs.Machine.{row_of};
 ghost use Rattle.fixed_calc.specs.Offered.{is_offered};
 ghost use Rattle.fixed_agree.specs.Agreement.{IsBinary, IsByInteger, IsOfferedOnBoth, IsUnary, one_operand, three_operands, two_operands, with_integer};
@@ -20,7 +20,7 @@ use fixed_policy::{
     WrappingUnsigned,
 };
 use fixed_strict::{SaturatingProducts, SaturatingSigned, SaturatingUnsigned};
-use fixed_word::{SignedWord, UnsignedWord, Word};
+use fixed_word::{RawWord, SignedWord, UnsignedWord, Word};
 
 /// The answers of four policies on the same operands.
 #[derive(Clone, Copy, Debug, PartialEq, Eq)]
@@ -139,6 +139,20 @@ pub fn add_prod<T: Word, const F: u32, const A: u32, const B: u32>(
     }
 }
 
+/// The number, or no value where nothing was stored.
+fn where_stored<T: RawWord, const F: u32>(
+    stored: Option<()>,
+    number: Fixed<T, F>,
+) -> Option<Fixed<T, F>>
+    ensures { option_map (λ x. T.value x.bits) result
+        ≡ (if is_some stored then Some (T.value number.bits) else None) }
+{
+    match stored {
+        Some(()) => Some(number),
+        None => None,
+    }
+}
+
 /// The forms of an accumulator that takes the product of `a` and `b`: what each leaves in it. Checked leaves
 /// no value where it answers None.
 pub fn mul_acc<T: Word, const F: u32, const A: u32, const B: u32>(
@@ -153,12 +167,12 @@ pub fn mul_acc<T: Word, const F: u32, const A: u32, const B: u32>(
         (exact_add_prod (T.value sum.bits) (T.value a.bits) (T.value b.bits) F A B)) result }
 {
     let (mut checked, mut overflowing, mut wrapping, mut saturating) = (sum, sum, sum, sum);
-    let kept = checked.checked_mul_acc(a, b).map(|_| checked);
+    let stored = checked.checked_mul_acc(a, b);
     let verdict = overflowing.overflowing_mul_acc(a, b);
     wrapping.wrapping_mul_acc(a, b);
     saturating.saturating_mul_acc(a, b);
     Forms {
-        checked: bits_or_absent(kept),
+        checked: bits_or_absent(where_stored(stored, checked)),
         overflowing: flagged_of((overflowing, verdict)),
         wrapping: bits_of(wrapping),
         saturating: bits_of(saturating),
