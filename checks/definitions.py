@@ -310,6 +310,13 @@ def counted(reading):
     }
 
 
+def citer(place, public, private):
+    """Who cites a definition, in words."""
+    if place in public:
+        return "public clauses cite it"
+    return "private functions alone cite it" if place in private else "no clause cites it"
+
+
 def misplaced(reading):
     """A line for each definition that stands on the wrong side of specs/inside/."""
     public = public_places(reading, crates())
@@ -317,11 +324,8 @@ def misplaced(reading):
     for place, definition in reading.definitions.items():
         is_inside = "inside" in definition.path.parts
         if definition.lines and is_inside == (place in public):
-            citer = "public clauses cite" if place in public else "private functions alone cite"
-            if place not in public and place not in private:
-                citer = "proofs alone cite, or nothing,"
             side = "inside" if is_inside else "outside of specs/inside"
-            yield f"{definition.path.relative_to(TOP)}: {place[1]}, which {citer} stands {side}"
+            yield f"{definition.path.relative_to(TOP)}: {place[1]} stands {side}: {citer(place, public, private)}"
 
 
 def written_counts():
