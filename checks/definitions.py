@@ -9,9 +9,9 @@
 A definition is reached where a clause cites it, or the body of a definition that is reached. What the public clauses of
 any crate reach has its place outside of specs/inside/; what private functions alone cite, or proofs alone, inside.
 
-A count is of lines without imports, comments and blank lines. There are three: of what the clauses of `calc_main` reach,
-with those of the traits that bound its source and its sinks; of what the public clauses of the library's crates reach;
-and of what the public clauses of all crates reach.
+A count is of lines without imports, comments and blank lines. There are three: of what the clauses of `calc_main`
+reach, with those of the traits that bound its source and its sinks; of what the public clauses of the library's crates
+reach; and of what the public clauses of all crates reach. Types that the sources declare are not counted.
 
 Public are the clauses of functions and of types that a crate offers, of the members of traits that it offers, and of
 impls whose type and trait it does not keep to itself. A program offers nothing: there the items marked `pub` count. A
@@ -38,8 +38,10 @@ Item = namedtuple("Item", "is_public name clauses")
 
 NAME = re.compile(r"(?<![^\s(){}\[\],;:λ∷→≡×])[^\s(){}\[\],;.:λ∷→≡×]+")
 DEFINED = re.compile(r"(?:abbrev |unfoldable )?(?:pub )?(?:record |data )?([^\s(]+)")
-FIRST_LINE = re.compile(r"(?:abbrev |unfoldable |pub |record |data )|[a-z_]+ : ")
-SKIPPED = ("--", "use ", "pub use ", "mod ", "pub mod ")
+FIRST_LINE = re.compile(r"(?:abbrev |unfoldable |pub |record |data )|\S+ : ")
+CONSTRUCTOR = re.compile(r"\s+(\S+) :")
+SKIPPED = ("use ", "pub use ", "mod ", "pub mod ", "infix")
+VISIBLE = r"(?:pub(?:\([\w ]+\))? )?"
 
 
 def crates():
@@ -69,11 +71,11 @@ def pieces_of(text):
     """The lines of each definition: those from its first line on, without comments, imports and blank lines."""
     pieces = []
     for line in text.split("\n"):
-        if not line.strip() or line.startswith(SKIPPED):
+        if not line.strip() or line.lstrip().startswith("--") or line.startswith(SKIPPED):
             continue
         if FIRST_LINE.match(line):
             pieces.append([line])
-        elif pieces and not line.startswith("infix"):
+        elif pieces:
             pieces[-1].append(line)
     return pieces
 
@@ -82,7 +84,7 @@ def constructors(lines):
     """The names of the constructors of a data type, which stand one in a line."""
     if not re.match(r"(?:pub )?data ", lines[0]):
         return []
-    return [match.group(1) for match in map(re.compile(r"\s+(\S+) :").match, lines[1:]) if match]
+    return [match.group(1) for match in map(CONSTRUCTOR.match, lines[1:]) if match]
 
 
 def definitions_in(crate, path):
@@ -181,7 +183,7 @@ def is_marked_public(part):
 
 
 def name_after(keyword, part):
-    match = re.match(rf"\s*(?:pub(?:\([\w ]+\))? )?(?:const |final )*{keyword} (\w+)", part)
+    match = re.match(rf"\s*{VISIBLE}(?:const |final )*{keyword} (\w+)", part)
     return match and match.group(1)
 
 
@@ -190,13 +192,21 @@ def bare(type_name):
     return re.sub(r"<.*", "", type_name).strip(" &").rpartition("::")[2]
 
 
-class Source:
-    """One file of a crate's sources, and what the crate offers."""
+def member_clauses(member):
+    """What stands before a member's body, or a ghost member; an import has none."""
+    return "" if re.match(r"\s*ghost use", member) else clauses_of(member, "    ")
 
-    def __init__(self, path, offers, kept):
+
+class Source:
+    """One file of a crate's sources, the names that the crate offers of it, and the types that the crate keeps.
+
+    Where `offered` is None the file is offered whole.
+    """
+
+    def __init__(self, path, offered, kept):
         self.text = bared(path.read_text())
         self.imports = imported(self.text)
-        self.offers = offers
+        self.offered = offered
         self.kept = kept
 
     def items(self):
@@ -207,17 +217,17 @@ class Source:
                 yield Item(self.is_offered(part, name), name, clauses_of(part, ""))
             elif part.startswith("impl"):
                 yield from self.impl_items(part)
-            elif re.match(r"(?:pub(?:\([\w ]+\))? )?(?:trait|struct|enum) ", part):
+            elif re.match(rf"{VISIBLE}(?:trait|struct|enum) ", part):
                 yield from self.type_items(part)
 
     def is_offered(self, part, name):
-        return is_marked_public(part) and self.offers(name)
+        return is_marked_public(part) and (self.offered is None or name in self.offered)
 
     def type_items(self, part):
         """The members of a trait, a struct or an enum, which are as public as it is."""
         name = next(filter(None, (name_after(word, part) for word in ("trait", "struct", "enum"))))
         for member in parts(part, "    "):
-            yield Item(self.is_offered(part, name), name, self.member_clauses(member))
+            yield Item(self.is_offered(part, name), name, member_clauses(member))
 
     def impl_items(self, part):
         """The members of an impl: of a trait all alike, and of a type alone each as it is marked."""
@@ -227,12 +237,7 @@ class Source:
         for member in parts(part, "    "):
             shown = is_public and bool(between or is_marked_public(member) or member.lstrip().startswith("ghost"))
             is_proof = re.match(r"\s*ghost \w+_law =", member)
-            yield Item(shown, bare(of_type), "" if is_proof else self.member_clauses(member))
-
-    def member_clauses(self, member):
-        if re.match(r"\s*ghost use", member):
-            return ""
-        return clauses_of(member, "    ")
+            yield Item(shown, bare(of_type), "" if is_proof else member_clauses(member))
 
 
 def offered_names(root):
@@ -242,32 +247,30 @@ def offered_names(root):
 
 
 def declared_types(text):
-    return set(re.findall(r"^(?:pub(?:\([\w ]+\))? )?(?:struct|enum|trait) (\w+)", text, re.M))
+    return set(re.findall(rf"^{VISIBLE}(?:struct|enum|trait) (\w+)", text, re.M))
 
 
-def sources(crate):
-    """The sources of a crate without its tests."""
+def offered_by_file(crate):
+    """The sources of a crate without its tests, each with the names that are offered of it, or None for all."""
     folder = CRATES / crate / "src"
     library = folder / "lib.rt"
     names, modules = offered_names(library.read_text()) if library.exists() else (None, set())
-    for path in sorted(folder.rglob("*.rt")):
-        if path.stem == "tests":
-            continue
-        is_whole = names is None or path.stem in modules
-        offers = (lambda name: True) if is_whole else names.__contains__
-        yield Source(path, offers, kept_types(folder, names, modules))
+    paths = [path for path in sorted(folder.rglob("*.rt")) if path.stem != "tests"]
+    return {path: None if path.stem in modules else names for path in paths}
 
 
-def kept_types(folder, names, modules):
-    """The types and traits that a crate declares and does not offer."""
-    kept = set()
-    for path in folder.rglob("*.rt"):
-        text = path.read_text()
-        if names is None or path.stem in modules:
-            kept |= {name for name in declared_types(text) if not re.search(rf"^pub \w+ {name}\b", text, re.M)}
-        else:
-            kept |= declared_types(text) - names
-    return kept
+def kept_types(path, offered):
+    """The types and traits that a file declares and that are not offered."""
+    text = path.read_text()
+    if offered is None:
+        return {name for name in declared_types(text) if not re.search(rf"^pub \w+ {name}\b", text, re.M)}
+    return declared_types(text) - offered
+
+
+def sources(crate):
+    files = offered_by_file(crate)
+    kept = set().union(*(kept_types(path, offered) for path, offered in files.items()))
+    return [Source(path, offered, kept) for path, offered in files.items()]
 
 
 def cited_by(reading, crate, is_wanted):
@@ -346,11 +349,10 @@ def false_counts(reading):
 
 def listed_file(reading, path, public):
     """The lines that tell of one file: what public clauses reach in it, and what they do not."""
-    places = [place for place, definition in reading.definitions.items() if definition.path == path and definition.lines]
+    places = [place for place, found in reading.definitions.items() if found.path == path and found.lines]
     reached = [place for place in places if place in public]
     others = [place for place in places if place not in public]
-    if places:
-        yield f"{path.relative_to(CRATES)}: {reading.lines(reached)} of {reading.lines(places)} lines"
+    yield f"{path.relative_to(CRATES)}: {reading.lines(reached)} of {reading.lines(places)} lines"
     for title, group in (("reached", reached), ("not", others)):
         if group:
             yield f"    {title}: {' '.join(name for _, name in group)}"
