@@ -11,3 +11,9 @@ pub mod Placed
 pub mod Pairs
 pub mod Lengths
 pub mod Lacking
+pub mod Naturals
+pub mod Wholes
+pub mod Caps
+pub mod Turns
+pub mod Gathered
+pub mod Readers

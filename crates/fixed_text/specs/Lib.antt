@@ -1,4 +1,9 @@
 pub mod Numerals
 pub mod Tokens
 pub mod Words
+pub mod Numbers
+pub mod Decimals
+pub mod Texts
+pub mod Runs
+pub mod Tells
 pub mod inside

@@ -1,2 +1,4 @@
 -- What private functions alone cite.
 pub mod Free
+pub mod Reader
+pub mod Pieces

@@ -1,19 +1,31 @@
-//! What the runs over text share: a script's pieces, the tokens of a piece, and decimals, read and written.
+//! What the runs over text share: a script's pieces, the tokens of a piece, decimals, read and written, the
+//! bytes of an output, and one loop over the pieces of a script.
 //!
 //! All of this is this project's own. Contracts speak of the decimals and pieces that
 //! [`fixed_word`](fixed_word) defines.
 #![tactic(auto)]
 
 mod added;
+mod decimal;
+mod fault;
+pub mod laws;
 mod names;
+mod numbers;
 mod numerals;
+mod output;
 mod pieces;
+mod running;
 mod tokens;
 mod written;
 
 pub use added::{push_all, push_natural, push_whole};
+pub use decimal::{Decimal, read_decimal, value_in};
+pub use fault::{Refusal, RunFault};
 pub use names::{WordName, word_of};
+pub use numbers::{fitting, read_natural, read_numbered, read_only_number, read_word, read_words};
 pub use numerals::{front_natural, is_decimal, natural_of, sign_of, value_of};
+pub use output::Output;
 pub use pieces::{body_of, piece_end};
+pub use running::{Run, open, run_lines};
 pub use tokens::{Tokens, cut};
 pub use written::decimal_into;

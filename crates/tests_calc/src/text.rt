@@ -1,6 +1,7 @@
-//! Decimals, tokens and pieces, each call once.
+//! Decimals, tokens, pieces, outputs and the run over lines, each call once.
 
 use fixed_text::*;
+use std::test::Fail;
 
 #[test]
 fn decimals_read(rt: HostRuntime) {
@@ -54,4 +55,97 @@ fn pieces(rt: HostRuntime) {
     assert_eq!(rt; piece_end(b"ab"), 2);
     assert_eq!(rt; body_of(b"ab\n"), Some(b"ab".as_slice()));
     assert_eq!(rt; body_of(b"ab"), None);
+    assert_eq!(rt; open(b"ab\ncd"), Some((b"ab".as_slice(), b"cd".as_slice())));
+    assert_eq!(rt; open(b"ab"), None);
+    assert_eq!(rt; open(b""), None);
+}
+
+#[test]
+fn wholes_read(rt: HostRuntime) {
+    let held = |below_zero, magnitude| {
+        Some(Decimal {
+            below_zero,
+            magnitude,
+        })
+    };
+    for (text, number) in [
+        ("0", held(false, 0)),
+        ("-128", held(true, 128)),
+        (
+            "18446744073709551617",
+            held(false, 18_446_744_073_709_551_616),
+        ),
+        (
+            "-18446744073709551617",
+            held(true, 18_446_744_073_709_551_616),
+        ),
+        ("", None),
+        ("-", None),
+        ("-0", None),
+        ("01", None),
+        ("+1", None),
+        ("1 ", None),
+    ] {
+        assert_eq!(rt; read_decimal(text.as_bytes()), number, "{text}");
+        let alone = read_only_number(Tokens::new(text.as_bytes()));
+        assert_eq!(rt; alone, number, "{text}");
+    }
+    assert_eq!(rt; read_only_number(Tokens::new(b"1 2")), None);
+    assert_eq!(rt; read_natural(b"12"), Some(12));
+    assert_eq!(rt; read_natural(b"-12"), None);
+    assert_eq!(rt; read_numbered(b'c', b"c12"), Some(12));
+    assert_eq!(rt; read_numbered(b'c', b"r12"), None);
+    assert_eq!(rt; read_numbered(b'c', b""), None);
+}
+
+#[test]
+fn words_read(rt: HostRuntime) -> Result<(), Fail> {
+    let number = |below_zero, magnitude| Decimal {
+        below_zero,
+        magnitude,
+    };
+    assert_eq!(rt; value_in::<i8>(&number(true, 128)), Some(-128));
+    assert_eq!(rt; value_in::<i8>(&number(false, 128)), None);
+    assert_eq!(rt; value_in::<u8>(&number(true, 1)), None);
+    assert_eq!(rt;
+        value_in::<u64>(&number(false, 18_446_744_073_709_551_616)),
+        None
+    );
+    assert_eq!(rt; fitting::<u8>(&number(false, 255)), Ok(255));
+    assert_eq!(rt; fitting::<u8>(&number(false, 256)), Err(Refusal::Unfit));
+    assert_eq!(rt; read_word::<i16>(b"-32768"), Ok(-32768));
+    assert_eq!(rt; read_word::<i16>(b"32768"), Err(Refusal::Unfit));
+    assert_eq!(rt; read_word::<i16>(b"32768 "), Err(Refusal::Unformed));
+    let alloc = rt.alloc();
+    match read_words::<i8>(alloc, Tokens::new(b"-128 0 127")) {
+        Ok(words) => assert_eq!(rt; words.as_slice(), [-128i8, 0, 127].as_slice()),
+        Err(_) => assert!(rt; false, "three words"),
+    }
+    for (text, wanted) in [
+        ("1 128", Refusal::Unfit),
+        ("128 x", Refusal::Unformed),
+        ("1  2", Refusal::Unformed),
+    ] {
+        match read_words::<i8>(alloc, Tokens::new(text.as_bytes())) {
+            Ok(_) => assert!(rt; false, "{text}"),
+            Err(refusal) => assert_eq!(rt; refusal, wanted, "{text}"),
+        }
+    }
+    Ok(())
+}
+
+#[test]
+fn outputs(rt: HostRuntime) -> Result<(), Fail> {
+    let mut output = Output::new(rt.alloc());
+    assert_eq!(rt; output.as_bytes(), b"".as_slice());
+    output.append(b"none\n")?;
+    output.append_natural(18_446_744_073_709_551_615)?;
+    output.append(b" ")?;
+    output.append_word(-128i8)?;
+    output.append_word(0u64)?;
+    assert_eq!(rt;
+        output.as_bytes(),
+        b"none\n18446744073709551615 -1280".as_slice()
+    );
+    Ok(())
 }

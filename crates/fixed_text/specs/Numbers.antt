@@ -1,0 +1,38 @@
+-- The number whose decimal a token is, if it is one.
+use Rattle.std.specs.Prelude.{ℕ, ℤ, ◌==◌, ◌&&◌, Bool, if◌then◌else◌, List, [], ◌∷◌, Option, Some, None}
+use Rattle.std.specs.Str.Parse.{digits_value}
+use Rattle.fixed_word.specs.Format.{with_sign}
+use Rattle.fixed_text.specs.Numerals.{is_decimal, has_minus, without_minus}
+use Rattle.fixed_text.specs.Tokens.{◌>>=◌, next_by, at_end}
+
+unfoldable pub natural_in : List ℕ → Option ℕ
+natural_in token = if is_decimal token then Some (digits_value 10 token) else None
+
+-- the natural number after a letter
+unfoldable pub numbered_in : ℕ → List ℕ → Option ℕ
+numbered_in letter [] = None
+numbered_in letter (c ∷ cs) = if c == letter then natural_in cs else None
+
+-- no minus stands before 0
+abbrev pub signed_by : Bool → Option ℕ → Option ℤ
+signed_by minus None = None
+signed_by minus (Some n) = if minus && n == 0 then None else Some (with_sign minus n)
+
+unfoldable pub whole_in : List ℕ → Option ℤ
+whole_in token = signed_by (has_minus token) (natural_in (without_minus token))
+
+-- the number that is all that is left
+unfoldable pub only_number : List (List ℕ) → Option ℤ
+only_number ts = do
+  x ← next_by whole_in ts
+  at_end x.1 x.0
+
+-- the numbers of tokens that are decimals, each of them
+abbrev pub before_others : Option ℤ → Option (List ℤ) → Option (List ℤ)
+before_others None others = None
+before_others (Some x) None = None
+before_others (Some x) (Some xs) = Some (x ∷ xs)
+
+abbrev pub wholes_in : List (List ℕ) → Option (List ℤ)
+wholes_in [] = Some []
+wholes_in (token ∷ rest) = before_others (whole_in token) (wholes_in rest)

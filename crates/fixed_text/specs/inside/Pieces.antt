@@ -1,0 +1,16 @@
+-- What the call of one piece says.
+use Rattle.std.specs.Prelude.{◌≡◌, ◌++◌, ℕ, List, Result, Ok, Err}
+use Rattle.fixed_text.specs.declared.fault.RunFault.{RunFault}
+use Rattle.fixed_text.specs.declared.fault.RunFault.TheVariants.{Syntax, OutOfRange, Memory}
+use Rattle.fixed_text.specs.Runs.{Reading, Malformed, Misfit, Read}
+
+-- piece k lacks the form, or has a number out of range; want of memory may come at any time
+abbrev pub FaultTells : {A : Type 0} → ℕ → Reading A → RunFault → Type 0
+FaultTells k reading (Syntax j) = (j ≡ k) × (reading ≡ Malformed)
+FaultTells k reading (OutOfRange j) = (j ≡ k) × (reading ≡ Misfit)
+FaultTells k reading Memory = Unit {0}
+
+-- piece k leaves a state and adds what it prints
+abbrev pub LineTells : {S : Type 0} → ℕ → Reading (S × List ℕ) → Result (Unit {0}) RunFault → S → List ℕ → List ℕ → Type 0
+LineTells k reading (Ok _) state before now = (bytes : List ℕ) × (reading ≡ Read (state, bytes)) × (now ≡ before ++ bytes)
+LineTells k reading (Err fault) state before now = FaultTells k reading fault
