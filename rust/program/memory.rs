@@ -32,6 +32,12 @@ impl<T> Vec<T> {
         Ok(made)
     }
 
+    pub fn push(&mut self, item: T) -> Result<(), AllocError> {
+        self.held.try_reserve(1).map_err(|_| AllocError)?;
+        self.held.push(item);
+        Ok(())
+    }
+
     /// Adds an item for which there is room.
     pub fn push_reserved(&mut self, item: T) {
         self.held.push(item);
