@@ -56,7 +56,7 @@ const KNOWN: [(&str, When, &str, &str); 39] = [
     ("InRange T.SIGNED T.BITS (neg_ℤ (pos (2 ^ F)))", Always, "T::SIGNED && F < T::BITS", "the number -1 fits"),
     ("root_of (T.value self.bits) F ≤ℤ highest T.SIGNED T.BITS", Debugging,
         "fixed_kernel::sqrt_of(self.bits, F).side == fixed_word::Side::Fits", "the root fits"),
-    ("T.SIGNED ≡ true → T.value rhs.bits ≡ negsuc 0 → T.value self.bits ≢ lowest T.SIGNED T.BITS", Debugging,
+    ("T.SIGNED ≡ true → T.value rhs.bits ≡ negsuc 0 → T.value self.bits ≢ lowest T.SIGNED T.BITS", Always,
         "!T::SIGNED || self.bits != T::MIN || rhs.bits != T::residue(true, 1)", "the quotient fits"),
     ("InRange SIGNED Self.BITS (Self.value self *ℤ pos (2 ^ by))", Debugging,
         "(self << by) >> by == self", "the number fits"),
