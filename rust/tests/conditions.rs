@@ -40,9 +40,9 @@ macro_rules! stops_when_debugging {
 }
 
 stops! {
-    word_divisor, "divide by zero", word::Arithmetic::quotient(1_i8, 0);
-    word_remainder, "with a divisor of zero", word::Arithmetic::euclid_remainder(1_u16, 0);
-    word_integer_divisor, "divide by zero", word::Integer::over(1_i32, 0);
+    word_divisor, "the divisor is not 0", word::Arithmetic::quotient(1_i8, 0);
+    word_remainder, "the divisor is not 0", word::Arithmetic::euclid_remainder(1_u16, 0);
+    word_integer_divisor, "the divisor is not 0", word::Integer::over(1_i32, 0);
     word_scaled, "the shift is below the width", word::Integer::scaled(0_i16, 16);
     word_floored, "the shift is below the width", word::Integer::floored(1_u128, 128);
     word_digits_shift, "the shift is below the width",
