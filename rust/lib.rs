@@ -34,10 +34,10 @@
 //! # Conditions
 //!
 //! Where the proved language has a proof at each call that the call's condition holds, Rust has an assertion, which
-//! each page names under "Panics". The strict and unwrapped forms stop where the number does not fit, and every call
-//! stops on a divisor of 0, the root of a number below 0, a shift by the width or more and a fraction past the width.
-//! The operators and plain calls stop where the number does not fit in builds with debug assertions, and otherwise
-//! answer the wrapped number, as those of integers do.
+//! each page names under "Panics". Every call stops on a fraction past the width; each but the checked ones on a
+//! divisor of 0 and on the root of a number below 0; the operators, strict and unwrapped forms on a shift by the width
+//! or more. The strict and unwrapped forms stop where the number does not fit. The operators and plain calls do so in
+//! builds with debug assertions, and otherwise answer the wrapped number, as those of integers do.
 #![no_std]
 // The code below is the proved sources' own, which name the traits of the calls that they use and the operands of laws.
 #![allow(unused_imports, unused_variables)]

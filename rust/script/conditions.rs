@@ -40,7 +40,7 @@ const KNOWN: [(&str, When, &str, &str); 39] = [
     ("T.value $ ≢ pos 0", Always, "$ != T::ZERO", "the divisor is not 0"),
     ("T.Signed.value $ ≢ pos 0", Always, "$.magnitude() != 0", "the divisor is not 0"),
     ("T.Unsigned.value $ ≢ pos 0", Always, "$.magnitude() != 0", "the divisor is not 0"),
-    ("Self.value divisor ≢ pos 0", Always, "", "the divisor is not 0"),
+    ("Self.value divisor ≢ pos 0", Always, "divisor != 0", "the divisor is not 0"),
     // A word tells whether it is 0 by a counted step alone, so a ledger that counts sees no test.
     ("D.value val ≢ pos 0", Always, "L::LAST > 0 || !val.at_most(D::ZERO, steps)", "the number is not 0"),
     ("pos 0 ≤ℤ Self.number $", Always, "!$.bits.is_below_zero()", "the number is not below 0"),
@@ -56,7 +56,7 @@ const KNOWN: [(&str, When, &str, &str); 39] = [
     ("InRange T.SIGNED T.BITS (neg_ℤ (pos (2 ^ F)))", Always, "T::SIGNED && F < T::BITS", "the number -1 fits"),
     ("root_of (T.value self.bits) F ≤ℤ highest T.SIGNED T.BITS", Debugging,
         "fixed_kernel::sqrt_of(self.bits, F).side == fixed_word::Side::Fits", "the root fits"),
-    ("T.SIGNED ≡ true → T.value rhs.bits ≡ negsuc 0 → T.value self.bits ≢ lowest T.SIGNED T.BITS", Debugging,
+    ("T.SIGNED ≡ true → T.value rhs.bits ≡ negsuc 0 → T.value self.bits ≢ lowest T.SIGNED T.BITS", Always,
         "!T::SIGNED || self.bits != T::MIN || rhs.bits != T::residue(true, 1)", "the quotient fits"),
     ("InRange SIGNED Self.BITS (Self.value self *ℤ pos (2 ^ by))", Debugging,
         "(self << by) >> by == self", "the number fits"),
@@ -68,9 +68,9 @@ const KNOWN: [(&str, When, &str, &str); 39] = [
     ("ProductsFit ..", Debugging, "", "each product fits"),
 ];
 
-/// What stops by itself: `exact_number` and calls that stand on it see the side of the number, std's division a
-/// divisor of 0, and std's sums and products an overflow.
-const STOPPING: [&str; 16] = [
+/// What stops by itself: `exact_number` and calls that stand on it see the side of the number, and std's sums and
+/// products of integers an overflow.
+const STOPPING: [&str; 13] = [
     "exact_number(",
     "self.strict_",
     "self.add_prod(",
@@ -84,9 +84,6 @@ const STOPPING: [&str; 16] = [
     "Fixed::one()",
     "self + other",
     "self * other",
-    "/ divisor",
-    "% divisor",
-    "(divisor)",
 ];
 
 /// The condition of a clause, written with one space between its words. In the strict forms each number has to

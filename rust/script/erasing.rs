@@ -68,6 +68,10 @@ impl Erasing<'_> {
             ["impl" | "trait", ..] if matches!(&self.out[self.line()..], "" | "pub ") => {
                 self.block()
             }
+            ["}", ..] if self.out.ends_with('\n') => {
+                self.of_trait = None;
+                self.push();
+            }
             ["fn", " ", name, ..] => return self.function(name),
             ["#", "!", "[", "tactic", ..] | ["#", "[", "tactic" | "error", ..] => {
                 self.skip(after_group)
@@ -178,11 +182,8 @@ impl Erasing<'_> {
             self.out.push_str(if has_body { " {" } else { ";" });
             return Ok(());
         }
-        let known = facts
-            .iter()
-            .map(|fact| condition_of(fact, self.reading == Reading::Strict));
-        let conditions: Vec<Condition> = known
-            .collect::<Result<_, _>>()
+        let conditions = self
+            .conditions(&facts)
             .map_err(|error| format!("{name}: {error}"))?;
         self.out.push_str(if has_body { " {" } else { ";" });
         if has_body {
@@ -192,8 +193,10 @@ impl Erasing<'_> {
                 .iter()
                 .find(|condition| !is_seen(condition, &body))
             {
-                let words = &unseen.words;
-                return Err(format!("{name}: nothing in its body stops unless {words}"));
+                return Err(format!(
+                    "{name}: nothing in its body stops unless {}",
+                    unseen.words
+                ));
             }
             self.out.push_str(&assertions(&conditions, indent + 4));
         }
@@ -207,6 +210,14 @@ impl Erasing<'_> {
         }
         self.out.insert_str(line, &above);
         Ok(())
+    }
+
+    fn conditions(&self, facts: &[String]) -> Result<Vec<Condition>, String> {
+        let strict = self.reading == Reading::Strict;
+        facts
+            .iter()
+            .map(|fact| condition_of(fact, strict))
+            .collect()
     }
 
     /// Writes the head of a function without its clauses and comments, and answers its clauses.

@@ -40,9 +40,9 @@ macro_rules! stops_when_debugging {
 }
 
 stops! {
-    word_divisor, "divide by zero", word::Arithmetic::quotient(1_i8, 0);
-    word_remainder, "with a divisor of zero", word::Arithmetic::euclid_remainder(1_u16, 0);
-    word_integer_divisor, "divide by zero", word::Integer::over(1_i32, 0);
+    word_divisor, "the divisor is not 0", word::Arithmetic::quotient(1_i8, 0);
+    word_remainder, "the divisor is not 0", word::Arithmetic::euclid_remainder(1_u16, 0);
+    word_integer_divisor, "the divisor is not 0", word::Integer::over(1_i32, 0);
     word_scaled, "the shift is below the width", word::Integer::scaled(0_i16, 16);
     word_floored, "the shift is below the width", word::Integer::floored(1_u128, 128);
     word_digits_shift, "the shift is below the width",
@@ -77,6 +77,7 @@ stops! {
         FixedI8::<8>::from_bits(1).wide_div::<0, 17>(FixedI8::<0>::from_bits(1));
     num_wide_divisor, "the divisor is not 0", byte(1).wide_div::<4, 8>(byte(0));
     num_wide_unsigned_divisor, "the divisor is not 0", byte(1).wide_div_unsigned::<4, 8>(Unsigned::from_bits(0));
+    num_wide_quotient, "the quotient fits", FixedI8::<0>::MIN.wide_div::<0, 8>(FixedI8::<0>::from_bits(-1));
     num_operator_fraction, "the fraction F is at most the width", past(1) * past(1);
     num_operator_divisor, "the divisor is not 0", byte(1) / byte(0);
     num_operator_integer, "the divisor is not 0", byte(1) % 0;
@@ -109,8 +110,6 @@ stops_when_debugging! {
     word_euclid, "the number fits", word::Integer::euclid_quotient(i16::MIN, -1), i16::MIN;
     num_root, "the root fits",
         FixedI8::<8>::from_bits(64).sqrt_counted(&mut word::Steps::new(word::Silent::new())).bits, -128;
-    num_wide_quotient, "the quotient fits",
-        FixedI8::<0>::MIN.wide_div::<0, 8>(FixedI8::<0>::from_bits(-1)).bits, i16::MIN;
     num_exact, "the number fits", num::exact_number::<i8, 4>(kernel::add_of(127, 1)), Byte::MIN;
     num_sum, "the number fits", Byte::MAX + Byte::DELTA, Byte::MIN;
     num_neg, "the number fits", -Byte::MIN, Byte::MIN;
