@@ -5,7 +5,7 @@
 //! usage: zugyelmas [demo N]
 
 // The code that is included is the proved sources' own, in the forms of which their proofs speak.
-#![allow(dead_code, unused_imports, unused_labels, unused_variables)]
+#![allow(dead_code, drop_bounds, unused_imports, unused_labels, unused_variables)]
 #![allow(
     clippy::manual_map,
     clippy::manual_range_contains,
