@@ -1,19 +1,16 @@
 -- The run of a demonstration.
-use Rattle.std.proofs.Common.{◌≡◌, ◌+◌, ◌-◌, ◌==◌, ℕ, zero, suc, Bool, true, false, not, eqb, if◌then◌else◌, List, [], ◌∷◌, ◌++◌, map, length, take, replicate, Option, Some, None, Err, refl, sym, ap, ◌∙◌, subst, arith, append_assoc, length-append}
-use Rattle.std.specs.Prelude.{slice_index}
-use Rattle.std.specs.List.{All, flat_map, onto_first}
+use Rattle.std.proofs.Common.{◌≡◌, ◌+◌, ◌-◌, ℕ, zero, suc, true, List, [], ◌∷◌, ◌++◌, map, length, replicate, Option, Some, None, Err, refl, sym, ap, ◌∙◌, subst, arith, append_assoc, length-append}
+use Rattle.std.specs.List.{All, flat_map}
 use Rattle.std.specs.Cmp.Derive.{both_true}
-use Rattle.std.proofs.lemmas.Bool.{false≢true}
-use Rattle.std.proofs.Math.Seq.{take-append_seam, get_or-append_seam}
 use Rattle.std.proofs.lemmas.List.Elements.{All-nil, All-cons}
-use Rattle.fixed_word.specs.Pieces.{pieces, body}
+use Rattle.fixed_word.specs.Pieces.{pieces}
 use Rattle.fixed_calc.specs.declared.cause.Cause.{Cause}
 use Rattle.fixed_calc.specs.declared.cause.RunFault.{RunFault}
 use Rattle.fixed_calc.specs.declared.cause.RunFault.TheVariants.{Script}
 use Rattle.fixed_calc.specs.Rooms.{MeaningTells}
 use Rattle.fixed_calc.specs.Answers.{answer_text}
-use Rattle.fixed_script.specs.Text.{ScriptHeader, header_text, header_tokens, ScriptLine, IsLine, line_text}
-use Rattle.fixed_script.specs.Lines.{line_of, header_of, then_of, line_of_piece, header_of_piece}
+use Rattle.fixed_script.specs.Text.{header_text, header_tokens, ScriptLine, line_text}
+use Rattle.fixed_script.specs.Lines.{line_of_piece}
 use Rattle.fixed_calc.specs.Machine.{State, Cell, cause, answer, move}
 use Rattle.fixed_calc.specs.Meaning.{Run, Output, Fault, by_cause, step_then, run_lines, run_of, start, zeros, fractions_of, meaning, meaning_with}
 use Rattle.fixed_calc.specs.Demo.{ended, demo_header, demo_lines, demo_text, answers_from, demo_answers}
