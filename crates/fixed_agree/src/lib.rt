@@ -18,6 +18,4 @@ pub mod laws;
 pub mod overflowing;
 pub mod saturating;
 pub mod strict;
-#[cfg(test)]
-mod tests;
 pub mod wrapping;

@@ -9,7 +9,5 @@ mod bit_word;
 mod bytes;
 pub mod laws;
 mod pattern;
-#[cfg(test)]
-mod tests;
 
 pub use bit_word::BitWord;

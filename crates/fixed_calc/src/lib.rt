@@ -27,8 +27,6 @@ mod status;
 mod stepping;
 mod summary;
 mod sure;
-#[cfg(test)]
-mod tests;
 mod top;
 mod writing;
 

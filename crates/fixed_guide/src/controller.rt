@@ -21,17 +21,3 @@ pub fn output(error: Signal, gain: Gain, bias: Signal) -> Signal
 {
     error.saturating_mul_add(gain, bias)
 }
-
-#[cfg(test)]
-mod tests {
-    use super::*;
-
-    #[test]
-    fn held_at_the_ends(rt: HostRuntime) {
-        let gain = Gain { bits: 14336 };
-        let bias = Signal { bits: 1280 };
-        for (error, want) in [(2560, 10240), (12800, 32767), (-12800, -32768)] {
-            assert_eq!(rt; output(Signal { bits: error }, gain, bias).bits, want);
-        }
-    }
-}

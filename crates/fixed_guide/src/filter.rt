@@ -28,19 +28,3 @@ pub fn low_pass(level: Level, sample: Level, gain: Gain) -> Level
     let distance = sample.saturating_sub(level);
     level.saturating_add_prod(distance, gain)
 }
-
-#[cfg(test)]
-mod tests {
-    use super::*;
-
-    #[test]
-    fn three_steps(rt: HostRuntime) {
-        let sample = Level { bits: 65536 };
-        let gain = Gain { bits: 134217728 };
-        let mut level = Level { bits: 0 };
-        for want in [8192, 15360, 21632] {
-            level = low_pass(level, sample, gain);
-            assert_eq!(rt; level.bits, want);
-        }
-    }
-}

@@ -17,15 +17,3 @@ pub fn total(price: Amount, pieces: u32, fee: Amount) -> Amount
 {
     price * pieces + fee
 }
-
-#[cfg(test)]
-mod tests {
-    use super::*;
-
-    #[test]
-    fn three_pieces_and_a_fee(rt: HostRuntime) {
-        let price = Amount { bits: 5 * 256 + 64 };
-        let fee = Amount { bits: 128 };
-        assert_eq!(rt; total(price, 3, fee).bits, 4160);
-    }
-}

@@ -25,23 +25,3 @@ pub fn transfer(from: &mut Money, to: &mut Money, amount: Money) -> Option<()>
     *to = more;
     Some(())
 }
-
-#[cfg(test)]
-mod tests {
-    use super::*;
-
-    #[test]
-    fn a_payment_and_one_too_large(rt: HostRuntime) {
-        let mut payer = Money { bits: 256000 };
-        let mut payee = Money {
-            bits: i64::MAX - 25600,
-        };
-        assert_eq!(rt;
-            transfer(&mut payer, &mut payee, Money { bits: 25600 }),
-            Some(())
-        );
-        assert_eq!(rt; (payer.bits, payee.bits), (230400, i64::MAX));
-        assert_eq!(rt; transfer(&mut payer, &mut payee, Money { bits: 1 }), None);
-        assert_eq!(rt; (payer.bits, payee.bits), (230400, i64::MAX));
-    }
-}

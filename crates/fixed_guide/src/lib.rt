@@ -7,5 +7,3 @@ pub mod controller;
 pub mod filter;
 pub mod invoice;
 pub mod ledger;
-#[cfg(test)]
-mod tests;

@@ -10,8 +10,6 @@ mod exact;
 pub mod laws;
 mod squaring;
 mod tens;
-#[cfg(test)]
-mod tests;
 
 pub use base::Base;
 pub use squaring::{frac_part, int_part};

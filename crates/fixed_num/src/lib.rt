@@ -18,8 +18,6 @@ mod magnitudes;
 mod operators;
 mod part;
 mod sides;
-#[cfg(test)]
-mod tests;
 mod wide;
 
 pub use exact::exact_number;

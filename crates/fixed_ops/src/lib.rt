@@ -9,8 +9,6 @@ pub mod laws;
 mod plain;
 mod plain_products;
 mod sums;
-#[cfg(test)]
-mod tests;
 
 pub use plain::{Plain, PlainSigned, PlainUnsigned};
 pub use plain_products::{PlainMulAdd, PlainProducts};

@@ -11,8 +11,6 @@ mod checked_products;
 mod numbers;
 mod overflowing;
 mod overflowing_products;
-#[cfg(test)]
-mod tests;
 mod wrapping;
 mod wrapping_products;
 

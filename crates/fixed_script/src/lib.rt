@@ -13,8 +13,6 @@ mod names;
 mod piece;
 mod registers;
 mod taking;
-#[cfg(test)]
-mod tests;
 
 pub use fixed_text::WordName;
 pub use header::{Fractions, Header, parse_header};

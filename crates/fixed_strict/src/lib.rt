@@ -11,8 +11,6 @@ mod saturating;
 mod saturating_products;
 mod strict;
 mod strict_products;
-#[cfg(test)]
-mod tests;
 mod unwrapped;
 mod unwrapped_products;
 

@@ -8,8 +8,6 @@ mod added;
 mod names;
 mod numerals;
 mod pieces;
-#[cfg(test)]
-mod tests;
 mod tokens;
 mod written;
 

@@ -12,8 +12,6 @@ mod ledger;
 mod narrow;
 mod outcome;
 mod policies;
-#[cfg(test)]
-mod tests;
 mod word;
 mod words;
 

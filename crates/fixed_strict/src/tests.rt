@@ -1,3 +1,0 @@
-//! The typed calls.
-
-mod typed;

@@ -1,0 +1,186 @@
+//! Roots of the greatest number and of two, of every word, by all calls.
+
+ghost use Rattle.std.specs.Prelude.{◌≤◌};
+
+use super::exact::{answers_of, number, word};
+use fixed_num::{
+    Fixed, FixedI8, FixedI16, FixedI32, FixedI64, FixedU8, FixedU16, FixedU32, FixedU64,
+};
+use fixed_ops::Plain;
+use fixed_policy::{Checked, Overflowing, Wrapping};
+use fixed_strict::{Saturating, Strict};
+use fixed_word::{SignedWord, UnsignedWord, Word};
+use std::process::Abort;
+
+/// The root by the plain call, which asks that it fits, where the checked call answers it.
+#[tactic(auto, using(fixed_agree::proofs::Guarded::guarded))]
+fn plain_root<T: Word, const F: u32>(a: Fixed<T, F>) -> Option<Fixed<T, F>>
+    requires { F ≤ T.BITS }
+{
+    match a.checked_sqrt() {
+        Some(_) => Some(a.sqrt()),
+        None => None,
+    }
+}
+
+/// Asserts that the root has the answers of the number `exact`.
+fn has_root<T: Word, const F: u32>(rt: &impl Abort, a: Fixed<T, F>, exact: i128)
+    requires { F ≤ T.BITS }
+{
+    if !a.bits.is_below_zero() {
+        let expected = answers_of(exact);
+        let answers = (a.checked_sqrt(), a.overflowing_sqrt(), a.wrapping_sqrt());
+        assert!(rt; answers == expected, "{exact} at {F}");
+        assert!(rt; plain_root(a) == expected.0, "{exact} at {F}");
+    }
+}
+
+/// Whether `root` squared is at most `number`, and the square of the next number is above.
+fn is_root(root: u128, number: u128) -> bool {
+    let at_most = match root.checked_mul(root) {
+        Some(square) => square <= number,
+        None => false,
+    };
+    match root.checked_add(1) {
+        Some(next) => match next.checked_mul(next) {
+            Some(square) => at_most && number < square,
+            None => at_most,
+        },
+        None => at_most,
+    }
+}
+
+/// The root of the greatest number: none in a signed word of all fraction bits.
+fn of_greatest<T: Word, const F: u32>(rt: &impl Abort, greatest: Fixed<T, F>)
+    requires { F ≤ T.BITS }
+{
+    match greatest.checked_sqrt() {
+        Some(root) => {
+            if F <= 64 {
+                let scaled = (greatest.bits.magnitude() as u128) << F;
+                assert!(rt; is_root(root.bits.magnitude() as u128, scaled), "{F}");
+                has_root(rt, greatest, number(root.bits));
+            }
+        }
+        None => assert!(rt; T::SIGNED && F == T::BITS, "{F}"),
+    }
+}
+
+/// The root of two, wherever two is a number.
+fn of_two<T: Word, const F: u32>(rt: &impl Abort, greatest: Fixed<T, F>)
+    requires { F ≤ T.BITS }
+{
+    if F < 63 {
+        let units = 2 << F;
+        if units <= number(greatest.bits) {
+            let root = 0xB504_F333_F9DE_6484_u64 >> (63 - F);
+            has_root::<T, F>(rt, Fixed { bits: word(units) }, root as i128);
+        }
+    }
+}
+
+/// Both roots, in the signed and the unsigned word of one width.
+fn both<S: SignedWord, U: UnsignedWord, const F: u32>(
+    rt: &impl Abort,
+    signed: Fixed<S, F>,
+    unsigned: Fixed<U, F>,
+)
+    requires signed { F ≤ S.BITS }
+    requires unsigned { F ≤ U.BITS }
+{
+    of_greatest(rt, signed);
+    of_greatest(rt, unsigned);
+    of_two(rt, signed);
+    of_two(rt, unsigned);
+}
+
+#[test]
+fn eight_bits(rt: HostRuntime) {
+    let (signed, unsigned) = (i8::MAX, u8::MAX);
+    both(
+        &rt,
+        FixedI8::<4> { bits: signed },
+        FixedU8::<4> { bits: unsigned },
+    );
+    both(
+        &rt,
+        FixedI8::<7> { bits: signed },
+        FixedU8::<7> { bits: unsigned },
+    );
+    both(
+        &rt,
+        FixedI8::<8> { bits: signed },
+        FixedU8::<8> { bits: unsigned },
+    );
+}
+
+#[test]
+fn sixteen_bits(rt: HostRuntime) {
+    let (signed, unsigned) = (i16::MAX, u16::MAX);
+    both(
+        &rt,
+        FixedI16::<8> { bits: signed },
+        FixedU16::<8> { bits: unsigned },
+    );
+    both(
+        &rt,
+        FixedI16::<15> { bits: signed },
+        FixedU16::<15> { bits: unsigned },
+    );
+    both(
+        &rt,
+        FixedI16::<16> { bits: signed },
+        FixedU16::<16> { bits: unsigned },
+    );
+}
+
+#[test]
+fn thirty_two_bits(rt: HostRuntime) {
+    let (signed, unsigned) = (i32::MAX, u32::MAX);
+    both(
+        &rt,
+        FixedI32::<16> { bits: signed },
+        FixedU32::<16> { bits: unsigned },
+    );
+    both(
+        &rt,
+        FixedI32::<31> { bits: signed },
+        FixedU32::<31> { bits: unsigned },
+    );
+    both(
+        &rt,
+        FixedI32::<32> { bits: signed },
+        FixedU32::<32> { bits: unsigned },
+    );
+}
+
+#[test]
+fn sixty_four_bits(rt: HostRuntime) {
+    let (signed, unsigned) = (i64::MAX, u64::MAX);
+    both(
+        &rt,
+        FixedI64::<32> { bits: signed },
+        FixedU64::<32> { bits: unsigned },
+    );
+    both(
+        &rt,
+        FixedI64::<63> { bits: signed },
+        FixedU64::<63> { bits: unsigned },
+    );
+    both(
+        &rt,
+        FixedI64::<64> { bits: signed },
+        FixedU64::<64> { bits: unsigned },
+    );
+}
+
+/// The root of 1.5, squared, is two units below 1.5.
+#[test]
+fn root_and_square(rt: HostRuntime) {
+    let number = FixedI32::<12> { bits: 6144 };
+    let root = FixedI32::<12> { bits: 5016 };
+    assert_eq!(rt; plain_root(number), Some(root));
+    let square = root.strict_mul(root);
+    assert_eq!(rt; square.bits, 6142);
+    assert_eq!(rt; number.saturating_dist(square).bits, 2);
+}

@@ -1,0 +1,22 @@
+//! Tests of `fixed_text`, `fixed_script` and `fixed_calc`: text read and written, scripts from bytes to bytes,
+//! and devices that fail.
+#![tactic(auto)]
+
+#[cfg(test)]
+mod calls;
+#[cfg(test)]
+mod demo;
+#[cfg(test)]
+mod faults;
+#[cfg(test)]
+mod lines;
+#[cfg(test)]
+mod pairs;
+#[cfg(test)]
+mod programs;
+#[cfg(test)]
+mod refused;
+#[cfg(test)]
+mod text;
+#[cfg(test)]
+mod worked;

@@ -1,0 +1,129 @@
+//! Headers and lines, each kind once.
+
+use fixed_script::*;
+use std::test::Fail;
+
+fn whole(below_zero: bool, magnitude: u128) -> Literal {
+    Literal {
+        below_zero,
+        magnitude,
+    }
+}
+
+fn set(dest: u128, literal: Literal) -> Line {
+    Line::Set { dest, literal }
+}
+
+/// A header gives its word and its fractions, those of `2^64` or more as `2^64`.
+#[test]
+fn headers(rt: HostRuntime) -> Result<(), Fail> {
+    for (text, word, fractions) in [
+        ("i8 4", WordName::I8, [4].as_slice()),
+        ("i16 0", WordName::I16, &[0]),
+        ("i32 16 16 8", WordName::I32, &[16, 16, 8]),
+        ("i64 64", WordName::I64, &[64]),
+        ("u8 9", WordName::U8, &[9]),
+        ("u16 1 2 3 4", WordName::U16, &[1, 2, 3, 4]),
+        (
+            "u32 18446744073709551615",
+            WordName::U32,
+            &[18_446_744_073_709_551_615],
+        ),
+        (
+            "u64 18446744073709551616 0",
+            WordName::U64,
+            &[18_446_744_073_709_551_616, 0],
+        ),
+        (
+            "u64 99999999999999999999999999",
+            WordName::U64,
+            &[18_446_744_073_709_551_616],
+        ),
+    ] {
+        match parse_header(text.as_bytes()) {
+            Some(header) => {
+                assert_eq!(rt; header.word(), word, "{text}");
+                let mut at = 0;
+                for fraction in header.fractions() {
+                    assert!(rt; at < fractions.len(), "{text}");
+                    assert_eq!(rt; fraction, fractions[at], "{text}");
+                    at += 1;
+                }
+                assert_eq!(rt; at, fractions.len(), "{text}");
+            }
+            None => assert!(rt; false, "{text}"),
+        }
+    }
+    assert!(rt; parse_header(b"i8 4\n").is_none(), "a newline");
+    Ok(())
+}
+
+/// A line of each kind.
+#[test]
+fn lines(rt: HostRuntime) -> Result<(), Fail> {
+    for (text, line) in [
+        ("r3 set -129", Some(set(3, whole(true, 129)))),
+        (
+            "r18446744073709551617 set 0",
+            Some(set(18_446_744_073_709_551_616, whole(false, 0))),
+        ),
+        (
+            "r0 strict sqrt r12",
+            Some(Line::One {
+                dest: 0,
+                policy: Policy::Strict,
+                op: Op::Sqrt,
+                a: 12,
+            }),
+        ),
+        (
+            "r1 wrapping next_multiple_of r2 r3",
+            Some(Line::Two {
+                dest: 1,
+                policy: Policy::Wrapping,
+                op: Op::NextMultipleOf,
+                a: 2,
+                b: 3,
+            }),
+        ),
+        (
+            "r1 overflowing rem_euclid_int r2 -18446744073709551617",
+            Some(Line::Int {
+                dest: 1,
+                policy: Policy::Overflowing,
+                op: Op::RemEuclidInt,
+                a: 2,
+                literal: whole(true, 18_446_744_073_709_551_616),
+            }),
+        ),
+        (
+            "r1 saturating add_prod r2 r3 r4",
+            Some(Line::Three {
+                dest: 1,
+                policy: Policy::Saturating,
+                op: Op::AddProd,
+                a: 2,
+                b: 3,
+                c: 4,
+            }),
+        ),
+        ("r0 set 1\n", None),
+        ("", None),
+    ] {
+        assert_eq!(rt; parse_line(text.as_bytes()), line, "{text}");
+    }
+    Ok(())
+}
+
+/// A piece has its newline.
+#[test]
+fn pieces(rt: HostRuntime) {
+    assert_eq!(rt;
+        line_of_piece(b"r3 set -129\n"),
+        Some(set(3, whole(true, 129)))
+    );
+    assert_eq!(rt; line_of_piece(b"r3 set -129"), None);
+    assert!(rt; header_of_piece(b"i8 4\n").is_some(), "a header");
+    assert!(rt; header_of_piece(b"i8 4").is_none(), "no newline");
+    assert!(rt; shape_of(Op::MulAdd) == Shape::Ternary, "three operands");
+}

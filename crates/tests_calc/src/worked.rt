@@ -1,0 +1,167 @@
+//! Scripts with known answers.
+
+use super::programs::{answers, outcome};
+use fixed_calc::{Cause, RunFault, Status, run};
+use std::test::Fail;
+
+/// Scripts and their answers.
+const ANSWERS: [(&str, &str); 30] = [
+    ("i32 16\n", ""),
+    ("i8 4\n", ""),
+    ("u64 0 64 32\n", ""),
+    ("i32 16\nr0 saturating add r0 r0\n", "0\n"),
+    (
+        "i32 16 16\nr0 set 98304\nr1 set 131072\nr0 checked mul r0 r1\nr1 wrapping add r0 r1\n",
+        "98304\n131072\n196608\n327680\n",
+    ),
+    (
+        "i32 0\nr0 set 2147483647\nr0 checked add r0 r0\nr0 wrapping add r0 r0\n",
+        "2147483647\nnone\n-2\n",
+    ),
+    (
+        "i32 16 16 16\nr1 set 16384\nr2 set 229376\nr0 strict add_prod r0 r1 r2\n\
+         r1 set 32768\nr2 set -65537\nr0 strict add_prod r0 r1 r2\n",
+        "16384\n229376\n57344\n32768\n-65537\n24575\n",
+    ),
+    (
+        "i8 4 4\nr0 set 68\nr1 set -8\nr0 checked div_euclid r0 r1\n",
+        "68\n-8\n-128\n",
+    ),
+    (
+        "i8 4 4\nr0 set 127\nr1 set 4\nr0 overflowing div_euclid r0 r1\n",
+        "127\n4\n-16 true\n",
+    ),
+    (
+        "i8 8\nr0 set -64\nr0 saturating div_euclid_int r0 2\n",
+        "-64\n-128\n",
+    ),
+    (
+        "i8 8 8\nr0 set -128\nr1 set -1\nr0 overflowing div r0 r1\n",
+        "-128\n-1\n0 true\n",
+    ),
+    ("u8 8\nr0 set 3\nr0 overflowing recip r0\n", "3\n85 true\n"),
+    (
+        "i8 7\nr0 set -128\nr0 overflowing recip r0\n",
+        "-128\n-128 false\n",
+    ),
+    (
+        "i8 8 8\nr0 set 1\nr1 set -1\nr0 strict mul r0 r1\n",
+        "1\n-1\n-1\n",
+    ),
+    (
+        "u8 4 4\nr0 set 255\nr1 set 32\nr0 checked mul r0 r1\nr1 wrapping add r0 r1\n",
+        "255\n32\nnone\n31\n",
+    ),
+    (
+        "i8 4 4 4\nr0 set 127\nr1 set 24\nr2 set -127\nr0 strict mul_add r0 r1 r2\n",
+        "127\n24\n-127\n63\n",
+    ),
+    (
+        "u64 0 64 64\nr0 set 18446744073709551615\nr1 set 18446744073709551615\n\
+         r2 set 18446744073709551615\nr0 overflowing add_prod r0 r1 r2\n",
+        "18446744073709551615\n18446744073709551615\n18446744073709551615\n\
+         18446744073709551615 false\n",
+    ),
+    (
+        "i64 63 0 0\nr0 set -1\nr1 set 1\nr2 set 1\nr0 checked add_prod r0 r1 r2\n",
+        "-1\n1\n1\n9223372036854775807\n",
+    ),
+    ("u8 8\nr0 set 255\nr0 strict sqrt r0\n", "255\n255\n"),
+    ("u16 7\nr0 set 256\nr0 strict sqrt r0\n", "256\n181\n"),
+    (
+        "i8 8\nr0 set 64\nr0 overflowing sqrt r0\n",
+        "64\n-128 true\n",
+    ),
+    (
+        "i32 31\nr0 set -1073741824\nr0 overflowing rem_euclid_int r0 3\n",
+        "-1073741824\n1073741824 true\n",
+    ),
+    (
+        "i8 4 4\nr0 set 64\nr1 set -24\nr0 strict next_multiple_of r0 r1\n",
+        "64\n-24\n48\n",
+    ),
+    (
+        "u8 4\nr0 checked next_power_of_two r0\nr0 set 200\nr0 wrapping next_power_of_two r0\n",
+        "1\n200\n0\n",
+    ),
+    ("i8 4\nr0 set 5\nr0 checked div_int r0 0\n", "5\nnone\n"),
+    (
+        "i8 4\nr0 set -128\nr0 overflowing div_int r0 -1\nr0 saturating abs r0\n",
+        "-128\n-128 true\n127\n",
+    ),
+    (
+        "u8 0\nr0 set 1\nr0 overflowing neg r0\nr0 saturating neg r0\n",
+        "1\n255 true\n0\n",
+    ),
+    (
+        "u64 64\nr0 set 1\nr0 overflowing recip r0\nr0 set 18446744073709551615\n\
+         r0 overflowing recip r0\n",
+        "1\n0 true\n18446744073709551615\n1 true\n",
+    ),
+    (
+        "i8 8\nr0 set -1\nr0 overflowing div_euclid_int r0 2\nr0 strict rem_int r0 -128\n",
+        "-1\n0 true\n0\n",
+    ),
+    (
+        "i64 32\nr0 set -9223372036854775808\nr0 set 9223372036854775807\nr0 set 0\n",
+        "-9223372036854775808\n9223372036854775807\n0\n",
+    ),
+];
+
+/// Scripts whose answers were worked out by hand.
+#[test]
+fn known_answers(rt: HostRuntime) -> Result<(), Fail> {
+    let alloc = rt.alloc();
+    for (script, want) in ANSWERS {
+        answers(&rt, alloc, script, want)?;
+    }
+    Ok(())
+}
+
+/// `run` hands out the answers, or the first cause and nothing else.
+#[test]
+fn runs_in_memory(rt: HostRuntime) -> Result<(), Fail> {
+    let alloc = rt.alloc();
+    for (script, want) in [
+        (
+            "i32 16 16\nr0 set 98304\nr1 set 131072\nr0 checked mul r0 r1\nr1 wrapping add r0 r1\n",
+            "98304\n131072\n196608\n327680\n",
+        ),
+        (
+            "i8 8 8\nr0 set 1\nr1 set -1\nr0 strict mul r0 r1\n",
+            "1\n-1\n-1\n",
+        ),
+    ] {
+        match run(alloc, script.as_bytes()) {
+            Ok(answers) => assert_eq!(rt; answers.as_bytes(), want.as_bytes(), "{script}"),
+            Err(fault) => assert!(rt; false, "{fault:?} at {script}"),
+        }
+    }
+    let script = "i8 0\nr0 set 127\nr0 strict mul_int r0 2\nr0 wrapping add r0 r0\n";
+    match run(alloc, script.as_bytes()) {
+        Ok(_) => assert!(rt; false, "{script}"),
+        Err(fault) => assert_eq!(rt; fault, RunFault::Script(Cause::Overflow(3)), "{script}"),
+    }
+    Ok(())
+}
+
+/// A script of the greatest length is run, and one of a byte more is not.
+#[test]
+fn the_limit(rt: HostRuntime) -> Result<(), Fail> {
+    let alloc = rt.alloc();
+    for (length, status, line) in [
+        (
+            67_108_864,
+            Status::Script(Cause::Syntax(1)),
+            "line 1: syntax\n",
+        ),
+        (67_108_865, Status::TooLong, "too long\n"),
+    ] {
+        let script = vec![in alloc; b'a'; length]?;
+        let seen = outcome(alloc, &script)?;
+        assert_eq!(rt; seen.status, status, "{length} bytes");
+        assert_eq!(rt; seen.sink.taken(), b"".as_slice(), "{length} bytes");
+        assert_eq!(rt; seen.errors.taken(), line.as_bytes(), "{length} bytes");
+    }
+    Ok(())
+}

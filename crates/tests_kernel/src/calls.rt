@@ -1,0 +1,148 @@
+//! The kernels by name. Each call is made only where its conditions hold.
+
+use fixed_kernel::*;
+use fixed_word::{Outcome, Word};
+
+/// A kernel of one or two operands.
+#[derive(Clone, Copy, Debug)]
+pub enum Op {
+    Neg,
+    Add,
+    Sub,
+    Dist,
+    Abs,
+    Signum,
+    Mul,
+    MulInt,
+    Sqrt,
+    NextPowerOfTwo,
+    Recip,
+    Div,
+    DivInt,
+    DivEuclid,
+    DivEuclidInt,
+    Rem,
+    RemInt,
+    RemEuclid,
+    RemEuclidInt,
+    NextMultipleOf,
+}
+
+/// What the kernel answers; it reads as many operands as it has, and the fraction where it has one.
+pub fn answer<T: Word>(op: Op, a: T, b: T, frac: u32) -> Option<Outcome<T>> {
+    if frac > T::BITS {
+        return None;
+    }
+    match op {
+        Op::Neg => Some(neg_of(a)),
+        Op::Add => Some(add_of(a, b)),
+        Op::Sub => Some(sub_of(a, b)),
+        Op::Dist => Some(dist_of(a, b)),
+        Op::Mul => Some(mul_of(a, b, frac)),
+        Op::MulInt => Some(mul_int_of(a, b)),
+        Op::Abs | Op::Signum | Op::Sqrt | Op::NextPowerOfTwo => by_sign(op, a, frac),
+        Op::Recip => reciprocal(a, frac),
+        Op::Div | Op::DivInt | Op::DivEuclid | Op::DivEuclidInt => quotient(op, a, b, frac),
+        _ => remainder(op, a, b, frac),
+    }
+}
+
+fn by_sign<T: Word>(op: Op, a: T, frac: u32) -> Option<Outcome<T>> {
+    if frac > T::BITS {
+        return None;
+    }
+    match op {
+        Op::Abs if T::SIGNED => Some(abs_of(a)),
+        Op::Signum if T::SIGNED => Some(signum_of(a, frac)),
+        Op::Sqrt if !a.is_below_zero() => Some(sqrt_of(a, frac)),
+        Op::NextPowerOfTwo if !T::SIGNED => Some(next_power_of_two_of(a)),
+        _ => None,
+    }
+}
+
+fn reciprocal<T: Word>(a: T, frac: u32) -> Option<Outcome<T>> {
+    if frac <= T::BITS && a.magnitude() != 0 {
+        Some(recip_of(a, frac))
+    } else {
+        None
+    }
+}
+
+fn quotient<T: Word>(op: Op, a: T, b: T, frac: u32) -> Option<Outcome<T>> {
+    if frac > T::BITS || b.magnitude() == 0 {
+        return None;
+    }
+    match op {
+        Op::Div => Some(div_of(a, b, frac)),
+        Op::DivInt => Some(div_int_of(a, b)),
+        Op::DivEuclid => Some(div_euclid_of(a, b, frac)),
+        Op::DivEuclidInt => Some(div_euclid_int_of(a, b, frac)),
+        _ => None,
+    }
+}
+
+fn remainder<T: Word>(op: Op, a: T, b: T, frac: u32) -> Option<Outcome<T>> {
+    if frac > T::BITS || b.magnitude() == 0 {
+        return None;
+    }
+    match op {
+        Op::Rem => Some(rem_of(a, b)),
+        Op::RemInt => Some(rem_int_of(a, b, frac)),
+        Op::RemEuclid => Some(rem_euclid_of(a, b)),
+        Op::RemEuclidInt => Some(rem_euclid_int_of(a, b, frac)),
+        Op::NextMultipleOf => Some(next_multiple_of_of(a, b)),
+        _ => None,
+    }
+}
+
+/// `a mul + add`, where the factor has `frac` places.
+pub fn multiply_add<T: Word>(a: T, mul: T, add: T, frac: u32) -> Option<Outcome<T>> {
+    if frac <= T::BITS {
+        Some(mul_add_of(a, mul, add, frac))
+    } else {
+        None
+    }
+}
+
+/// `c + a b`, by the places of the three.
+pub fn add_product<T: Word>(c: T, a: T, b: T, places: (u32, u32, u32)) -> Option<Outcome<T>> {
+    let (c_frac, a_frac, b_frac) = places;
+    if c_frac <= T::BITS && a_frac <= T::BITS && b_frac <= T::BITS {
+        Some(add_prod_of(c, a, b, c_frac, a_frac, b_frac))
+    } else {
+        None
+    }
+}
+
+/// `lhs rhs`, with its verdict.
+pub fn product<T: Word>(lhs: T, rhs: T, frac: u32) -> Option<(T, bool)> {
+    if frac <= T::BITS {
+        Some(overflowing_mul(lhs, rhs, frac))
+    } else {
+        None
+    }
+}
+
+/// `lhs / rhs`, with its verdict.
+pub fn ratio<T: Word>(lhs: T, rhs: T, frac: u32) -> Option<(T, bool)> {
+    if frac <= T::BITS && rhs.magnitude() != 0 {
+        Some(overflowing_div(lhs, rhs, frac))
+    } else {
+        None
+    }
+}
+
+/// `lhs mul + add`, with its verdict, at a length from minus the width to twice the width.
+pub fn sum_of_product<T: Word>(lhs: T, mul: T, add: T, length: i32) -> Option<(T, bool)> {
+    let width = T::BITS;
+    let within = if length < 0 {
+        length.unsigned_abs() <= width
+    } else {
+        length.unsigned_abs() / 2 + length.unsigned_abs() % 2 <= width
+    };
+    if within {
+        Some(overflowing_mul_add(lhs, mul, add, length))
+    } else {
+        None
+    }
+}

@@ -1,0 +1,209 @@
+//! Logarithms at powers and their neighbours, and the counts of steps.
+
+ghost use Rattle.std.specs.Prelude.{◌≢◌, pos};
+
+use fixed_logs::{Base, frac_log10_part, frac_part, int_log10_part, int_part};
+use fixed_word::{Count, Digits, Steps};
+use std::process::Abort;
+use std::test::Fail;
+
+/// The four logarithms of a word, and the greatest count of the four.
+#[derive(Clone, Copy)]
+struct Found {
+    int: i32,
+    frac: i32,
+    int_ten: i32,
+    frac_ten: i32,
+    count: u64,
+}
+
+fn logs<D: Digits<Count>>(val: D, base: Base) -> Found
+    requires { D.value val ≢ pos 0 }
+{
+    let mut steps = Steps::new(Count::new());
+    let int = int_part(val, base, &mut steps);
+    let mut count = steps.ledger().count();
+    steps = Steps::new(Count::new());
+    let frac = frac_part(val, base, &mut steps);
+    count = count.max(steps.ledger().count());
+    steps = Steps::new(Count::new());
+    let int_ten = int_log10_part(val, &mut steps);
+    count = count.max(steps.ledger().count());
+    steps = Steps::new(Count::new());
+    let frac_ten = frac_log10_part(val, &mut steps);
+    count = count.max(steps.ledger().count());
+    Found {
+        int,
+        frac,
+        int_ten,
+        frac_ten,
+        count,
+    }
+}
+
+/// The logarithms of `val` in the word of that width; nothing where the word does not hold it.
+fn logs_in(width: u32, val: u64, base: Base) -> Option<Found> {
+    if val == 0 {
+        return None;
+    }
+    match width {
+        8 if val <= 255 => Some(logs(val as u8, base)),
+        16 if val <= 65_535 => Some(logs(val as u16, base)),
+        32 if val <= 4_294_967_295 => Some(logs(val as u32, base)),
+        64 => Some(logs(val, base)),
+        _ => None,
+    }
+}
+
+#[test]
+fn binary_logarithms(rt: HostRuntime) -> Result<(), Fail> {
+    let two = Base::new(2).ok_or("a base")?;
+    for (width, greatest, last) in [
+        (8_u32, 255_u64, 7),
+        (16, 65_535, 15),
+        (32, 4_294_967_295, 31),
+        (64, u64::MAX, 63),
+    ] {
+        let found = logs_in(width, greatest, two).ok_or("a word")?;
+        assert_eq!(rt; found.int, last, "greatest of {width}");
+        assert_eq!(rt; found.frac, -1, "greatest of {width}");
+        let least = logs_in(width, 1, two).ok_or("a word")?;
+        assert_eq!(rt; least.int, 0, "one of {width}");
+        assert_eq!(rt; least.frac, -1 - last, "one of {width}");
+    }
+    Ok(())
+}
+
+/// Both logarithms to the base ten of a whole number.
+fn check_int(rt: &impl Abort, width: u32, val: u64, want: i32) -> Result<(), Fail> {
+    let ten = Base::new(10).ok_or("a base")?;
+    let found = logs_in(width, val, ten).ok_or("a word")?;
+    assert_eq!(rt;
+        (found.int, found.int_ten),
+        (want, want),
+        "{val} of {width} bits"
+    );
+    Ok(())
+}
+
+/// Both logarithms to the base ten of a fraction.
+fn check_frac(rt: &impl Abort, width: u32, val: u64, want: i32) -> Result<(), Fail> {
+    let ten = Base::new(10).ok_or("a base")?;
+    let found = logs_in(width, val, ten).ok_or("a word")?;
+    assert_eq!(rt;
+        (found.frac, found.frac_ten),
+        (want, want),
+        "{val} over 2^{width}"
+    );
+    Ok(())
+}
+
+#[test]
+fn decimal_logarithms(rt: HostRuntime) -> Result<(), Fail> {
+    for (width, greatest, last) in [
+        (8_u32, 255_u64, 2_i32),
+        (16, 65_535, 4),
+        (32, 4_294_967_295, 9),
+        (64, u64::MAX, 19),
+    ] {
+        check_int(&rt, width, greatest, last)?;
+        let mut power: u64 = 1;
+        let mut part = greatest;
+        for i in 0..=last {
+            check_int(&rt, width, power, i)?;
+            check_int(&rt, width, power.saturating_add(1), i)?;
+            check_frac(&rt, width, part, -1 - i)?;
+            if i > 0 {
+                check_int(&rt, width, power.saturating_sub(1), i - 1)?;
+                check_frac(&rt, width, part.saturating_add(1), -i)?;
+            }
+            if part > 1 {
+                check_frac(&rt, width, part - 1, -1 - i)?;
+            }
+            power = power.saturating_mul(10);
+            part /= 10;
+        }
+    }
+    Ok(())
+}
+
+/// Whether `base^k <= val / one < base^(k+1)`, by powers in a wider type.
+fn is_logarithm(val: u64, one: u64, base: u32, k: i32) -> bool {
+    let step = u128::from(base);
+    let mut low = u128::from(one);
+    let mut high = u128::from(val);
+    for _ in 0..k.unsigned_abs().min(8) {
+        if k < 0 {
+            high = high.saturating_mul(step);
+        } else {
+            low = low.saturating_mul(step);
+        }
+    }
+    low <= high && high < low.saturating_mul(step)
+}
+
+#[test]
+fn every_byte(rt: HostRuntime) -> Result<(), Fail> {
+    for number in [
+        2_u32, 3, 4, 5, 6, 7, 8, 9, 10, 11, 12, 13, 14, 15, 16, 17, 255, 256, 1000,
+    ] {
+        let base = Base::new(number).ok_or("a base")?;
+        for val in 1..=255_u64 {
+            let found = logs_in(8, val, base).ok_or("a word")?;
+            assert!(rt;
+                is_logarithm(val, 1, number, found.int),
+                "{val} to {number}"
+            );
+            assert!(rt;
+                is_logarithm(val, 256, number, found.frac),
+                "{val} over 256 to {number}"
+            );
+        }
+    }
+    Ok(())
+}
+
+#[test]
+fn worked_values(rt: HostRuntime) -> Result<(), Fail> {
+    let thousand = Base::new(1000).ok_or("a base")?;
+    let two = Base::new(2).ok_or("a base")?;
+    assert!(rt; Base::new(1).is_none() && Base::new(0).is_none());
+    for (val, want) in [(26, -1), (25, -2), (3, -2), (2, -3), (1, -3)] {
+        let found = logs_in(8, val, thousand).ok_or("a word")?;
+        assert_eq!(rt;
+            (found.int, found.frac, found.frac_ten),
+            (0, -1, want),
+            "{val}"
+        );
+    }
+    let one = logs_in(64, 1, two).ok_or("a word")?;
+    assert_eq!(rt; (one.frac, one.frac_ten), (-64, -20));
+    Ok(())
+}
+
+#[test]
+fn counts(rt: HostRuntime) -> Result<(), Fail> {
+    let two = Base::new(2).ok_or("a base")?;
+    let ten = Base::new(10).ok_or("a base")?;
+    let mut power: u64 = 1;
+    let mut tens: u64 = 1;
+    let mut most = 0;
+    for i in 0..64 {
+        for val in [
+            power - power.min(1),
+            power,
+            power.saturating_add(1),
+            tens - tens.min(1),
+            tens,
+            tens.saturating_add(1),
+        ] {
+            if val > 0 {
+                most = most.max(logs(val, two).count).max(logs(val, ten).count);
+            }
+        }
+        power = power.saturating_mul(2);
+        tens = tens.saturating_mul(10);
+    }
+    assert!(rt; most <= 88, "count {most}");
+    Ok(())
+}

@@ -1,0 +1,117 @@
+//! Known roots, every byte at every fraction, and the count of steps.
+
+ghost use Rattle.std.specs.Prelude.{◌≤◌};
+
+use super::chained::Chained;
+use fixed_root::root;
+use fixed_word::{Count, Digits, RawWord, Silent, Steps, Valued};
+use std::process::Abort;
+
+fn root_u8(val: u8, frac: u32) -> u8
+    requires { frac ≤ 8 }
+{
+    let mut steps = Steps::new(Silent::new());
+    root(val, frac, &mut steps)
+}
+
+#[test]
+fn known_roots(rt: HostRuntime) {
+    for (val, frac, want) in [
+        (255, 8, 255),
+        (255, 7, 180),
+        (255, 1, 22),
+        (255, 0, 15),
+        (1, 8, 16),
+        (1, 7, 11),
+        (1, 0, 1),
+        (0, 8, 0),
+    ] {
+        if frac <= 8 {
+            assert_eq!(rt; root_u8(val, frac), want, "root of {val} with {frac}");
+        }
+    }
+    let mut steps = Steps::new(Count::new());
+    assert_eq!(rt; root(65535_u16, 16, &mut steps), 65535);
+    assert_eq!(rt; root(u64::MAX, 64, &mut steps), u64::MAX);
+    assert!(rt; steps.ledger().count() <= 288 + 1056);
+}
+
+/// Whether the root of the number is its root by squares.
+fn is_exact<D: Digits<Count> + RawWord>(val: D, frac: u32) -> bool {
+    if frac > D::BITS || frac > 64 {
+        return false;
+    }
+    let mut steps = Steps::new(Count::new());
+    let found = root(val, frac, &mut steps).magnitude() as u128;
+    let number = (val.magnitude() as u128) << frac;
+    let square = found * found;
+    square <= number && number - square <= 2 * found
+}
+
+/// The greatest words, of both signs, with every fraction.
+fn greatest<D: Digits<Count> + RawWord>(rt: &impl Abort) {
+    let half = D::residue(false, (D::MAX.magnitude() / 2) as u128);
+    for frac in 0..=D::BITS {
+        assert!(rt; is_exact(D::MAX, frac), "greatest with {frac}");
+        assert!(rt; is_exact(half, frac), "greatest signed with {frac}");
+    }
+}
+
+/// The root of 2 with every fraction, by the bits of the constant.
+fn two<D: Digits<Count> + RawWord>(rt: &impl Abort) {
+    for frac in 0..63_u32 {
+        if frac + 2 <= D::BITS && frac < 63 {
+            let val = D::residue(false, 2 << frac);
+            let mut steps = Steps::new(Count::new());
+            let found = root(val, frac, &mut steps).magnitude();
+            let want = 0xB504_F333_F9DE_6484_u64 >> (63 - frac);
+            assert_eq!(rt; found, want, "root of 2 with {frac}");
+        }
+    }
+}
+
+#[test]
+fn greatest_and_two(rt: HostRuntime) {
+    greatest::<u8>(&rt);
+    greatest::<u16>(&rt);
+    greatest::<u32>(&rt);
+    greatest::<u64>(&rt);
+    two::<u8>(&rt);
+    two::<u16>(&rt);
+    two::<u32>(&rt);
+    two::<u64>(&rt);
+}
+
+#[test]
+fn every_byte(rt: HostRuntime) {
+    let mut most = 0;
+    for frac in 0..=8_u32 {
+        for val in 0..=255_u8 {
+            let mut steps = Steps::new(Count::new());
+            let digits = root(val, frac, &mut steps) as u32;
+            let count = steps.ledger().count();
+            if most < count {
+                most = count;
+            }
+            let number = (val as u32) << frac;
+            assert!(rt; digits * digits <= number, "root of {val} with {frac}");
+            assert!(rt;
+                number < (digits + 1) * (digits + 1),
+                "root of {val} with {frac}"
+            );
+        }
+    }
+    assert!(rt; most <= 160, "count {most}");
+}
+
+#[test]
+fn chained(rt: HostRuntime) {
+    let mut steps = Steps::new(Silent::new());
+    let val = Chained {
+        word: 255,
+        chain: 0,
+    };
+    let made = root(val, 8, &mut steps);
+    assert_eq!(rt; made.word, 255);
+    assert!(rt; 4 <= made.chain);
+}

@@ -1,0 +1,12 @@
+//! Tests of `fixed_num` and `fixed_ops`: the calls and operators of numbers beside known answers and plain
+//! computations, and each trait through its bound.
+#![tactic(auto)]
+
+#[cfg(test)]
+mod logarithms;
+#[cfg(test)]
+mod numbers;
+#[cfg(test)]
+mod operators;
+#[cfg(test)]
+mod plain_names;

@@ -1,0 +1,197 @@
+//! The operators, at concrete numbers and through their bounds.
+
+ghost use Rattle.std.specs.Prelude.{◌≡◌};
+
+use fixed_num::*;
+use std::ops::{
+    Add, AddAssign, BitAnd, BitAndAssign, BitOr, BitOrAssign, BitXor, BitXorAssign, Div, DivAssign,
+    Mul, MulAssign, Neg, Not, Rem, RemAssign, Shl, ShlAssign, Shr, ShrAssign, Sub, SubAssign,
+};
+
+fn i8_of<const F: u32>(bits: i8) -> Fixed<i8, F>
+    ensures { result.bits ≡ bits }
+{
+    Fixed { bits }
+}
+
+fn u8_of<const F: u32>(bits: u8) -> Fixed<u8, F>
+    ensures { result.bits ≡ bits }
+{
+    Fixed { bits }
+}
+
+/// The answers of the operators between two numbers.
+fn between<N>(a: N, b: N) -> [N; 5]
+where
+    N: Copy
+        + Add<N, Output = N>
+        + Sub<N, Output = N>
+        + Mul<N, Output = N>
+        + Div<N, Output = N>
+        + Rem<N, Output = N>,
+    requires sum { N.can_add a b }
+    requires difference { N.can_sub a b }
+    requires product { N.can_mul a b }
+    requires quotient { N.can_div a b }
+    requires remainder { N.can_rem a b }
+{
+    [a + b, a - b, a * b, a / b, a % b]
+}
+
+/// The same by the assigning operators.
+fn assigned<N>(a: N, b: N) -> [N; 5]
+where
+    N: Copy + AddAssign<N> + SubAssign<N> + MulAssign<N> + DivAssign<N> + RemAssign<N>,
+    requires sum { N.can_add_assign a b }
+    requires difference { N.can_sub_assign a b }
+    requires product { N.can_mul_assign a b }
+    requires quotient { N.can_div_assign a b }
+    requires remainder { N.can_rem_assign a b }
+{
+    let mut answers = [a; 5];
+    answers[0] += b;
+    answers[1] -= b;
+    answers[2] *= b;
+    answers[3] /= b;
+    answers[4] %= b;
+    answers
+}
+
+/// The answers of the operators with an integer on the right, and their assigning forms.
+fn by_integer<N, K>(a: N, k: K) -> [N; 6]
+where
+    K: Copy,
+    N: Copy
+        + Mul<K, Output = N>
+        + Div<K, Output = N>
+        + Rem<K, Output = N>
+        + MulAssign<K>
+        + DivAssign<K>
+        + RemAssign<K>,
+    requires product { N.can_mul a k }
+    requires quotient { N.can_div a k }
+    requires remainder { N.can_rem a k }
+    requires product_assigned { N.can_mul_assign a k }
+    requires quotient_assigned { N.can_div_assign a k }
+    requires remainder_assigned { N.can_rem_assign a k }
+{
+    let mut answers = [a * k, a / k, a % k, a, a, a];
+    answers[3] *= k;
+    answers[4] /= k;
+    answers[5] %= k;
+    answers
+}
+
+/// The answers of the operators on bits, and their assigning forms.
+fn on_bits<N>(a: N, b: N) -> [N; 7]
+where
+    N: Copy
+        + Not<Output = N>
+        + BitAnd<N, Output = N>
+        + BitOr<N, Output = N>
+        + BitXor<N, Output = N>
+        + BitAndAssign<N>
+        + BitOrAssign<N>
+        + BitXorAssign<N>,
+    requires not { N.can_not a }
+    requires and { N.can_bitand a b }
+    requires or { N.can_bitor a b }
+    requires xor { N.can_bitxor a b }
+    requires and_assigned { N.can_bitand_assign a b }
+    requires or_assigned { N.can_bitor_assign a b }
+    requires xor_assigned { N.can_bitxor_assign a b }
+{
+    let mut answers = [!a, a & b, a | b, a ^ b, a, a, a];
+    answers[4] &= b;
+    answers[5] |= b;
+    answers[6] ^= b;
+    answers
+}
+
+/// The answers of the shifts, and their assigning forms.
+fn shifted<N>(a: N, by: u32) -> [N; 4]
+where
+    N: Copy + Shl<u32, Output = N> + Shr<u32, Output = N> + ShlAssign<u32> + ShrAssign<u32>,
+    requires left { N.can_shl a by }
+    requires right { N.can_shr a by }
+    requires left_assigned { N.can_shl_assign a by }
+    requires right_assigned { N.can_shr_assign a by }
+{
+    let mut answers = [a << by, a >> by, a, a];
+    answers[2] <<= by;
+    answers[3] >>= by;
+    answers
+}
+
+/// The negated number.
+fn negated<N: Neg<Output = N>>(a: N) -> N
+    requires { N.can_neg a }
+{
+    -a
+}
+
+/// The product of an integer and a number.
+fn multiple<K: Mul<N, Output = N>, N>(k: K, a: N) -> N
+    requires { K.can_mul k a }
+{
+    k * a
+}
+
+#[test]
+fn through_bounds(rt: HostRuntime) {
+    let (a, b) = (i8_of::<4>(48), i8_of::<4>(-20));
+    let answers = [28, 68, -60, -38, 8].map(i8_of::<4>);
+    assert_eq!(rt; between(a, b), answers);
+    assert_eq!(rt; assigned(a, b), answers);
+    assert_eq!(rt;
+        by_integer(a, -2),
+        [-96, -24, 16, -96, -24, 16].map(i8_of::<4>)
+    );
+    assert_eq!(rt;
+        on_bits(a, b),
+        [-49, 32, -4, -36, 32, -4, -36].map(i8_of::<4>)
+    );
+    assert_eq!(rt; shifted(b, 3), [96, -3, 96, -3].map(i8_of::<4>));
+    assert_eq!(rt; negated(b), i8_of(20));
+    assert_eq!(rt; multiple(-2, a), i8_of(-96));
+}
+
+#[test]
+fn through_bounds_without_a_sign(rt: HostRuntime) {
+    let (a, b) = (u8_of::<4>(48), u8_of::<4>(20));
+    let answers = [68, 28, 60, 38, 8].map(u8_of::<4>);
+    assert_eq!(rt; between(a, b), answers);
+    assert_eq!(rt; assigned(a, b), answers);
+    assert_eq!(rt; by_integer(a, 2), [96, 24, 16, 96, 24, 16].map(u8_of::<4>));
+    assert_eq!(rt;
+        on_bits(a, b),
+        [207, 16, 52, 36, 16, 52, 36].map(u8_of::<4>)
+    );
+    assert_eq!(rt; shifted(b, 4), [64, 1, 64, 1].map(u8_of::<4>));
+    assert_eq!(rt; multiple(5, a), u8_of(240));
+}
+
+#[test]
+fn known_answers(rt: HostRuntime) {
+    let mut product = i8_of::<4>(48);
+    product *= i8_of::<6>(32);
+    assert_eq!(rt; product, i8_of(24));
+    let least: FixedI32<16> = Fixed { bits: i32::MIN };
+    assert_eq!(rt; (least % -1).bits, 0);
+    assert_eq!(rt; i8_of::<4>(16) / 5 * 17, i8_of(51));
+    let unit: FixedI16<12> = Fixed { bits: 4096 };
+    assert_eq!(rt; (unit / 5 * 17).bits, 13923);
+}
+
+/// An integer of each word on the left.
+#[test]
+fn integers_on_the_left(rt: HostRuntime) {
+    assert_eq!(rt; (-3_i8 * FixedI8::<4> { bits: 5 }).bits, -15);
+    assert_eq!(rt; (-3_i16 * FixedI16::<4> { bits: 5 }).bits, -15);
+    assert_eq!(rt; (-3_i32 * FixedI32::<4> { bits: 5 }).bits, -15);
+    assert_eq!(rt; (-3_i64 * FixedI64::<4> { bits: 5 }).bits, -15);
+    assert_eq!(rt; (3_u8 * FixedU8::<4> { bits: 5 }).bits, 15);
+    assert_eq!(rt; (3_u16 * FixedU16::<4> { bits: 5 }).bits, 15);
+    assert_eq!(rt; (3_u32 * FixedU32::<4> { bits: 5 }).bits, 15);
+    assert_eq!(rt; (3_u64 * FixedU64::<4> { bits: 5 }).bits, 15);
+}

@@ -1,0 +1,191 @@
+//! The typed calls of each policy by the operation, through their bounds.
+
+ghost use Rattle.std.specs.Prelude.{◌≡◌, ◌≤◌, ◌≤ℤ◌, ◌↔◌, IsTrue, pos};
+
+use fixed_num::Number;
+use fixed_policy::{Checked, Overflowing, Wrapping};
+use fixed_strict::{Saturating, Strict, Unwrapped};
+use fixed_word::RawWord;
+
+/// An operation on one or two numbers; an integer is the bits of the second.
+#[derive(Clone, Copy, Debug)]
+pub enum Op {
+    Neg,
+    Add,
+    Sub,
+    Dist,
+    Mul,
+    Sqrt,
+    Recip,
+    Div,
+    DivEuclid,
+    NextMultipleOf,
+    Rem,
+    RemEuclid,
+    MulInt,
+    DivInt,
+    DivEuclidInt,
+    RemEuclidInt,
+    RemInt,
+}
+
+/// What the checked call answers.
+pub fn checked<N: Checked>(op: Op, a: N, b: N) -> Option<N>
+    requires { N.FRACTION ≤ N.BITS }
+{
+    match op {
+        Op::Neg => a.checked_neg(),
+        Op::Add => a.checked_add(b),
+        Op::Sub => a.checked_sub(b),
+        Op::Dist => a.checked_dist(b),
+        Op::Mul => a.checked_mul(b),
+        Op::Sqrt => a.checked_sqrt(),
+        Op::Recip => a.checked_recip(),
+        _ => checked_quotient(op, a, b),
+    }
+}
+
+fn checked_quotient<N: Checked>(op: Op, a: N, b: N) -> Option<N>
+    requires { N.FRACTION ≤ N.BITS }
+{
+    match op {
+        Op::Div => a.checked_div(b),
+        Op::DivEuclid => a.checked_div_euclid(b),
+        Op::NextMultipleOf => a.checked_next_multiple_of(b),
+        Op::Rem => a.checked_rem(b),
+        Op::RemEuclid => a.checked_rem_euclid(b),
+        _ => checked_by_integer(op, a, b.to_bits()),
+    }
+}
+
+fn checked_by_integer<N: Checked>(op: Op, a: N, k: N::Bits) -> Option<N>
+    requires { N.FRACTION ≤ N.BITS }
+{
+    match op {
+        Op::MulInt => a.checked_mul_int(k),
+        Op::DivInt => a.checked_div_int(k),
+        Op::DivEuclidInt => a.checked_div_euclid_int(k),
+        Op::RemEuclidInt => a.checked_rem_euclid_int(k),
+        Op::RemInt => a.checked_rem_int(k),
+        _ => None,
+    }
+}
+
+/// Whether the number is 0.
+fn is_zero<N: Number>(a: N) -> bool
+    ensures { IsTrue result ↔ (N.number a ≡ pos 0) }
+{
+    a.to_bits() == <N::Bits as RawWord>::ZERO
+}
+
+/// Whether the number is at least 0.
+fn is_from_zero<N: Number>(a: N) -> bool
+    ensures { IsTrue result ↔ (pos 0 ≤ℤ N.number a) }
+{
+    !a.to_bits().is_below_zero()
+}
+
+/// The overflowing, the wrapping and the saturating answer, where the operation is defined and has them.
+pub fn kept<N: Overflowing + Wrapping + Saturating>(op: Op, a: N, b: N) -> Option<((N, bool), N, N)>
+    requires { N.FRACTION ≤ N.BITS }
+{
+    match op {
+        Op::Neg => Some((a.overflowing_neg(), a.wrapping_neg(), a.saturating_neg())),
+        Op::Add => Some((a.overflowing_add(b), a.wrapping_add(b), a.saturating_add(b))),
+        Op::Sub => Some((a.overflowing_sub(b), a.wrapping_sub(b), a.saturating_sub(b))),
+        Op::Dist => Some((
+            a.overflowing_dist(b),
+            a.wrapping_dist(b),
+            a.saturating_dist(b),
+        )),
+        Op::Mul => Some((a.overflowing_mul(b), a.wrapping_mul(b), a.saturating_mul(b))),
+        Op::Sqrt => kept_root(a),
+        Op::Recip => kept_reciprocal(a),
+        _ => kept_quotient(op, a, b),
+    }
+}
+
+fn kept_root<N: Overflowing + Wrapping + Saturating>(a: N) -> Option<((N, bool), N, N)>
+    requires { N.FRACTION ≤ N.BITS }
+{
+    if is_from_zero(a) {
+        Some((a.overflowing_sqrt(), a.wrapping_sqrt(), a.saturating_sqrt()))
+    } else {
+        None
+    }
+}
+
+fn kept_reciprocal<N: Overflowing + Wrapping + Saturating>(a: N) -> Option<((N, bool), N, N)>
+    requires { N.FRACTION ≤ N.BITS }
+{
+    if is_zero(a) {
+        None
+    } else {
+        Some((
+            a.overflowing_recip(),
+            a.wrapping_recip(),
+            a.saturating_recip(),
+        ))
+    }
+}
+
+fn kept_quotient<N: Overflowing + Wrapping + Saturating>(
+    op: Op,
+    a: N,
+    b: N,
+) -> Option<((N, bool), N, N)>
+    requires { N.FRACTION ≤ N.BITS }
+{
+    if is_zero(b) {
+        return None;
+    }
+    match op {
+        Op::Div => Some((a.overflowing_div(b), a.wrapping_div(b), a.saturating_div(b))),
+        Op::DivEuclid => Some((
+            a.overflowing_div_euclid(b),
+            a.wrapping_div_euclid(b),
+            a.saturating_div_euclid(b),
+        )),
+        Op::NextMultipleOf => Some((
+            a.overflowing_next_multiple_of(b),
+            a.wrapping_next_multiple_of(b),
+            a.saturating_next_multiple_of(b),
+        )),
+        _ => kept_by_integer(op, a, b.to_bits()),
+    }
+}
+
+fn kept_by_integer<N: Overflowing + Wrapping + Saturating>(
+    op: Op,
+    a: N,
+    k: N::Bits,
+) -> Option<((N, bool), N, N)>
+    requires { N.FRACTION ≤ N.BITS }
+{
+    if k == <N::Bits as RawWord>::ZERO {
+        return None;
+    }
+    match op {
+        Op::MulInt => Some((
+            a.overflowing_mul_int(k),
+            a.wrapping_mul_int(k),
+            a.saturating_mul_int(k),
+        )),
+        Op::DivInt => Some((
+            a.overflowing_div_int(k),
+            a.wrapping_div_int(k),
+            a.saturating_div_int(k),
+        )),
+        Op::DivEuclidInt => Some((
+            a.overflowing_div_euclid_int(k),
+            a.wrapping_div_euclid_int(k),
+            a.saturating_div_euclid_int(k),
+        )),
+        Op::RemEuclidInt => Some((
+            a.overflowing_rem_euclid_int(k),
+            a.wrapping_rem_euclid_int(k),
+            a.saturating_rem_euclid_int(k),
+        )),
+        _ => None,
+    }
+}

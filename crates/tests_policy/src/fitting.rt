@@ -1,0 +1,105 @@
+//! The strict and the unwrapped calls by the operation, through their bounds, where the checked call has a number:
+//! so it fits.
+#![tactic(auto, using(fixed_agree::proofs::Guarded::guarded))]
+
+ghost use Rattle.std.specs.Prelude.{◌≤◌};
+
+use super::calls::Op;
+use fixed_policy::Checked;
+use fixed_strict::{Strict, Unwrapped};
+
+/// The strict and the unwrapped answer, where the number fits.
+pub fn fitting<N: Checked + Strict + Unwrapped>(op: Op, a: N, b: N) -> Option<(N, N)>
+    requires { N.FRACTION ≤ N.BITS }
+{
+    match op {
+        Op::Neg => {
+            a.checked_neg()?;
+            Some((a.strict_neg(), a.unwrapped_neg()))
+        }
+        Op::Add => {
+            a.checked_add(b)?;
+            Some((a.strict_add(b), a.unwrapped_add(b)))
+        }
+        Op::Sub => {
+            a.checked_sub(b)?;
+            Some((a.strict_sub(b), a.unwrapped_sub(b)))
+        }
+        Op::Dist => {
+            a.checked_dist(b)?;
+            Some((a.strict_dist(b), a.unwrapped_dist(b)))
+        }
+        Op::Mul => {
+            a.checked_mul(b)?;
+            Some((a.strict_mul(b), a.unwrapped_mul(b)))
+        }
+        Op::Sqrt => {
+            a.checked_sqrt()?;
+            Some((a.strict_sqrt(), a.unwrapped_sqrt()))
+        }
+        Op::Recip => {
+            a.checked_recip()?;
+            Some((a.strict_recip(), a.unwrapped_recip()))
+        }
+        _ => fitting_quotient(op, a, b),
+    }
+}
+
+fn fitting_quotient<N: Checked + Strict + Unwrapped>(op: Op, a: N, b: N) -> Option<(N, N)>
+    requires { N.FRACTION ≤ N.BITS }
+{
+    match op {
+        Op::Div => {
+            a.checked_div(b)?;
+            Some((a.strict_div(b), a.unwrapped_div(b)))
+        }
+        Op::DivEuclid => {
+            a.checked_div_euclid(b)?;
+            Some((a.strict_div_euclid(b), a.unwrapped_div_euclid(b)))
+        }
+        Op::NextMultipleOf => {
+            a.checked_next_multiple_of(b)?;
+            Some((
+                a.strict_next_multiple_of(b),
+                a.unwrapped_next_multiple_of(b),
+            ))
+        }
+        Op::Rem => {
+            a.checked_rem(b)?;
+            Some((a.strict_rem(b), a.unwrapped_rem(b)))
+        }
+        Op::RemEuclid => {
+            a.checked_rem_euclid(b)?;
+            Some((a.strict_rem_euclid(b), a.unwrapped_rem_euclid(b)))
+        }
+        _ => fitting_by_integer(op, a, b.to_bits()),
+    }
+}
+
+fn fitting_by_integer<N: Checked + Strict + Unwrapped>(op: Op, a: N, k: N::Bits) -> Option<(N, N)>
+    requires { N.FRACTION ≤ N.BITS }
+{
+    match op {
+        Op::MulInt => {
+            a.checked_mul_int(k)?;
+            Some((a.strict_mul_int(k), a.unwrapped_mul_int(k)))
+        }
+        Op::DivInt => {
+            a.checked_div_int(k)?;
+            Some((a.strict_div_int(k), a.unwrapped_div_int(k)))
+        }
+        Op::DivEuclidInt => {
+            a.checked_div_euclid_int(k)?;
+            Some((a.strict_div_euclid_int(k), a.unwrapped_div_euclid_int(k)))
+        }
+        Op::RemEuclidInt => {
+            a.checked_rem_euclid_int(k)?;
+            Some((a.strict_rem_euclid_int(k), a.unwrapped_rem_euclid_int(k)))
+        }
+        Op::RemInt => {
+            a.checked_rem_int(k)?;
+            Some((a.strict_rem_int(k), a.unwrapped_rem_int(k)))
+        }
+        _ => None,
+    }
+}

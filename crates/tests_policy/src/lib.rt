@@ -1,0 +1,18 @@
+//! Tests of `fixed_policy`, `fixed_strict` and `fixed_guide`: the typed calls on vectors of the Rust crate, each
+//! trait through its bound, and the code that the README and the guide show.
+#![tactic(auto)]
+
+#[cfg(test)]
+mod calls;
+#[cfg(test)]
+mod first_lines;
+#[cfg(test)]
+mod fitting;
+#[cfg(test)]
+mod guide;
+#[cfg(test)]
+mod products;
+#[cfg(test)]
+mod rows;
+#[cfg(test)]
+mod signs;
