@@ -57,11 +57,8 @@ fn library(top: PathBuf) -> Result<String, String> {
     Ok(text)
 }
 
-/// The tests of the library that stand in crates of their own. Those in its crates come with them.
+/// The tests of the library, which stand in crates of their own.
 fn tests(top: PathBuf) -> Result<String, String> {
-    if TESTS.iter().all(|folder| !top.join(folder).exists()) {
-        return Ok(String::new());
-    }
     let mut names = names(&LIBRARY, "crate");
     names.extend(self::names(&[EXAMPLE], "crate"));
     let mut writing = Writing::new(top, names);
