@@ -1,18 +1,15 @@
 //! A caller that knows what the machine answers by the agreement alone.
 
-ghost use Rattle.std.specs.Prelude.{◌≤◌};
+ghost use Rattle.std.specs.Prelude.{true};
 ghost use Rattle.fixed_agree.specs.Agreement.{MachineAnswers, two_operands};
 
 use fixed_agree::checked;
 use fixed_calc::{Answer, Op, Policy};
-use fixed_num::Fixed;
-use fixed_word::Word;
+use fixed_num::FixedI32;
 
 /// What the machine answers to a checked sum of registers that hold the numbers, without a machine.
-pub fn checked_sum<T: Word, const F: u32>(a: Fixed<T, F>, b: Fixed<T, F>) -> Answer
-    requires { F ≤ T.BITS }
-    ensures { MachineAnswers T.SIGNED T.BITS Policy.Checked Op.Add
-        (two_operands (T.value a.bits) (T.value b.bits) F) result }
+pub fn checked_sum(a: FixedI32<16>, b: FixedI32<16>) -> Answer
+    ensures { MachineAnswers true 32 Policy.Checked Op.Add (two_operands a.bits b.bits 16) result }
 {
     checked::binary(Op::Add, a, b)
 }
