@@ -5,11 +5,11 @@ ghost use Rattle.std.specs.Prelude.{◌≤◌};
 
 use super::calls::{Op, checked, kept};
 use super::fitting::fitting;
-use fixed_num::{Fixed, FixedI8, FixedI32, FixedU8};
+use fixed_num::{Fixed, FixedI8, FixedI32, FixedU8, Number};
 use fixed_policy::{Checked, Overflowing, Wrapping};
 use fixed_strict::{Saturating, Strict, Unwrapped};
 use fixed_word::Side::{Above, Below, Fits};
-use fixed_word::{RawWord, Side, Word};
+use fixed_word::{RawWord, Side};
 use std::process::Abort;
 
 /// What the policies answer: checked; overflowing, wrapping and saturating; strict and unwrapped.
@@ -24,13 +24,13 @@ where
     (checked(op, a, b), kept(op, a, b), fitting(op, a, b))
 }
 
-/// What they answer where this word is left of a number on this side. Plain remainders are offered under checked,
+/// What they answer where this number is left of one on this side. Plain remainders are offered under checked,
 /// strict and unwrapped alone.
-fn forms<T: RawWord, const F: u32>(op: Op, left: Fixed<T, F>, side: Side) -> Forms<Fixed<T, F>> {
+fn forms<N: Number>(op: Op, left: N, side: Side) -> Forms<N> {
     let (checked, fitting, nearest) = match side {
         Fits => (Some(left), Some((left, left)), left),
-        Above => (None, None, Fixed { bits: T::MAX }),
-        Below => (None, None, Fixed { bits: T::MIN }),
+        Above => (None, None, N::from_bits(<N::Bits as RawWord>::MAX)),
+        Below => (None, None, N::from_bits(<N::Bits as RawWord>::MIN)),
     };
     let kept = match op {
         Op::Rem | Op::RemEuclid | Op::RemInt => None,
@@ -39,27 +39,24 @@ fn forms<T: RawWord, const F: u32>(op: Op, left: Fixed<T, F>, side: Side) -> For
     (checked, kept, fitting)
 }
 
-/// Asserts that all policies answer by the row of `a` and `b`: this word is left of a number on this side.
-fn stands<T: Word, const F: u32>(
-    rt: &impl Abort,
-    op: Op,
-    a: Fixed<T, F>,
-    b: Fixed<T, F>,
-    left: Fixed<T, F>,
-    side: Side,
-)
-    requires { F ≤ T.BITS }
+/// Asserts that all policies answer by the row of `a` and `b`: this number is left of one on this side.
+fn stands<N>(rt: &impl Abort, op: Op, a: N, b: N, left: N, side: Side)
+where
+    N: Checked + Overflowing + Wrapping + Saturating + Strict + Unwrapped + PartialEq,
+    requires { N.FRACTION ≤ N.BITS }
 {
-    let (x, y) = (a.bits.magnitude(), b.bits.magnitude());
+    let (x, y) = (a.to_bits().magnitude(), b.to_bits().magnitude());
     assert!(rt;
         answers(op, a, b) == forms(op, left, side),
-        "{op:?} of {x} and {y}, without their signs, at {F}"
+        "{op:?} of {x} and {y}, without their signs"
     );
 }
 
 /// Asserts that the operation is undefined: there is no answer.
-fn is_undefined<T: Word, const F: u32>(rt: &impl Abort, op: Op, a: Fixed<T, F>, b: Fixed<T, F>)
-    requires { F ≤ T.BITS }
+fn is_undefined<N>(rt: &impl Abort, op: Op, a: N, b: N)
+where
+    N: Checked + Overflowing + Wrapping + Saturating + Strict + Unwrapped + PartialEq,
+    requires { N.FRACTION ≤ N.BITS }
 {
     assert!(rt; answers(op, a, b) == (None, None, None), "{op:?}");
 }
