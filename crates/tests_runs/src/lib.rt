@@ -1,0 +1,5 @@
+//! Tests of the runs over text: scripts with known answers.
+#![tactic(auto)]
+
+#[cfg(test)]
+mod poly;
