@@ -3,3 +3,4 @@
 
 #[cfg(test)]
 mod poly;
+pub mod whole;
