@@ -1,0 +1,7 @@
+-- Headers, as the code holds them.
+use Rattle.fixed_text.specs.Numerals.{cap}
+use Rattle.fixed_poly.specs.declared.header.Header.{Header}
+use Rattle.fixed_poly.specs.Text.{PolyHeader}
+
+abbrev pub capped_header : PolyHeader → Header
+capped_header h = record { word = h.word; frac = cap h.frac }

@@ -1,0 +1,187 @@
+//! The run of a script.
+
+ghost use Rattle.std.specs.Prelude.{◌≡◌, ◌++◌, [], Err, OnOk};
+ghost use Rattle.std.specs.Option.{option_map};
+ghost use Rattle.fixed_word.specs.Pieces.{pieces};
+ghost use Rattle.fixed_text.specs.Numbers.{only_number, wholes_in};
+ghost use Rattle.fixed_text.specs.Runs.{Ending, lines_from, then_by};
+ghost use Rattle.fixed_text.specs.Tells.{EndsBy, StepTells};
+ghost use Rattle.fixed_text.specs.Words.{is_signed, width};
+ghost use Rattle.fixed_poly.specs.Horner.{reply_map};
+ghost use Rattle.fixed_poly.specs.Parser.{coefs_of};
+ghost use Rattle.fixed_poly.specs.Runs.{PolyTells, line_read, poly_line, poly_output, reply_text, started};
+ghost use Rattle.fixed_poly.specs.Text.{At};
+
+use crate::evaluation::horner_of;
+use crate::fault::PolyFault;
+use crate::header::read_header;
+use crate::reply::PolyReply;
+use fixed_text::{
+    Output, Refusal, Run, RunFault, Tokens, WordName, fitting, open, read_only_number, read_words,
+    run_lines,
+};
+use fixed_word::{RawWord, Valued, Word};
+use std::alloc::{AllocError, Global};
+use std::marker::Model;
+
+/// The coefficients of the polynomial that stands, of which there are none before the first `coefs` line.
+#[derive(Drop)]
+struct PolyRun<T: Word> {
+    alloc: Global,
+    frac: u32,
+    coefs: Vec<T>,
+}
+
+impl<T: Word> Model for PolyRun<T> {
+    ghost use Rattle.std.specs.Prelude.{◌≤◌, map};
+    ghost use Rattle.fixed_poly.specs.Runs.{PolyState};
+
+    ghost Value = { PolyState };
+
+    ghost view = { λ p. record {
+      signed = T.SIGNED;
+      bits = T.BITS;
+      frac = p.frac;
+      coefs = map T.value p.coefs.items;
+    } };
+
+    ghost invariant = { λ p. p.frac ≤ T.BITS };
+}
+
+/// Prints a reply: the decimal of the bits, or the step, and a newline.
+fn append_reply<T: Word>(output: &mut Output, reply: PolyReply<T>) -> Result<(), AllocError>
+    ensures { OnOk result (output.new ≡ output.old ++ reply_text (reply_map T.value reply)) }
+{
+    match reply {
+        PolyReply::Value(value) => {
+            output.append_word(value)?;
+            output.append(b"\n")
+        }
+        PolyReply::Overflow(step) => {
+            output.append(b"overflow ")?;
+            output.append_natural(step as u64)?;
+            output.append(b"\n")
+        }
+    }
+}
+
+impl<T: Word> PolyRun<T> {
+    /// Takes the coefficients that the tokens are in the place of those before.
+    fn take_coefs(&mut self, tokens: Tokens<'_>) -> Result<(), Refusal>
+        ensures { StepTells (line_read self.old (coefs_of (wholes_in tokens.entry))) result self.new
+            [] [] }
+    {
+        if tokens.is_empty() {
+            return Err(Refusal::Unformed);
+        }
+        match read_words(self.alloc, tokens) {
+            Ok(coefs) => {
+                self.coefs = coefs;
+                Ok(())
+            }
+            Err(refusal) => Err(refusal),
+        }
+    }
+
+    /// Answers for the number that the tokens are.
+    fn answer(&self, tokens: Tokens<'_>, output: &mut Output) -> Result<(), Refusal>
+        ensures { StepTells (line_read self.now (option_map At (only_number tokens.entry))) result
+            self.now output.old output.new }
+    {
+        let Some(number) = read_only_number(tokens) else {
+            return Err(Refusal::Unformed);
+        };
+        if self.coefs.is_empty() {
+            return Err(Refusal::Unformed);
+        }
+        match fitting(&number) {
+            Ok(x) => match append_reply(output, horner_of(&self.coefs, x, self.frac)) {
+                Ok(()) => Ok(()),
+                Err(_) => Err(Refusal::Wanting),
+            },
+            Err(refusal) => Err(refusal),
+        }
+    }
+}
+
+impl<T: Word> Run for PolyRun<T> {
+    ghost line = { poly_line };
+
+    fn step(&mut self, bytes: &[u8], output: &mut Output) -> Result<(), Refusal> {
+        let mut tokens = Tokens::new(bytes);
+        let Some(name) = tokens.take() else {
+            return Err(Refusal::Unformed);
+        };
+        if name == b"coefs".as_slice() {
+            self.take_coefs(tokens)
+        } else if name == b"at".as_slice() {
+            self.answer(tokens, output)
+        } else {
+            Err(Refusal::Unformed)
+        }
+    }
+}
+
+/// The fault of a script of polynomials.
+fn fault_of(fault: RunFault) -> PolyFault
+    ensures { (ending : Ending) → EndsBy ending fault → PolyTells ending (Err result) }
+{
+    match fault {
+        RunFault::Syntax(number) => PolyFault::Syntax(number),
+        RunFault::OutOfRange(number) => PolyFault::OutOfRange(number),
+        RunFault::Memory => PolyFault::Memory,
+    }
+}
+
+/// The lines after the header, at a word.
+fn run_at<T: Word>(alloc: Global, frac: u128, lines: &[u8]) -> Result<Output, PolyFault>
+    ensures { PolyTells (then_by 1 (started T.SIGNED T.BITS frac)
+        (λ state. lines_from poly_line state 2 (pieces lines.now))) result }
+{
+    if frac > u128::from(T::BITS) {
+        return Err(PolyFault::OutOfRange(1));
+    }
+    let run = PolyRun::<T> {
+        alloc,
+        frac: frac as u32,
+        coefs: Vec::new(alloc),
+    };
+    match run_lines(alloc, run, lines) {
+        Ok(output) => Ok(output),
+        Err(fault) => Err(fault_of(fault)),
+    }
+}
+
+/// The lines after the header, at the word of that name.
+fn run_word(alloc: Global, word: WordName, frac: u128, lines: &[u8]) -> Result<Output, PolyFault>
+    ensures { PolyTells (then_by 1 (started (is_signed word) (width word) frac)
+        (λ state. lines_from poly_line state 2 (pieces lines.now))) result }
+{
+    match word {
+        WordName::I8 => run_at::<i8>(alloc, frac, lines),
+        WordName::I16 => run_at::<i16>(alloc, frac, lines),
+        WordName::I32 => run_at::<i32>(alloc, frac, lines),
+        WordName::I64 => run_at::<i64>(alloc, frac, lines),
+        WordName::U8 => run_at::<u8>(alloc, frac, lines),
+        WordName::U16 => run_at::<u16>(alloc, frac, lines),
+        WordName::U32 => run_at::<u32>(alloc, frac, lines),
+        WordName::U64 => run_at::<u64>(alloc, frac, lines),
+    }
+}
+
+/// What a script of polynomials prints. Its first line is `poly W F`, a word and a fraction; then lines
+/// `coefs N N ..`, at least one number, each take the place of the polynomial before, and lines `at N`
+/// print the bits of its value at N, or `overflow I`. Otherwise the first cause, with the number of its piece:
+/// `Syntax` where the piece lacks the form, also `at` before the first `coefs`, and `OutOfRange` where a number
+/// is out of range. Want of memory may come in the place of either, and nothing is handed out then.
+pub fn poly_run(alloc: Global, script: &[u8]) -> Result<Output, PolyFault>
+    ensures { PolyTells (poly_output script.now) result }
+{
+    let Some((piece, lines)) = open(script) else {
+        return Err(PolyFault::Syntax(1));
+    };
+    match read_header(piece) {
+        Some(header) => run_word(alloc, header.word, header.frac, lines),
+        None => Err(PolyFault::Syntax(1)),
+    }
+}

@@ -1,0 +1,6 @@
+//! Tests of the runs over text: scripts with known answers.
+#![tactic(auto)]
+
+#[cfg(test)]
+mod poly;
+pub mod whole;
