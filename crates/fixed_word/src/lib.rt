@@ -12,6 +12,7 @@ mod ledger;
 mod narrow;
 mod outcome;
 mod policies;
+mod rounding;
 mod word;
 mod words;
 
@@ -22,4 +23,5 @@ pub use ledger::{Count, Ledger, Silent, Steps};
 pub use narrow::Narrow;
 pub use outcome::{Outcome, Side, outcome_of, outcome_of_kept, outcome_of_whole};
 pub use policies::{checked_of, overflowing_of, saturating_of, strict_of, wrapping_of};
+pub use rounding::Rounding;
 pub use word::{RawWord, SignedWord, UnsignedWord, Valued, Word};

@@ -1,0 +1,12 @@
+//! Roundings by name.
+
+/// How a number between two units is rounded (this project's own).
+#[derive(Clone, Copy, Debug, PartialEq, Eq)]
+pub enum Rounding {
+    /// To the unit below.
+    Down,
+    /// To the unit nearer to 0.
+    Zero,
+    /// To the nearest unit, and to the even one where two are nearest.
+    Even,
+}
