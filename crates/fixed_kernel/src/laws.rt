@@ -7,8 +7,12 @@
 ghost use Rattle.std.specs.Prelude.{◌≡◌, ◌≢◌, ◌↔◌, ◌⊎◌, ◌-◌, ◌^◌, ◌≤◌, ◌≤ℤ◌, ◌<ℤ◌, ◌+ℤ◌, ◌*ℤ◌, ℕ, ℤ, Bool, true, false, pos, negsuc, unsigned_abs};
 ghost use Rattle.fixed_word.specs.Format.{InRange, IsWidth, lowest};
 ghost use Rattle.fixed_word.specs.Quotient.{euclidean_quotient, truncated_quotient};
+ghost use Rattle.fixed_word.specs.declared.rounding.Rounding.{Rounding};
+ghost use Rattle.fixed_word.specs.declared.rounding.Rounding.TheVariants.{Down, Zero};
 ghost use Rattle.fixed_kernel.specs.Laws.{IsFromZero, IsNextMultiple, IsNextPower, IsOffZero, Misses};
-ghost use Rattle.fixed_kernel.specs.Rows.{exact_abs, exact_dist, exact_div, exact_div_euclid, exact_div_euclid_int, exact_div_int, exact_mul, exact_neg, exact_next_multiple_of, exact_next_power_of_two, exact_recip, exact_rem, exact_rem_euclid, exact_rem_euclid_int, exact_rem_int, exact_signum, exact_sqrt};
+ghost use Rattle.fixed_kernel.specs.Rounded.{IsRounded, rounded};
+ghost use Rattle.fixed_kernel.specs.RoundedRows.{rounded_add_prod, rounded_div, rounded_div_int, rounded_mul, rounded_mul_add, rounded_recip};
+ghost use Rattle.fixed_kernel.specs.Rows.{exact_abs, exact_add_prod, exact_dist, exact_div, exact_div_euclid, exact_div_euclid_int, exact_div_int, exact_mul, exact_mul_add, exact_neg, exact_next_multiple_of, exact_next_power_of_two, exact_recip, exact_rem, exact_rem_euclid, exact_rem_euclid_int, exact_rem_int, exact_signum, exact_sqrt};
 ghost use Rattle.fixed_kernel.specs.Rows.{row_div, row_div_euclid, row_div_euclid_int, row_div_int, row_next_multiple_of, row_recip, row_rem, row_rem_euclid, row_rem_euclid_int, row_rem_int, row_sqrt};
 
 /// `rem`, `rem_int` and `rem_euclid` fit on every word, though the integer of `rem_int` may be far outside
@@ -94,4 +98,24 @@ pub fn row_law()
     ensures next_multiple_of { (a b : ℤ)
         → IsOffZero b (exact_next_multiple_of a b) (row_next_multiple_of a b) }
     ensures sqrt { (a : ℤ) (f : ℕ) → IsFromZero a (exact_sqrt a f) (row_sqrt a f) }
+{}
+
+/// The rounded quotient meets the equation of its rounding, and nothing else does.
+pub fn rounded_law()
+    ensures is { (x d : ℤ) (r : Rounding) → d ≢ pos 0 → IsRounded x d r (rounded x d r) }
+    ensures unique { (x d q : ℤ) (r : Rounding) → d ≢ pos 0 → IsRounded x d r q
+        → rounded x d r ≡ q }
+{}
+
+/// The rows without a named rounding are those that round down, of products, and toward zero, of
+/// quotients.
+pub fn default_law()
+    ensures mul { (a b : ℤ) (f : ℕ) → rounded_mul a b f Down ≡ exact_mul a b f }
+    ensures div { (a b : ℤ) (f : ℕ) → rounded_div a b f Zero ≡ exact_div a b f }
+    ensures recip { (a : ℤ) (f : ℕ) → rounded_recip a f Zero ≡ exact_recip a f }
+    ensures mul_add { (a m c : ℤ) (g : ℕ)
+        → rounded_mul_add a m c g Down ≡ exact_mul_add a m c g }
+    ensures add_prod { (c a b : ℤ) (f g h : ℕ)
+        → rounded_add_prod c a b f g h Down ≡ exact_add_prod c a b f g h }
+    ensures div_int { (a k : ℤ) → rounded_div_int a k Zero ≡ exact_div_int a k }
 {}
