@@ -3,12 +3,10 @@ use Rattle.std.proofs.Common.{◌≡◌, ◌≢◌, ◌⊎◌, ◌+◌, ◌-◌,
 use Rattle.std.proofs.lemmas.Int.{ints}
 use Rattle.std.proofs.lemmas.Nat.{div-add-mod', mul-le, mul-mod_first, one_shl, shl_below, pow-add}
 use Rattle.fixed_word.specs.declared.outcome.Outcome.{Outcome}
-use Rattle.fixed_word.specs.Format.{IsWidth, lowest, highest, Congruent, wrap, with_sign}
+use Rattle.fixed_word.specs.Format.{IsWidth, lowest, highest, with_sign}
 use Rattle.fixed_word.specs.Standing.{StandsFor, side_of}
 use Rattle.fixed_word.proofs.Wraps.{width_pos, narrower, neg-times, wrap_alike}
 use Rattle.fixed_word.proofs.Sides.{side_above, side_below}
-use Rattle.std.proofs.lemmas.Bool.{cases_lt}
-use Rattle.fixed_word.specs.Quotient.{truncated_quotient}
 use Rattle.fixed_kernel.specs.inside.Alike.{Alike}
 
 pub width_at_most : (n : ℕ) → IsWidth n → n ≤ 64
@@ -109,24 +107,6 @@ fold_is b m k h = rw (signed_times b m (2 ^ k), low_bits_of m k) (fold_alike b (
 pub abs_signed : (b : Bool) (m : ℕ) → nat_abs (with_sign b m) ≡ m
 abs_signed false m = refl
 abs_signed true m = omega (arith, ints)
-
-pub tr_signed : (n : ℕ) (b : Bool) (m : ℕ) → 0 < m → truncated_quotient (pos n) (with_sign b m) ≡ with_sign b (n / m)
-tr_signed n false m h = refl
-tr_signed n true zero h = absurd (omega arith)
-tr_signed n true (suc m) h = refl
-
-far_alike : (b : Bool) → Alike (2 ^ 64) (with_sign b (2 ^ 128)) (with_sign b (2 ^ 127))
-far_alike false = record { bits = (pos (2 ^ 63), omega (arith, ints)); place = inr (inl (omega (arith, ints), omega (arith, ints))) }
-far_alike true = record { bits = (neg_ℤ (pos (2 ^ 63)), omega (arith, ints)); place = inr (inr (omega (arith, ints), omega (arith, ints))) }
-
--- `2 ^ 128` over m, where q says it but for m = 1
-pub recip_alike : (b : Bool) (m q : ℕ) → 0 < m → (m ≡ 1 → q ≡ 2 ^ 127) → (1 < m → q ≡ 2 ^ 128 / m) → Alike (2 ^ 64) (truncated_quotient (pos (2 ^ 128)) (with_sign b m)) (with_sign b q)
-recip_alike b m q h one more = elim (cases_lt 1 m) [
-  | inl large ↦ alike_same (2 ^ 64) (truncated_quotient (pos (2 ^ 128)) (with_sign b m)) (with_sign b q) (ap (with_sign b) (more large) ∙ sym (tr_signed (2 ^ 128) b m h))
-  | inr small ↦
-      let e : m ≡ 1 = omega arith in
-      rw (e, one e) (rw (tr_signed (2 ^ 128) b 1 (omega arith)) (far_alike b))
-]
 
 pub size_pos : (b : Bool) (m : ℕ) (x : ℤ) → with_sign b m ≡ x → x ≢ pos 0 → 0 < m
 size_pos false zero x e n = absurd (n (sym e))

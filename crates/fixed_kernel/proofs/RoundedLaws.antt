@@ -11,7 +11,7 @@ use Rattle.fixed_word.proofs.Nearest.{cases_int}
 use Rattle.fixed_word.specs.declared.rounding.Rounding.{Rounding}
 use Rattle.fixed_word.specs.declared.rounding.Rounding.TheVariants.{Down, Zero, Even}
 use Rattle.fixed_kernel.specs.Rounded.{nearest, nearest_quotient, rounded, IsNearestEven, IsRounded}
-use Rattle.fixed_kernel.proofs.Nearest.{nearest_is}
+use Rattle.fixed_kernel.proofs.ToNearest.{nearest_is}
 
 pub nearest_quotient_is : (x : ℤ) (d : ℕ) → 0 < d → IsNearestEven x (pos d) (nearest_quotient x d)
 nearest_quotient_is (pos a) d h =

@@ -1,6 +1,6 @@
 -- The sign of a number, and one by that sign.
-use Rattle.std.proofs.Common.{◌≡◌, ◌*◌, ◌^◌, ◌*ℤ◌, ◌-ℤ◌, ◌<ℤ◌, ℕ, ℤ, zero, suc, Bool, true, false, pos, negsuc, neg_ℤ, refl, ap, ◌∙◌, arith}
-use Rattle.std.specs.Prelude.{◌≢◌, ◌↔◌, IsTrue}
+use Rattle.std.proofs.Common.{◌≡◌, ◌^◌, ◌*ℤ◌, ◌<ℤ◌, ℕ, ℤ, zero, suc, pos, negsuc, refl, arith}
+use Rattle.std.specs.Prelude.{◌≢◌}
 use Rattle.std.proofs.lemmas.Int.{ints}
 use Rattle.fixed_kernel.specs.Rows.{exact_signum}
 

@@ -1,4 +1,4 @@
-use Rattle.std.proofs.Common.{◌≡◌, ◌≢◌, pos, sym, ap, ◌∙◌}
+use Rattle.std.proofs.Common.{◌≢◌, pos, sym, ap, ◌∙◌}
 use Rattle.std.proofs.lemmas.Bool.{false≢true, iff_false}
 use Rattle.fixed_kernel.proofs.Signs.{above, at_zero}
 use Rattle.fixed_kernel.proofs.sums.sign_of.Goals as goal
