@@ -24,6 +24,8 @@ mod policies;
 #[cfg(test)]
 mod roots;
 #[cfg(test)]
+mod rounding;
+#[cfg(test)]
 mod vectors;
 #[cfg(test)]
 mod words;
