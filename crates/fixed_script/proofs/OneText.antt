@@ -1,19 +1,22 @@
 -- Two things with one text are equal.
-use Rattle.std.proofs.Common.{◌≡◌, ℕ, suc, List, [], ◌∷◌, map, ℤ, pos, negsuc, true, refl, sym, ap, ◌∙◌, arith, codes}
+use Rattle.std.proofs.Common.{◌≡◌, ℕ, suc, List, [], ◌∷◌, ◌++◌, Option, Some, None, map, ℤ, pos, negsuc, false, true, refl, sym, ap, ◌∙◌, arith, codes}
 use Rattle.std.specs.Str.{bytes_eq}
 use Rattle.std.proofs.lemmas.Bool.{false≢true}
 use Rattle.std.proofs.lemmas.Option.{same_Some}
+use Rattle.fixed_word.specs.declared.rounding.Rounding.{Rounding}
+use Rattle.fixed_word.specs.declared.rounding.Rounding.TheVariants.{Down, Zero, Even}
 use Rattle.fixed_script.specs.declared.names.Policy.{Policy}
 use Rattle.fixed_script.specs.declared.names.Op.{Op}
 use Rattle.fixed_text.specs.declared.names.WordName.{WordName}
 use Rattle.fixed_word.specs.Decimal.{natural_text, whole_text}
 use Rattle.fixed_text.specs.Words.{word_name, word_named}
-use Rattle.fixed_script.specs.Names.{policy_name, policy_named, op_name, op_named}
-use Rattle.fixed_script.specs.Text.{ScriptHeader, header_tokens, ScriptLine, SetTo, Apply, Operands, OneRegister, TwoRegisters, RegisterAndInt, ThreeRegisters, register_text, line_tokens, operand_tokens}
+use Rattle.fixed_script.specs.Names.{policy_name, policy_named, op_name, op_named, rounding_name, rounding_named}
+use Rattle.fixed_script.specs.Text.{ScriptHeader, header_tokens, ScriptLine, SetTo, Apply, Operands, OneRegister, TwoRegisters, RegisterAndInt, ThreeRegisters, register_text, line_tokens, operand_tokens, rounding_tokens}
 use Rattle.fixed_text.specs.Tokens.{tokens_of}
 use Rattle.fixed_text.specs.Numerals.{is_decimal, has_minus}
 use Rattle.fixed_script.specs.TextLaws.{OneWholeNumber, OneLine, OneHeader}
 use Rattle.fixed_text.proofs.Decimals.{decimal_of_text, natural_text_injective}
+use Rattle.fixed_text.proofs.Steps.{named_takes}
 use Rattle.fixed_script.proofs.Readers.{policy_again, op_again}
 use Rattle.fixed_text.proofs.Capping.{no_minus}
 use Rattle.fixed_script.proofs.Joined.{tokens_of_line}
@@ -83,16 +86,84 @@ one_operands (ThreeRegisters a b c) (OneRegister x) e = cc
 one_operands (ThreeRegisters a b c) (TwoRegisters x y) e = cc
 one_operands (ThreeRegisters a b c) (RegisterAndInt x k) e = cc
 
+-- ---- the rounding apart from the operands
+-- the tokens that name no rounding, and the first that one names
+abbrev unless_named : Option Rounding → List ℕ → List (List ℕ) → List (List ℕ)
+unless_named None t ts = t ∷ ts
+unless_named (Some r) t ts = ts
+
+abbrev or_later : Option Rounding → Option Rounding → Option Rounding
+or_later None later = later
+or_later (Some r) later = Some r
+
+abbrev unnamed : List (List ℕ) → List (List ℕ)
+unnamed [] = []
+unnamed (t ∷ ts) = unless_named (rounding_named t) t (unnamed ts)
+
+abbrev first_named : List (List ℕ) → Option Rounding
+first_named [] = None
+first_named (t ∷ ts) = or_later (rounding_named t) (first_named ts)
+
+rounding_again : (r : Rounding) → rounding_named (rounding_name r) ≡ Some r
+rounding_again Down = refl
+rounding_again Zero = refl
+rounding_again Even = refl
+
+register_names_none : (n : ℕ) → rounding_named (register_text n) ≡ None
+register_names_none n = refl
+
+no_rounding_decimal : (r : Rounding) → is_decimal (rounding_name r) ≡ false
+no_rounding_decimal Down = refl
+no_rounding_decimal Zero = refl
+no_rounding_decimal Even = refl
+
+natural_names_none : (n : ℕ) → rounding_named (natural_text n) ≡ None
+natural_names_none n = from (rounding_named (natural_text n)) refl
+  where
+    from : (o : Option Rounding) → rounding_named (natural_text n) ≡ o → o ≡ None
+    from None is = refl
+    from (Some r) is =
+        let name = named_takes rounding_name (Down ∷ Zero ∷ Even ∷ []) (natural_text n) r is in
+        absurd (false≢true (sym (no_rounding_decimal r) ∙ ap is_decimal name ∙ (decimal_of_text n).0))
+
+whole_names_none : (k : ℤ) → rounding_named (whole_text k) ≡ None
+whole_names_none (pos n) = natural_names_none n
+whole_names_none (negsuc n) = refl
+
+unnamed_rounding : (r : Option Rounding) → unnamed (rounding_tokens r) ≡ []
+unnamed_rounding None = refl
+unnamed_rounding (Some r) = ap (λ o. unless_named o (rounding_name r) []) (rounding_again r)
+
+first_rounding : (r : Option Rounding) → first_named (rounding_tokens r) ≡ r
+first_rounding None = refl
+first_rounding (Some r) = ap (λ o. or_later o None) (rounding_again r)
+
+unnamed_operands : (xs : Operands) (r : Option Rounding) → unnamed (operand_tokens xs ++ rounding_tokens r) ≡ operand_tokens xs
+unnamed_operands (OneRegister a) r = ap (λ us. register_text a ∷ us) (unnamed_rounding r)
+unnamed_operands (TwoRegisters a b) r = ap (λ us. register_text a ∷ register_text b ∷ us) (unnamed_rounding r)
+unnamed_operands (RegisterAndInt a k) r =
+    ap (λ o. register_text a ∷ unless_named o (whole_text k) (unnamed (rounding_tokens r))) (whole_names_none k) ∙ ap (λ us. register_text a ∷ whole_text k ∷ us) (unnamed_rounding r)
+unnamed_operands (ThreeRegisters a b c) r = ap (λ us. register_text a ∷ register_text b ∷ register_text c ∷ us) (unnamed_rounding r)
+
+named_operands : (xs : Operands) (r : Option Rounding) → first_named (operand_tokens xs ++ rounding_tokens r) ≡ r
+named_operands (OneRegister a) r = first_rounding r
+named_operands (TwoRegisters a b) r = first_rounding r
+named_operands (RegisterAndInt a k) r = ap (λ o. or_later o (first_named (rounding_tokens r))) (whole_names_none k) ∙ first_rounding r
+named_operands (ThreeRegisters a b c) r = first_rounding r
+
 set_apart : (p : Policy) → policy_name p ≡ codes "set" → ⊥
 set_apart p e = false≢true (sym (not_set p) ∙ ap (λ t. bytes_eq t (codes "set")) e)
 
 one_tokens : (x y : ScriptLine) → line_tokens x ≡ line_tokens y → x ≡ y
 one_tokens (SetTo d j) (SetTo e k) same = ap (λ n. SetTo n j) (one_register d e (heads same)) ∙ ap (SetTo e) (one_whole j k (heads (tails (tails same))))
-one_tokens (SetTo d j) (Apply e p o xs) same = absurd (set_apart p (sym (heads (tails same))))
-one_tokens (Apply d p o xs) (SetTo e k) same = absurd (set_apart p (heads (tails same)))
-one_tokens (Apply d p o xs) (Apply e q r ys) same =
-    ap (λ n. Apply n p o xs) (one_register d e (heads same)) ∙ ap (λ n. Apply e n o xs) (one_policy p q (heads (tails same)))
-    ∙ ap (λ n. Apply e q n xs) (one_op o r (heads (tails (tails same)))) ∙ ap (Apply e q r) (one_operands xs ys (tails (tails (tails same))))
+one_tokens (SetTo d j) (Apply e p o xs r) same = absurd (set_apart p (sym (heads (tails same))))
+one_tokens (Apply d p o xs r) (SetTo e k) same = absurd (set_apart p (heads (tails same)))
+one_tokens (Apply d p o xs r) (Apply e q u ys t) same =
+    let ends = tails (tails (tails same)) in
+    let operands = one_operands xs ys (sym (unnamed_operands xs r) ∙ ap unnamed ends ∙ unnamed_operands ys t) in
+    let rounding = sym (named_operands xs r) ∙ ap first_named ends ∙ named_operands ys t in
+    ap (λ n. Apply n p o xs r) (one_register d e (heads same)) ∙ ap (λ n. Apply e n o xs r) (one_policy p q (heads (tails same)))
+    ∙ ap (λ n. Apply e q n xs r) (one_op o u (heads (tails (tails same)))) ∙ ap (λ n. Apply e q u n r) operands ∙ ap (Apply e q u ys) rounding
 
 pub one_line : OneLine
 one_line x y e = one_tokens x y (sym (tokens_of_line x) ∙ ap tokens_of e ∙ tokens_of_line y)

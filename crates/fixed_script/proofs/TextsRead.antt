@@ -1,16 +1,18 @@
 -- A piece is read as the line whose text it is.
-use Rattle.std.proofs.Common.{◌≡◌, ℕ, ℤ, suc, pos, negsuc, neg_ℤ, List, [], ◌∷◌, map, drop, Option, Some, None, Bool, true, false, if◌then◌else◌, refl, sym, ap, subst, rules, IfNone, IfSome, ◌∙◌, codes}
+use Rattle.std.proofs.Common.{◌≡◌, ℕ, ℤ, suc, pos, negsuc, neg_ℤ, List, [], ◌∷◌, ◌++◌, map, drop, Option, Some, None, Bool, true, false, if◌then◌else◌, refl, sym, ap, subst, rules, IfNone, IfSome, ◌∙◌, codes}
 use Rattle.std.specs.Option.{option_map}
 use Rattle.std.specs.Str.{bytes_eq}
 use Rattle.std.proofs.lemmas.Slice.Eq.{bytes_eq-Decides}
 use Rattle.std.proofs.lemmas.Option.{same_Some}
+use Rattle.fixed_word.specs.declared.rounding.Rounding.{Rounding}
+use Rattle.fixed_word.specs.declared.rounding.Rounding.TheVariants.{Down, Zero, Even}
 use Rattle.fixed_script.specs.declared.names.Policy.{Policy}
 use Rattle.fixed_script.specs.declared.names.Op.{Op}
 use Rattle.fixed_script.specs.declared.line.Shape.{Shape}
 use Rattle.fixed_script.specs.declared.line.Shape.TheVariants.{Unary, Binary, ByInteger, Ternary}
 use Rattle.fixed_word.specs.Decimal.{natural_text, whole_text}
-use Rattle.fixed_script.specs.Names.{policy_named, op_named}
-use Rattle.fixed_script.specs.Text.{ScriptHeader, header_text, header_tokens, ScriptLine, SetTo, Apply, OneRegister, TwoRegisters, RegisterAndInt, ThreeRegisters, IsLine, line_text, line_tokens, shape, shape_of}
+use Rattle.fixed_script.specs.Names.{policy_named, op_named, rounding_named}
+use Rattle.fixed_script.specs.Text.{ScriptHeader, header_text, header_tokens, ScriptLine, SetTo, Apply, Operands, OneRegister, TwoRegisters, RegisterAndInt, ThreeRegisters, takes_rounding, MayRound, IsLine, line_text, line_tokens, operand_tokens, rounding_tokens, shape, shape_of}
 use Rattle.fixed_text.specs.Tokens.{tokens_of}
 use Rattle.fixed_text.proofs.Decimals.{decimal_of_text}
 use Rattle.fixed_script.proofs.Readers.{policy_again, op_again}
@@ -22,7 +24,7 @@ use Rattle.fixed_script.specs.declared.line.Line.{Line}
 use Rattle.fixed_script.specs.Capped.{capped, denoted}
 use Rattle.fixed_word.specs.Pieces.{body}
 use Rattle.fixed_script.specs.Headers.{CappedHeader, capped_header}
-use Rattle.fixed_script.specs.Lines.{then_of, line_of_piece, header_of_piece, natural_in, register_in, whole_in, operands_in, apply_in, line_in, header_in, if_its_text, line_of, header_of, ReadsLines, ReadsHeaders, token}
+use Rattle.fixed_script.specs.Lines.{then_of, line_of_piece, header_of_piece, natural_in, register_in, whole_in, operands_in, operand_count, rounding_in, apply_in, line_in, header_in, if_its_text, line_of, header_of, ReadsLines, ReadsHeaders, token}
 use Rattle.fixed_script.specs.Readings.{LineTells, HeaderTells}
 
 -- ---- what is read back
@@ -33,12 +35,37 @@ whole_back : (k : ℤ) → whole_in (whole_text k) ≡ k
 whole_back (pos n) = ap (λ (b : Bool). if b then neg_ℤ (pos (natural_in (drop 1 (natural_text n)))) else pos (natural_in (natural_text n))) (no_minus (natural_text n) (decimal_of_text n).0) ∙ ap pos (natural_back n)
 whole_back (negsuc n) = ap (λ (m : ℕ). neg_ℤ (pos m)) (natural_back (suc n))
 
+operands_back : (op : Op) (xs : Operands) (r : Option Rounding) → shape op ≡ shape_of xs → operands_in (shape op) (operand_tokens xs ++ rounding_tokens r) ≡ xs
+operands_back op (OneRegister a) r is = rw (is, natural_back a) refl
+operands_back op (TwoRegisters a b) r is = rw (is, natural_back a, natural_back b) refl
+operands_back op (RegisterAndInt a k) r is = rw (is, natural_back a, whole_back k) refl
+operands_back op (ThreeRegisters a b c) r is = rw (is, natural_back a, natural_back b, natural_back c) refl
+
+last_back : (op : Op) (xs : Operands) (r : Option Rounding) → shape op ≡ shape_of xs → token (operand_tokens xs ++ rounding_tokens r) (operand_count (shape op)) ≡ token (rounding_tokens r) 0
+last_back op (OneRegister a) r is = rw is refl
+last_back op (TwoRegisters a b) r is = rw is refl
+last_back op (RegisterAndInt a k) r is = rw is refl
+last_back op (ThreeRegisters a b c) r is = rw is refl
+
+named_back : (b : Bool) (op : Op) (r : Option Rounding) → takes_rounding op ≡ b → MayRound op r → (if b then rounding_named (token (rounding_tokens r) 0) else None) ≡ r
+named_back true op None t m = refl
+named_back false op None t m = refl
+named_back b op (Some Down) t m = ap (λ (c : Bool). if c then Some Down else None) (sym t ∙ m)
+named_back b op (Some Zero) t m = ap (λ (c : Bool). if c then Some Zero else None) (sym t ∙ m)
+named_back b op (Some Even) t m = ap (λ (c : Bool). if c then Some Even else None) (sym t ∙ m)
+
+rounding_back : (op : Op) (xs : Operands) (r : Option Rounding) → shape op ≡ shape_of xs → MayRound op r → rounding_in op (operand_tokens xs ++ rounding_tokens r) ≡ r
+rounding_back op xs r is m = ap (λ (t : List ℕ). if takes_rounding op then rounding_named t else None) (last_back op xs r is) ∙ named_back (takes_rounding op) op r refl m
+
+applied_back : (dest : ℕ) (policy : Policy) (op : Op) (xs : Operands) (r : Option Rounding) → shape op ≡ shape_of xs → MayRound op r
+    → apply_in dest (Some policy) (Some op) (operand_tokens xs ++ rounding_tokens r) ≡ Some (Apply dest policy op xs r)
+applied_back dest policy op xs r is m =
+    ap (λ (ys : Operands). Some (Apply dest policy op ys (rounding_in op (operand_tokens xs ++ rounding_tokens r)))) (operands_back op xs r is)
+    ∙ ap (λ (q : Option Rounding). Some (Apply dest policy op xs q)) (rounding_back op xs r is m)
+
 line_back : (l : ScriptLine) → IsLine l → line_in (line_tokens l) ≡ Some l
 line_back (SetTo dest k) is = rw (natural_back dest, whole_back k) refl
-line_back (Apply dest policy op (OneRegister a)) is = rw (not_set policy, policy_again policy, op_again op, is, natural_back dest, natural_back a) refl
-line_back (Apply dest policy op (TwoRegisters a b)) is = rw (not_set policy, policy_again policy, op_again op, is, natural_back dest, natural_back a, natural_back b) refl
-line_back (Apply dest policy op (RegisterAndInt a k)) is = rw (not_set policy, policy_again policy, op_again op, is, natural_back dest, natural_back a, whole_back k) refl
-line_back (Apply dest policy op (ThreeRegisters a b c)) is = rw (not_set policy, policy_again policy, op_again op, is, natural_back dest, natural_back a, natural_back b, natural_back c) refl
+line_back (Apply dest policy op xs r) is = rw (not_set policy, policy_again policy, op_again op, natural_back dest) (applied_back dest policy op xs r is.0 is.1)
 
 naturals_back : (ns : List ℕ) → map natural_in (map natural_text ns) ≡ ns
 naturals_back [] = refl
@@ -57,10 +84,15 @@ shaped Binary ts = refl
 shaped ByInteger ts = refl
 shaped Ternary ts = refl
 
+may : (b : Bool) (op : Op) (r : Option Rounding) → takes_rounding op ≡ b → MayRound op (if b then r else None)
+may false op r is = tt
+may true op None is = tt
+may true op (Some r) is = is
+
 apply_is : (dest : ℕ) (p : Option Policy) (o : Option Op) (ts : List (List ℕ)) (l : ScriptLine) → apply_in dest p o ts ≡ Some l → IsLine l
 apply_is dest None o ts l e = cc
 apply_is dest (Some p) None ts l e = cc
-apply_is dest (Some p) (Some o) ts l e = subst IsLine (same_Some (Apply dest p o (operands_in (shape o) ts)) l e) (shaped (shape o) ts)
+apply_is dest (Some p) (Some o) ts l e = subst IsLine (same_Some (Apply dest p o (operands_in (shape o) ts) (rounding_in o ts)) l e) (shaped (shape o) ts, may (takes_rounding o) o (rounding_named (token ts (operand_count (shape o)))) refl)
 
 line_is : (ts : List (List ℕ)) (l : ScriptLine) → line_in ts ≡ Some l → IsLine l
 line_is ts l e = by_name (bytes_eq (token ts 1) (codes "set")) e

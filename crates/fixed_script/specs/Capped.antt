@@ -1,12 +1,14 @@
 -- Numbers as the code holds them: one of 2 ^ 64 or more is held as 2 ^ 64.
 use Rattle.std.specs.Prelude.{suc, ℤ, pos, negsuc, neg_ℤ, if◌then◌else◌, Option, Some, None}
 use Rattle.fixed_text.specs.Numerals.{cap}
+use Rattle.fixed_word.specs.declared.rounding.Rounding.{Rounding}
+use Rattle.fixed_script.specs.declared.names.Op.{Op}
 use Rattle.fixed_script.specs.declared.line.Shape.{Shape}
 use Rattle.fixed_script.specs.declared.line.Shape.TheVariants.{Unary, Binary, ByInteger, Ternary}
 use Rattle.fixed_script.specs.declared.literal.Literal.{Literal}
 use Rattle.fixed_script.specs.declared.line.Line.{Line}
 use Rattle.fixed_script.specs.declared.line.Line.TheVariants.{Set, One, Two, Int, Three}
-use Rattle.fixed_script.specs.Text.{Operands, OneRegister, TwoRegisters, RegisterAndInt, ThreeRegisters, ScriptLine, SetTo, Apply, shape}
+use Rattle.fixed_script.specs.Text.{Operands, OneRegister, TwoRegisters, RegisterAndInt, ThreeRegisters, ScriptLine, SetTo, Apply, shape, takes_rounding}
 
 -- a number keeps its sign
 abbrev pub cap_whole : ℤ → ℤ
@@ -22,7 +24,7 @@ cap_operands (ThreeRegisters a b c) = ThreeRegisters (cap a) (cap b) (cap c)
 -- the capped form of a line
 abbrev pub capped : ScriptLine → ScriptLine
 capped (SetTo dest value) = SetTo (cap dest) (cap_whole value)
-capped (Apply dest policy op operands) = Apply (cap dest) policy op (cap_operands operands)
+capped (Apply dest policy op operands rounding) = Apply (cap dest) policy op (cap_operands operands) rounding
 
 -- the whole number of a literal
 abbrev pub literal_value : Literal → ℤ
@@ -36,10 +38,15 @@ of_shape ByInteger ByInteger line = Some line
 of_shape Ternary Ternary line = Some line
 of_shape _ _ line = None
 
--- the abstract line that a line of the code denotes, with its numbers as they stand
+-- the line, if the operation may name its rounding
+abbrev pub if_rounds : Op → Option Rounding → Option ScriptLine → Option ScriptLine
+if_rounds op None line = line
+if_rounds op (Some rounding) line = if takes_rounding op then line else None
+
+-- the abstract line that a line of the code denotes, with its numbers and its rounding as they stand
 abbrev pub denoted : Line → Option ScriptLine
 denoted (Set dest literal) = Some (SetTo dest (literal_value literal))
-denoted (One dest policy op a) = of_shape (shape op) Unary (Apply dest policy op (OneRegister a))
-denoted (Two dest policy op a b) = of_shape (shape op) Binary (Apply dest policy op (TwoRegisters a b))
-denoted (Int dest policy op a literal) = of_shape (shape op) ByInteger (Apply dest policy op (RegisterAndInt a (literal_value literal)))
-denoted (Three dest policy op a b c) = of_shape (shape op) Ternary (Apply dest policy op (ThreeRegisters a b c))
+denoted (One dest policy op a r) = if_rounds op r (of_shape (shape op) Unary (Apply dest policy op (OneRegister a) r))
+denoted (Two dest policy op a b r) = if_rounds op r (of_shape (shape op) Binary (Apply dest policy op (TwoRegisters a b) r))
+denoted (Int dest policy op a literal r) = if_rounds op r (of_shape (shape op) ByInteger (Apply dest policy op (RegisterAndInt a (literal_value literal)) r))
+denoted (Three dest policy op a b c r) = if_rounds op r (of_shape (shape op) Ternary (Apply dest policy op (ThreeRegisters a b c) r))

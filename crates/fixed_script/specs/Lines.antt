@@ -3,13 +3,14 @@ use Rattle.std.specs.Prelude.{◌≡◌, ◌↔◌, ℕ, ℤ, pos, neg_ℤ, List
 use Rattle.std.specs.Option.{option_map}
 use Rattle.std.specs.Str.{bytes_eq}
 use Rattle.std.specs.Str.Parse.{digits_value}
+use Rattle.fixed_word.specs.declared.rounding.Rounding.{Rounding}
 use Rattle.fixed_script.specs.declared.names.Policy.{Policy}
 use Rattle.fixed_script.specs.declared.names.Op.{Op}
 use Rattle.fixed_script.specs.declared.line.Shape.{Shape}
 use Rattle.fixed_script.specs.declared.line.Shape.TheVariants.{Unary, Binary, ByInteger, Ternary}
 use Rattle.fixed_text.specs.Words.{word_named}
-use Rattle.fixed_script.specs.Names.{policy_named, op_named}
-use Rattle.fixed_script.specs.Text.{ScriptHeader, header_text, ScriptLine, SetTo, Apply, Operands, OneRegister, TwoRegisters, RegisterAndInt, ThreeRegisters, IsLine, line_text, shape}
+use Rattle.fixed_script.specs.Names.{policy_named, op_named, rounding_named}
+use Rattle.fixed_script.specs.Text.{ScriptHeader, header_text, ScriptLine, SetTo, Apply, Operands, OneRegister, TwoRegisters, RegisterAndInt, ThreeRegisters, IsLine, line_text, shape, takes_rounding}
 use Rattle.fixed_word.specs.Pieces.{body}
 use Rattle.fixed_text.specs.Tokens.{tokens_of}
 use Rattle.fixed_text.specs.Numerals.{has_minus}
@@ -34,10 +35,20 @@ operands_in Binary ts = TwoRegisters (register_in (token ts 0)) (register_in (to
 operands_in ByInteger ts = RegisterAndInt (register_in (token ts 0)) (whole_in (token ts 1))
 operands_in Ternary ts = ThreeRegisters (register_in (token ts 0)) (register_in (token ts 1)) (register_in (token ts 2))
 
+abbrev pub operand_count : Shape → ℕ
+operand_count Unary = 1
+operand_count Binary = 2
+operand_count ByInteger = 2
+operand_count Ternary = 3
+
+-- (of the token after the operands)
+abbrev pub rounding_in : Op → List (List ℕ) → Option Rounding
+rounding_in op ts = if takes_rounding op then rounding_named (token ts (operand_count (shape op))) else None
+
 abbrev pub apply_in : ℕ → Option Policy → Option Op → List (List ℕ) → Option ScriptLine
 apply_in dest None op ts = None
 apply_in dest (Some policy) None ts = None
-apply_in dest (Some policy) (Some op) ts = Some (Apply dest policy op (operands_in (shape op) ts))
+apply_in dest (Some policy) (Some op) ts = Some (Apply dest policy op (operands_in (shape op) ts) (rounding_in op ts))
 
 abbrev pub line_in : List (List ℕ) → Option ScriptLine
 line_in ts =

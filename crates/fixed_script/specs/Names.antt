@@ -1,6 +1,8 @@
--- The names that a script gives to policies and operations.
+-- The names that a script gives to policies, operations and roundings.
 use Rattle.std.specs.Prelude.{ℕ, List, [], ◌∷◌, Option, codes}
 use Rattle.fixed_text.specs.Words.{named}
+use Rattle.fixed_word.specs.declared.rounding.Rounding.{Rounding}
+use Rattle.fixed_word.specs.declared.rounding.Rounding.TheVariants.{Down, Zero, Even}
 use Rattle.fixed_script.specs.declared.names.Policy.{Policy}
 use Rattle.fixed_script.specs.declared.names.Policy.TheVariants.{Checked, Saturating, Wrapping, Overflowing, Strict}
 use Rattle.fixed_script.specs.declared.names.Op.{Op}
@@ -37,6 +39,11 @@ op_name RemInt = codes "rem_int"
 op_name RemEuclid = codes "rem_euclid"
 op_name NextPowerOfTwo = codes "next_power_of_two"
 
+abbrev pub rounding_name : Rounding → List ℕ
+rounding_name Down = codes "down"
+rounding_name Zero = codes "zero"
+rounding_name Even = codes "even"
+
 abbrev pub policy_named : List ℕ → Option Policy
 policy_named = named policy_name (Checked ∷ Saturating ∷ Wrapping ∷ Overflowing ∷ Strict ∷ [])
 
@@ -46,3 +53,6 @@ all_ops =
 
 abbrev pub op_named : List ℕ → Option Op
 op_named = named op_name all_ops
+
+abbrev pub rounding_named : List ℕ → Option Rounding
+rounding_named = named rounding_name (Down ∷ Zero ∷ Even ∷ [])

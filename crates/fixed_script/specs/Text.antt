@@ -1,14 +1,15 @@
 -- What a script can say, with numbers of any size, and the bytes that say it.
-use Rattle.std.specs.Prelude.{◌≡◌, ℕ, ℤ, List, [], ◌∷◌, map, codes}
+use Rattle.std.specs.Prelude.{◌≡◌, ℕ, ℤ, Bool, true, false, List, [], ◌∷◌, ◌++◌, map, Option, Some, None, codes}
 use Rattle.std.specs.List.{join_with_byte}
 use Rattle.fixed_text.specs.declared.names.WordName.{WordName}
+use Rattle.fixed_word.specs.declared.rounding.Rounding.{Rounding}
 use Rattle.fixed_script.specs.declared.names.Policy.{Policy}
 use Rattle.fixed_script.specs.declared.names.Op.{Op}
 use Rattle.fixed_script.specs.declared.names.Op.TheVariants.{Neg, Add, Sub, Mul, Div, Recip, MulAdd, AddProd, MulInt, DivInt, DivEuclid, DivEuclidInt, RemEuclidInt, NextMultipleOf, Dist, Sqrt, Abs, Signum, Rem, RemInt, RemEuclid, NextPowerOfTwo}
 use Rattle.fixed_script.specs.declared.line.Shape.{Shape}
 use Rattle.fixed_script.specs.declared.line.Shape.TheVariants.{Unary, Binary, ByInteger, Ternary}
 use Rattle.fixed_text.specs.Words.{word_name}
-use Rattle.fixed_script.specs.Names.{policy_name, op_name}
+use Rattle.fixed_script.specs.Names.{policy_name, op_name, rounding_name}
 use Rattle.fixed_word.specs.Decimal.{natural_text, whole_text}
 
 -- a word, and the fractions of the registers: the first, and the others
@@ -24,10 +25,10 @@ pub data Operands : Type 0 where
   RegisterAndInt : ℕ → ℤ → Operands
   ThreeRegisters : ℕ → ℕ → ℕ → Operands
 
--- `set` with a destination and a number, or a destination, a policy, an operation and its operands
+-- `set` with a destination and a number, or a destination, a policy, an operation, its operands and a rounding or none
 pub data ScriptLine : Type 0 where
   SetTo : ℕ → ℤ → ScriptLine
-  Apply : ℕ → Policy → Op → Operands → ScriptLine
+  Apply : ℕ → Policy → Op → Operands → Option Rounding → ScriptLine
 
 -- which operands an operation takes
 abbrev pub shape : Op → Shape
@@ -60,10 +61,25 @@ shape_of (TwoRegisters a b) = Binary
 shape_of (RegisterAndInt a k) = ByInteger
 shape_of (ThreeRegisters a b c) = Ternary
 
--- the operands are those of the operation
+-- whether the operation may name its rounding
+abbrev pub takes_rounding : Op → Bool
+takes_rounding Mul = true
+takes_rounding Div = true
+takes_rounding Recip = true
+takes_rounding MulAdd = true
+takes_rounding AddProd = true
+takes_rounding DivInt = true
+takes_rounding _ = false
+
+-- a rounding is named by those operations alone
+abbrev pub MayRound : Op → Option Rounding → Type 0
+MayRound op None = Unit {0}
+MayRound op (Some rounding) = takes_rounding op ≡ true
+
+-- the operands are those of the operation, and so is the rounding
 abbrev pub IsLine : ScriptLine → Type 0
 IsLine (SetTo dest value) = Unit {0}
-IsLine (Apply dest policy op operands) = shape op ≡ shape_of operands
+IsLine (Apply dest policy op operands rounding) = (shape op ≡ shape_of operands) × MayRound op rounding
 
 abbrev pub register_text : ℕ → List ℕ
 register_text n = 114 ∷ natural_text n
@@ -74,9 +90,14 @@ operand_tokens (TwoRegisters a b) = register_text a ∷ register_text b ∷ []
 operand_tokens (RegisterAndInt a k) = register_text a ∷ whole_text k ∷ []
 operand_tokens (ThreeRegisters a b c) = register_text a ∷ register_text b ∷ register_text c ∷ []
 
+abbrev pub rounding_tokens : Option Rounding → List (List ℕ)
+rounding_tokens None = []
+rounding_tokens (Some rounding) = rounding_name rounding ∷ []
+
 abbrev pub line_tokens : ScriptLine → List (List ℕ)
 line_tokens (SetTo dest value) = register_text dest ∷ codes "set" ∷ whole_text value ∷ []
-line_tokens (Apply dest policy op operands) = register_text dest ∷ policy_name policy ∷ op_name op ∷ operand_tokens operands
+line_tokens (Apply dest policy op operands rounding) =
+    register_text dest ∷ policy_name policy ∷ op_name op ∷ (operand_tokens operands ++ rounding_tokens rounding)
 
 abbrev pub header_tokens : ScriptHeader → List (List ℕ)
 header_tokens h = word_name h.word ∷ natural_text h.first ∷ map natural_text h.others

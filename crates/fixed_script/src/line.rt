@@ -1,15 +1,16 @@
 //! The lines of a script.
 
 ghost use Rattle.std.specs.Prelude.{◌≡◌, Some, IfSome, IfNone};
-ghost use Rattle.fixed_script.specs.Text.{shape, ScriptLine, IsLine, line_text};
+ghost use Rattle.fixed_script.specs.Text.{shape, takes_rounding as rounds, ScriptLine, IsLine, line_text};
 ghost use Rattle.fixed_script.specs.Capped.{capped, denoted};
 ghost use Rattle.fixed_text.specs.Tokens.{at_end, tokens_of};
-ghost use Rattle.fixed_script.specs.inside.Parser.{set_at, operands_at, apply_at, line_at};
+ghost use Rattle.fixed_script.specs.inside.Parser.{set_at, rounding_at, operands_at, apply_at, line_at};
 
 use crate::literal::Literal;
-use crate::names::{Op, Policy, policy_of};
+use crate::names::{Op, Policy, policy_of, rounding_of};
 use crate::taking::{take_literal, take_op, take_policy, take_register};
 use fixed_text::Tokens;
+use fixed_word::Rounding;
 
 /// Which operands an operation takes.
 #[derive(Clone, Copy, Debug, PartialEq, Eq)]
@@ -21,7 +22,8 @@ pub enum Shape {
 }
 
 /// A line after the header. Registers and literals stand in the order of the text; a number of `2^64` or
-/// more is held as `2^64`, which is no declared register and no value of any word.
+/// more is held as `2^64`, which is no declared register and no value of any word. Products, quotients and
+/// their kin may name a rounding.
 #[derive(Clone, Copy, Debug, PartialEq, Eq)]
 pub enum Line {
     Set {
@@ -33,6 +35,7 @@ pub enum Line {
         policy: Policy,
         op: Op,
         a: u128,
+        rounding: Option<Rounding>,
     },
     Two {
         dest: u128,
@@ -40,6 +43,7 @@ pub enum Line {
         op: Op,
         a: u128,
         b: u128,
+        rounding: Option<Rounding>,
     },
     Int {
         dest: u128,
@@ -47,6 +51,7 @@ pub enum Line {
         op: Op,
         a: u128,
         literal: Literal,
+        rounding: Option<Rounding>,
     },
     Three {
         dest: u128,
@@ -55,6 +60,7 @@ pub enum Line {
         a: u128,
         b: u128,
         c: u128,
+        rounding: Option<Rounding>,
     },
 }
 
@@ -79,6 +85,16 @@ pub fn shape_of(op: Op) -> Shape
     }
 }
 
+/// Whether the operation may name its rounding.
+pub fn takes_rounding(op: Op) -> bool
+    ensures { result ≡ rounds op }
+{
+    match op {
+        Op::Mul | Op::Div | Op::Recip | Op::MulAdd | Op::AddProd | Op::DivInt => true,
+        _ => false,
+    }
+}
+
 /// The line, where no token is left.
 fn at_end(tokens: &Tokens<'_>, line: Line) -> Option<Line>
     ensures { result ≡ at_end tokens.now line }
@@ -94,60 +110,74 @@ fn set_of(dest: u128, tokens: &mut Tokens<'_>) -> Option<Line>
     at_end(tokens, Line::Set { dest, literal })
 }
 
+/// The rounding that the last token names, or none where no token is left.
+#[tactic(auto, unfolding(crate::specs::inside::Parser::rounding_at))]
+fn rounding_at_end(op: Op, tokens: &mut Tokens<'_>) -> Option<Option<Rounding>>
+    ensures { result ≡ rounding_at op tokens.old }
+{
+    if tokens.is_empty() {
+        return Some(None);
+    }
+    let rounding = rounding_of(tokens.take()?)?;
+    if takes_rounding(op) && tokens.is_empty() {
+        Some(Some(rounding))
+    } else {
+        None
+    }
+}
+
 #[tactic(auto, unfolding(crate::specs::inside::Parser::operands_at))]
 fn operands_of(dest: u128, policy: Policy, op: Op, a: u128, tokens: &mut Tokens<'_>) -> Option<Line>
     ensures { result ≡ operands_at (shape op) dest policy op a tokens.old }
 {
     match shape_of(op) {
-        Shape::Unary => at_end(
-            tokens,
-            Line::One {
+        Shape::Unary => {
+            let rounding = rounding_at_end(op, tokens)?;
+            Some(Line::One {
                 dest,
                 policy,
                 op,
                 a,
-            },
-        ),
+                rounding,
+            })
+        }
         Shape::Binary => {
             let b = take_register(tokens)?;
-            at_end(
-                tokens,
-                Line::Two {
-                    dest,
-                    policy,
-                    op,
-                    a,
-                    b,
-                },
-            )
+            let rounding = rounding_at_end(op, tokens)?;
+            Some(Line::Two {
+                dest,
+                policy,
+                op,
+                a,
+                b,
+                rounding,
+            })
         }
         Shape::ByInteger => {
             let literal = take_literal(tokens)?;
-            at_end(
-                tokens,
-                Line::Int {
-                    dest,
-                    policy,
-                    op,
-                    a,
-                    literal,
-                },
-            )
+            let rounding = rounding_at_end(op, tokens)?;
+            Some(Line::Int {
+                dest,
+                policy,
+                op,
+                a,
+                literal,
+                rounding,
+            })
         }
         Shape::Ternary => {
             let b = take_register(tokens)?;
             let c = take_register(tokens)?;
-            at_end(
-                tokens,
-                Line::Three {
-                    dest,
-                    policy,
-                    op,
-                    a,
-                    b,
-                    c,
-                },
-            )
+            let rounding = rounding_at_end(op, tokens)?;
+            Some(Line::Three {
+                dest,
+                policy,
+                op,
+                a,
+                b,
+                c,
+                rounding,
+            })
         }
     }
 }

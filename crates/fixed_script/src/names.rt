@@ -2,9 +2,11 @@
 
 ghost use Rattle.std.specs.Prelude.{◌≡◌, ◌∷◌, ◌++◌, IfSome, Some, length, true};
 ghost use Rattle.fixed_text.specs.Words.{named};
-ghost use Rattle.fixed_script.specs.Names.{policy_named, policy_name, op_named, op_name};
+ghost use Rattle.fixed_script.specs.Names.{policy_named, policy_name, op_named, op_name, rounding_named};
 ghost use Rattle.fixed_script.specs.inside.OpGroups.{arithmetic_ops, whole_ops, other_ops};
 ghost use Rattle.fixed_text.specs.Tokens.{tokens_of, next_by};
+
+use fixed_word::Rounding;
 
 /// A policy, by its name: `checked saturating wrapping overflowing strict`.
 #[derive(Clone, Copy, Debug, PartialEq, Eq)]
@@ -57,6 +59,21 @@ pub(crate) fn policy_of(token: &[u8]) -> Option<Policy>
         Some(Policy::Overflowing)
     } else if token == b"strict".as_slice() {
         Some(Policy::Strict)
+    } else {
+        None
+    }
+}
+
+/// The rounding of that name.
+pub(crate) fn rounding_of(token: &[u8]) -> Option<Rounding>
+    ensures { result ≡ rounding_named token.now }
+{
+    if token == b"down".as_slice() {
+        Some(Rounding::Down)
+    } else if token == b"zero".as_slice() {
+        Some(Rounding::Zero)
+    } else if token == b"even".as_slice() {
+        Some(Rounding::Even)
     } else {
         None
     }

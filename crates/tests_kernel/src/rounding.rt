@@ -1,5 +1,6 @@
 //! That the six kernels with a named rounding round as a plain computation does.
 
+use super::plain::{quotient, remainder};
 use fixed_kernel::{
     Rounding, add_prod_round_of, div_int_round_of, div_round_of, mul_add_round_of, mul_round_of,
     recip_round_of,
@@ -8,8 +9,8 @@ use fixed_word::{Outcome, Side};
 
 /// `x / d` with that rounding, from the quotient toward zero and the rest.
 fn plain(x: i64, d: i64, rounding: Rounding) -> i64 {
-    let toward = x.wrapping_div(d);
-    let rest = x.wrapping_rem(d).unsigned_abs();
+    let toward = quotient(x, d);
+    let rest = remainder(x, d).unsigned_abs();
     let by = d.unsigned_abs();
     let away = if (x < 0) == (d < 0) { 1 } else { -1 };
     let twice = rest.wrapping_mul(2);

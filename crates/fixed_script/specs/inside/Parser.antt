@@ -3,6 +3,7 @@ use Rattle.std.specs.Prelude.{ℕ, ◌==◌, ◌&&◌, if◌then◌else◌, List
 use Rattle.std.specs.Str.{bytes_eq}
 use Rattle.fixed_text.specs.Tokens.{◌>>=◌, next_by, at_end}
 use Rattle.fixed_text.specs.Numerals.{natural_at, has_minus, without_minus}
+use Rattle.fixed_word.specs.declared.rounding.Rounding.{Rounding}
 use Rattle.fixed_script.specs.declared.names.Policy.{Policy}
 use Rattle.fixed_script.specs.declared.names.Op.{Op}
 use Rattle.fixed_script.specs.declared.line.Shape.{Shape}
@@ -10,8 +11,8 @@ use Rattle.fixed_script.specs.declared.line.Shape.TheVariants.{Unary, Binary, By
 use Rattle.fixed_script.specs.declared.literal.Literal.{Literal}
 use Rattle.fixed_script.specs.declared.line.Line.{Line}
 use Rattle.fixed_script.specs.declared.line.Line.TheVariants.{Set, One, Two, Int, Three}
-use Rattle.fixed_script.specs.Names.{policy_named, op_named}
-use Rattle.fixed_script.specs.Text.{shape}
+use Rattle.fixed_script.specs.Names.{policy_named, op_named, rounding_named}
+use Rattle.fixed_script.specs.Text.{shape, takes_rounding}
 
 unfoldable pub register_at : List ℕ → Option ℕ
 register_at [] = None
@@ -27,18 +28,29 @@ set_at dest ts = do
   literal ← next_by literal_at ts
   at_end literal.1 (Set dest literal.0)
 
+-- a rounding or none, and then no token
+unfoldable pub rounding_at : Op → List (List ℕ) → Option (Option Rounding)
+rounding_at op [] = Some None
+rounding_at op (t ∷ ts) = do
+  rounding ← next_by rounding_named (t ∷ ts)
+  if takes_rounding op then at_end rounding.1 (Some rounding.0) else None
+
+-- the line that takes a rounding, or none, at its end
+abbrev pub ends_by : Op → List (List ℕ) → (Option Rounding → Line) → Option Line
+ends_by op ts line = rounding_at op ts >>= λ rounding. Some (line rounding)
+
 unfoldable pub operands_at : Shape → ℕ → Policy → Op → ℕ → List (List ℕ) → Option Line
-operands_at Unary dest policy op a ts = at_end ts (One dest policy op a)
+operands_at Unary dest policy op a ts = ends_by op ts (One dest policy op a)
 operands_at Binary dest policy op a ts = do
   b ← next_by register_at ts
-  at_end b.1 (Two dest policy op a b.0)
+  ends_by op b.1 (Two dest policy op a b.0)
 operands_at ByInteger dest policy op a ts = do
   literal ← next_by literal_at ts
-  at_end literal.1 (Int dest policy op a literal.0)
+  ends_by op literal.1 (Int dest policy op a literal.0)
 operands_at Ternary dest policy op a ts = do
   b ← next_by register_at ts
   c ← next_by register_at b.1
-  at_end c.1 (Three dest policy op a b.0 c.0)
+  ends_by op c.1 (Three dest policy op a b.0 c.0)
 
 unfoldable pub apply_at : ℕ → Policy → List (List ℕ) → Option Line
 apply_at dest policy ts = do
