@@ -49,10 +49,10 @@ cap_value w k = by_tests (is_value w k) (is_value w (cap_whole k)) refl refl
 same_range : (s : State) (l : ScriptLine) → length s.registers ≤ 2 ^ 64 → is_out_of_range s (capped l) ≡ is_out_of_range s l
 unfolding is_out_of_range
 same_range s (SetTo dest k) h = rw (cap_missing (length s.registers) dest h, cap_value s.word k) refl
-same_range s (Apply dest policy op (OneRegister a)) h = rw (cap_missing (length s.registers) dest h, cap_missing (length s.registers) a h) refl
-same_range s (Apply dest policy op (TwoRegisters a b)) h = rw (cap_missing (length s.registers) dest h, cap_missing (length s.registers) a h, cap_missing (length s.registers) b h) refl
-same_range s (Apply dest policy op (RegisterAndInt a k)) h = rw (cap_missing (length s.registers) dest h, cap_missing (length s.registers) a h, cap_value s.word k) refl
-same_range s (Apply dest policy op (ThreeRegisters a b c)) h =
+same_range s (Apply dest policy op (OneRegister a) how) h = rw (cap_missing (length s.registers) dest h, cap_missing (length s.registers) a h) refl
+same_range s (Apply dest policy op (TwoRegisters a b) how) h = rw (cap_missing (length s.registers) dest h, cap_missing (length s.registers) a h, cap_missing (length s.registers) b h) refl
+same_range s (Apply dest policy op (RegisterAndInt a k) how) h = rw (cap_missing (length s.registers) dest h, cap_missing (length s.registers) a h, cap_value s.word k) refl
+same_range s (Apply dest policy op (ThreeRegisters a b c) how) h =
     rw (cap_missing (length s.registers) dest h, cap_missing (length s.registers) a h, cap_missing (length s.registers) b h, cap_missing (length s.registers) c h) refl
 
 -- a line in range is its capped form
@@ -63,26 +63,26 @@ same_line s (SetTo dest k) h e =
     let p = either_false (nat_le n dest || false) (not (is_value s.word k) || false) e in
     let q = either_false (nat_le n dest) false p.0 in
     rw (cap_there n dest h q.0, cap_small k (value_small s.word k (set_value s dest k e))) refl
-same_line s (Apply dest policy op (OneRegister a)) h e =
+same_line s (Apply dest policy op (OneRegister a) how) h e =
     let n = length s.registers in
     let p = either_false (nat_le n dest || (nat_le n a || false)) false e in
     let q = either_false (nat_le n dest) (nat_le n a || false) p.0 in
     let r = either_false (nat_le n a) false q.1 in
     rw (cap_there n dest h q.0, cap_there n a h r.0) refl
-same_line s (Apply dest policy op (TwoRegisters a b)) h e =
+same_line s (Apply dest policy op (TwoRegisters a b) how) h e =
     let n = length s.registers in
     let p = either_false (nat_le n dest || (nat_le n a || (nat_le n b || false))) false e in
     let q = either_false (nat_le n dest) (nat_le n a || (nat_le n b || false)) p.0 in
     let r = either_false (nat_le n a) (nat_le n b || false) q.1 in
     let t = either_false (nat_le n b) false r.1 in
     rw (cap_there n dest h q.0, cap_there n a h r.0, cap_there n b h t.0) refl
-same_line s (Apply dest policy op (RegisterAndInt a k)) h e =
+same_line s (Apply dest policy op (RegisterAndInt a k) how) h e =
     let n = length s.registers in
     let p = either_false (nat_le n dest || (nat_le n a || false)) (not (is_value s.word k) || false) e in
     let q = either_false (nat_le n dest) (nat_le n a || false) p.0 in
     let r = either_false (nat_le n a) false q.1 in
-    rw (cap_there n dest h q.0, cap_there n a h r.0, cap_small k (value_small s.word k (integer_value s dest policy op a k e))) refl
-same_line s (Apply dest policy op (ThreeRegisters a b c)) h e =
+    rw (cap_there n dest h q.0, cap_there n a h r.0, cap_small k (value_small s.word k (integer_value s dest policy op a k how e))) refl
+same_line s (Apply dest policy op (ThreeRegisters a b c) how) h e =
     let n = length s.registers in
     let p = either_false (nat_le n dest || (nat_le n a || (nat_le n b || (nat_le n c || false)))) false e in
     let q = either_false (nat_le n dest) (nat_le n a || (nat_le n b || (nat_le n c || false))) p.0 in
@@ -94,7 +94,7 @@ same_line s (Apply dest policy op (ThreeRegisters a b c)) h e =
 same_offer : (w : WordName) (l : ScriptLine) → is_unoffered w (capped l) ≡ is_unoffered w l
 unfolding is_unoffered
 same_offer w (SetTo dest k) = refl
-same_offer w (Apply dest policy op xs) = refl
+same_offer w (Apply dest policy op xs how) = refl
 
 -- what comes after a test that holds is not looked at
 blocked : (k : ℕ) (u o : Bool) (xs ys : List (Bool × Cause)) → o ≡ true → first_of ((u, Syntax k) ∷ (o, OutOfRange k) ∷ xs) ≡ first_of ((u, Syntax k) ∷ (o, OutOfRange k) ∷ ys)

@@ -7,6 +7,7 @@ use Rattle.std.specs.List.{list_any, All}
 use Rattle.std.proofs.lemmas.Bool.{cases_lt}
 use Rattle.std.proofs.lemmas.List.Elements.{All-set}
 use Rattle.std.proofs.lemmas.Int.{ints}
+use Rattle.fixed_word.specs.declared.rounding.Rounding.{Rounding}
 use Rattle.fixed_script.specs.declared.literal.Literal.{Literal}
 use Rattle.fixed_script.specs.Capped.{literal_value}
 use Rattle.fixed_text.specs.declared.names.WordName.{WordName}
@@ -19,7 +20,7 @@ use Rattle.fixed_calc.specs.declared.answer.Answer.TheVariants.{Absent, Bits, Fl
 use Rattle.fixed_script.specs.Text.{ScriptLine, SetTo, Apply, Operands, OneRegister, TwoRegisters, RegisterAndInt, ThreeRegisters}
 use Rattle.fixed_calc.specs.Projection.{plain, project}
 use Rattle.fixed_calc.specs.Offered.{is_offered}
-use Rattle.fixed_calc.specs.Machine.{State, Cell, cell_at, empty_cell, destination, registers_of, cause, integer, Taken, first_of, causes_of, row_causes, row_of, taken, is_unoffered, is_out_of_range, is_mismatched, is_value, is_signed, width, answer}
+use Rattle.fixed_calc.specs.Machine.{State, Cell, cell_at, empty_cell, destination, registers_of, cause, integer, Taken, first_of, causes_of, row_causes, row_by, taken, is_unoffered, is_out_of_range, is_mismatched, is_value, is_signed, width, answer}
 use Rattle.fixed_calc.specs.inside.Stepping.{AnswerTells, RowTells, IsApplied, TakenTells, taken_of}
 use Rattle.fixed_calc.specs.Step.{IsCell}
 use Rattle.fixed_calc.specs.declared.register.Taken.{Taken as RegistersTaken}
@@ -36,19 +37,19 @@ pub record PassesTests (s : State) (line : ScriptLine) : Type 0 where
 pub after_tests : (s : State) (line : ScriptLine) (k : ℕ) → PassesTests s line → cause s line k ≡ first_of (causes_of s line k)
 after_tests s line k t = rw (t.offered, t.in_range, t.one_fraction) refl
 
-apply_answer : (s : State) (dest : ℕ) (policy : Policy) (op : Op) (xs : Operands) → answer s (Apply dest policy op xs) ≡ project policy (is_signed s.word) (width s.word) (row_of op (taken s.registers xs))
+apply_answer : (s : State) (dest : ℕ) (policy : Policy) (op : Op) (xs : Operands) (how : Option Rounding) → answer s (Apply dest policy op xs how) ≡ project policy (is_signed s.word) (width s.word) (row_by how op (taken s.registers xs))
 unfolding answer
-apply_answer s dest policy op xs = refl
+apply_answer s dest policy op xs how = refl
 
 set_answer : (s : State) (dest : ℕ) (k : ℤ) → answer s (SetTo dest k) ≡ Bits k
 unfolding answer
 set_answer s dest k = refl
 
 -- what the policy makes of the row is what the line asks for
-pub apply_tells : (s : State) (line : ScriptLine) (dest : ℕ) (policy : Policy) (op : Op) (xs : Operands) (k : ℕ) (r : Result Answer Cause) → line ≡ Apply dest policy op xs → PassesTests s line
-    → RowTells (is_signed s.word) (width s.word) policy op (row_of op (taken s.registers xs)) k r → AnswerTells s line k r
-apply_tells s line dest policy op xs k (Ok a) is t h = (after_tests s line k t ∙ ap (λ (l : ScriptLine). first_of (causes_of s l k)) is ∙ h.0, h.1 ∙ sym (ap (answer s) is ∙ apply_answer s dest policy op xs))
-apply_tells s line dest policy op xs k (Err c) is t h = after_tests s line k t ∙ ap (λ (l : ScriptLine). first_of (causes_of s l k)) is ∙ h
+pub apply_tells : (s : State) (line : ScriptLine) (dest : ℕ) (policy : Policy) (op : Op) (xs : Operands) (how : Option Rounding) (k : ℕ) (r : Result Answer Cause) → line ≡ Apply dest policy op xs how → PassesTests s line
+    → RowTells (is_signed s.word) (width s.word) policy op (row_by how op (taken s.registers xs)) k r → AnswerTells s line k r
+apply_tells s line dest policy op xs how k (Ok a) is t h = (after_tests s line k t ∙ ap (λ (l : ScriptLine). first_of (causes_of s l k)) is ∙ h.0, h.1 ∙ sym (ap (answer s) is ∙ apply_answer s dest policy op xs how))
+apply_tells s line dest policy op xs how k (Err c) is t h = after_tests s line k t ∙ ap (λ (l : ScriptLine). first_of (causes_of s l k)) is ∙ h
 
 pub set_tells : (s : State) (line : ScriptLine) (dest : ℕ) (x : ℤ) (k : ℕ) → line ≡ SetTo dest x → PassesTests s line → AnswerTells s line k (Ok (Bits x))
 set_tells s line dest x k is t = (after_tests s line k t ∙ ap (λ (l : ScriptLine). first_of (causes_of s l k)) is, sym (ap (answer s) is ∙ set_answer s dest x))
@@ -61,8 +62,8 @@ either_false false b e = (refl, e)
 pub destination_there : (s : State) (line : ScriptLine) → is_out_of_range s line ≡ false → destination line < length s.registers
 unfolding is_out_of_range
 destination_there s (SetTo dest x) h = grind (arith, nat_tests)
-destination_there s (Apply dest policy op xs) h =
-    let p = either_false (list_any (λ r. nat_le (length s.registers) r) (registers_of (Apply dest policy op xs))) _ h in
+destination_there s (Apply dest policy op xs how) h =
+    let p = either_false (list_any (λ r. nat_le (length s.registers) r) (registers_of (Apply dest policy op xs how))) _ h in
     let q = either_false (nat_le (length s.registers) dest) _ p.0 in
     grind (arith, nat_tests, q.0)
 
@@ -77,10 +78,10 @@ set_value s dest x h =
     let q = either_false (not (is_value s.word x)) _ p.1 in
     not_not (is_value s.word x) q.0
 
-pub integer_value : (s : State) (dest : ℕ) (policy : Policy) (op : Op) (a : ℕ) (x : ℤ) → is_out_of_range s (Apply dest policy op (RegisterAndInt a x)) ≡ false → is_value s.word x ≡ true
+pub integer_value : (s : State) (dest : ℕ) (policy : Policy) (op : Op) (a : ℕ) (x : ℤ) (how : Option Rounding) → is_out_of_range s (Apply dest policy op (RegisterAndInt a x) how) ≡ false → is_value s.word x ≡ true
 unfolding is_out_of_range
-integer_value s dest policy op a x h =
-    let p = either_false (list_any (λ r. nat_le (length s.registers) r) (registers_of (Apply dest policy op (RegisterAndInt a x)))) _ h in
+integer_value s dest policy op a x how h =
+    let p = either_false (list_any (λ r. nat_le (length s.registers) r) (registers_of (Apply dest policy op (RegisterAndInt a x) how))) _ h in
     let q = either_false (not (is_value s.word x)) _ p.1 in
     not_not (is_value s.word x) q.0
 
@@ -91,8 +92,8 @@ size_of_literal l = by_sign l.below_zero l.magnitude
     by_sign false m = refl
     by_sign true m = omega (arith, ints)
 
-pub literal_small : (s : State) (dest : ℕ) (policy : Policy) (op : Op) (a : ℕ) (l : Literal) → is_out_of_range s (Apply dest policy op (RegisterAndInt a (literal_value l))) ≡ false → l.magnitude < 2 ^ 64
-literal_small s dest policy op a l h = omega (arith, value_small s.word (literal_value l) (integer_value s dest policy op a (literal_value l) h), size_of_literal l)
+pub literal_small : (s : State) (dest : ℕ) (policy : Policy) (op : Op) (a : ℕ) (l : Literal) (how : Option Rounding) → is_out_of_range s (Apply dest policy op (RegisterAndInt a (literal_value l)) how) ≡ false → l.magnitude < 2 ^ 64
+literal_small s dest policy op a l how h = omega (arith, value_small s.word (literal_value l) (integer_value s dest policy op a (literal_value l) how h), size_of_literal l)
 
 pub set_small : (s : State) (dest : ℕ) (l : Literal) → is_out_of_range s (SetTo dest (literal_value l)) ≡ false → l.magnitude < 2 ^ 64
 set_small s dest l h = omega (arith, value_small s.word (literal_value l) (set_value s dest (literal_value l) h), size_of_literal l)
@@ -137,7 +138,7 @@ project_valued w Strict op (Some x) k h = not_not (is_value w x) (no_overflow fa
 pub answer_valued : (s : State) (line : ScriptLine) (k : ℕ) → cause s line k ≡ None → IsValued s.word (answer s line)
 unfolding answer
 answer_valued s (SetTo dest x) k h = set_value s dest x (no_cause s (SetTo dest x) k h).0.in_range
-answer_valued s (Apply dest policy op xs) k h = project_valued s.word policy op (row_of op (taken s.registers xs)) k (no_cause s (Apply dest policy op xs) k h).1
+answer_valued s (Apply dest policy op xs how) k h = project_valued s.word policy op (row_by how op (taken s.registers xs)) k (no_cause s (Apply dest policy op xs how) k h).1
 
 -- what a line stores, and where
 pub record Stores (s : State) (line : ScriptLine) (a : Answer) : Type 0 where
@@ -182,35 +183,35 @@ pub record TakenCells (w : WordName) (t : Taken) : Type 0 where
   pub b : IsCell w t.b
   pub c : IsCell w t.c
 
-pub taken_cells : (s : State) (dest : ℕ) (policy : Policy) (op : Op) (xs : Operands) → All (IsCell s.word) s.registers → is_out_of_range s (Apply dest policy op xs) ≡ false → TakenCells s.word (taken s.registers xs)
-taken_cells s dest policy op (OneRegister a) all h = record { a = cell_is s.word s.registers a all; b = empty_is s.word; c = empty_is s.word }
-taken_cells s dest policy op (TwoRegisters a b) all h = record { a = cell_is s.word s.registers a all; b = cell_is s.word s.registers b all; c = empty_is s.word }
-taken_cells s dest policy op (RegisterAndInt a k) all h =
-    record { a = cell_is s.word s.registers a all; b = integer_cell s.word k (integer_value s dest policy op a k h); c = empty_is s.word }
-taken_cells s dest policy op (ThreeRegisters a b c) all h =
+pub taken_cells : (s : State) (dest : ℕ) (policy : Policy) (op : Op) (xs : Operands) (how : Option Rounding) → All (IsCell s.word) s.registers → is_out_of_range s (Apply dest policy op xs how) ≡ false → TakenCells s.word (taken s.registers xs)
+taken_cells s dest policy op (OneRegister a) how all h = record { a = cell_is s.word s.registers a all; b = empty_is s.word; c = empty_is s.word }
+taken_cells s dest policy op (TwoRegisters a b) how all h = record { a = cell_is s.word s.registers a all; b = cell_is s.word s.registers b all; c = empty_is s.word }
+taken_cells s dest policy op (RegisterAndInt a k) how all h =
+    record { a = cell_is s.word s.registers a all; b = integer_cell s.word k (integer_value s dest policy op a k how h); c = empty_is s.word }
+taken_cells s dest policy op (ThreeRegisters a b c) how all h =
     record { a = cell_is s.word s.registers a all; b = cell_is s.word s.registers b all; c = cell_is s.word s.registers c all }
 
-pub apply_offered : (w : WordName) (dest : ℕ) (policy : Policy) (op : Op) (xs : Operands) → is_unoffered w (Apply dest policy op xs) ≡ false → is_offered (is_signed w) policy op ≡ true
+pub apply_offered : (w : WordName) (dest : ℕ) (policy : Policy) (op : Op) (xs : Operands) (how : Option Rounding) → is_unoffered w (Apply dest policy op xs how) ≡ false → is_offered (is_signed w) policy op ≡ true
 unfolding is_unoffered
-apply_offered w dest policy op xs h = not_not (is_offered (is_signed w) policy op) h
+apply_offered w dest policy op xs how h = not_not (is_offered (is_signed w) policy op) h
 
 -- the registers that were taken for a line are those of its operands
 pub record Ready (s : State) (policy : Policy) (op : Op) (t : Taken) : Type 0 where
   pub offered : is_offered (is_signed s.word) policy op ≡ true
   pub cells : TakenCells s.word t
 
-pub ready : (s : State) (line : ScriptLine) (policy : Policy) (op : Op) (t : RegistersTaken) → IsApplied line policy op → PassesTests s line → All (IsCell s.word) s.registers → TakenTells s.registers line t → Ready s policy op (taken_of t)
-ready s (SetTo dest x) policy op t is tests all tells = absurd is
-ready s (Apply dest q r xs) policy op t is tests all tells = record {
-  offered = apply_offered s.word dest policy op xs (rw (is.0, is.1) at tests.offered);
-  cells = subst (TakenCells s.word) (sym tells) (taken_cells s dest q r xs all tests.in_range);
+pub ready : (s : State) (line : ScriptLine) (policy : Policy) (op : Op) (how : Option Rounding) (t : RegistersTaken) → IsApplied line policy op how → PassesTests s line → All (IsCell s.word) s.registers → TakenTells s.registers line t → Ready s policy op (taken_of t)
+ready s (SetTo dest x) policy op how t is tests all tells = absurd is
+ready s (Apply dest q r xs m) policy op how t is tests all tells = record {
+  offered = apply_offered s.word dest policy op xs m (rw (is.0, is.1) at tests.offered);
+  cells = subst (TakenCells s.word) (sym tells) (taken_cells s dest q r xs m all tests.in_range);
 }
 
-pub applied_tells : (s : State) (line : ScriptLine) (policy : Policy) (op : Op) (t : RegistersTaken) (k : ℕ) (r : Result Answer Cause) → IsApplied line policy op → PassesTests s line → TakenTells s.registers line t
-    → RowTells (is_signed s.word) (width s.word) policy op (row_of op (taken_of t)) k r → AnswerTells s line k r
-applied_tells s (SetTo dest x) policy op t k r is tests tells h = absurd is
-applied_tells s (Apply dest q o xs) policy op t k r is tests tells h =
-    apply_tells s (Apply dest q o xs) dest policy op xs k r (λ i. Apply dest (is.0 i) (is.1 i) xs) tests (subst (λ (u : Taken). RowTells (is_signed s.word) (width s.word) policy op (row_of op u) k r) tells h)
+pub applied_tells : (s : State) (line : ScriptLine) (policy : Policy) (op : Op) (how : Option Rounding) (t : RegistersTaken) (k : ℕ) (r : Result Answer Cause) → IsApplied line policy op how → PassesTests s line → TakenTells s.registers line t
+    → RowTells (is_signed s.word) (width s.word) policy op (row_by how op (taken_of t)) k r → AnswerTells s line k r
+applied_tells s (SetTo dest x) policy op how t k r is tests tells h = absurd is
+applied_tells s (Apply dest q o xs m) policy op how t k r is tests tells h =
+    apply_tells s (Apply dest q o xs m) dest policy op xs how k r (λ i. Apply dest (is.0 i) (is.1 i) xs (is.2 i)) tests (subst (λ (u : Taken). RowTells (is_signed s.word) (width s.word) policy op (row_by how op u) k r) tells h)
 
 pub valued_bits : (w : WordName) (a : Answer) (x : ℤ) → a ≡ Bits x → IsValued w a → is_value w x ≡ true
 valued_bits w a x is h = rw is at h

@@ -1,5 +1,5 @@
 -- The lines of a demonstration: each is a line, in one piece, and has no cause where its eight registers have one fraction.
-use Rattle.std.proofs.Common.{◌≡◌, ◌^◌, ◌<◌, ◌==◌, ℕ, zero, suc, pos, true, false, not, nat_le, List, [], ◌∷◌, length, None, refl, ◌∙◌, arith}
+use Rattle.std.proofs.Common.{◌≡◌, ◌^◌, ◌<◌, ◌==◌, ℕ, zero, suc, pos, true, false, not, nat_le, List, [], ◌∷◌, ◌++◌, length, None, refl, ◌∙◌, arith}
 use Rattle.std.specs.Bool.{⊤}
 use Rattle.std.specs.List.{All, list_all}
 use Rattle.std.specs.Cmp.Derive.{both_true}
@@ -88,7 +88,7 @@ set_tests s d t ready there small = record {
   one_fraction = refl;
 }
 
-one_tests : (s : State) (d a : ℕ) (policy : Policy) (op : Op) → is_offered true policy op ≡ true → IsReady s → d < 8 → a < 8 → PassesTests s (Apply d policy op (OneRegister a))
+one_tests : (s : State) (d a : ℕ) (policy : Policy) (op : Op) → is_offered true policy op ≡ true → IsReady s → d < 8 → a < 8 → PassesTests s (Apply d policy op (OneRegister a) None)
 unfolding is_unoffered is_out_of_range is_mismatched
 one_tests s d a policy op offered ready there first = record {
   offered = rw (ready.word, offered) refl;
@@ -96,7 +96,7 @@ one_tests s d a policy op offered ready there first = record {
   one_fraction = rw (same_fraction s a d ready first there) refl;
 }
 
-two_tests : (s : State) (d a b : ℕ) (policy : Policy) (op : Op) → is_offered true policy op ≡ true → IsReady s → d < 8 → a < 8 → b < 8 → PassesTests s (Apply d policy op (TwoRegisters a b))
+two_tests : (s : State) (d a b : ℕ) (policy : Policy) (op : Op) → is_offered true policy op ≡ true → IsReady s → d < 8 → a < 8 → b < 8 → PassesTests s (Apply d policy op (TwoRegisters a b) None)
 unfolding is_unoffered is_out_of_range is_mismatched
 two_tests s d a b policy op offered ready there first second = record {
   offered = rw (ready.word, offered) refl;
@@ -104,7 +104,7 @@ two_tests s d a b policy op offered ready there first second = record {
   one_fraction = rw (same_fraction s a d ready first there, same_fraction s b d ready second there) refl;
 }
 
-mul_add_tests : (s : State) (d a b c : ℕ) → IsReady s → d < 8 → a < 8 → b < 8 → c < 8 → PassesTests s (Apply d Wrapping MulAdd (ThreeRegisters a b c))
+mul_add_tests : (s : State) (d a b c : ℕ) → IsReady s → d < 8 → a < 8 → b < 8 → c < 8 → PassesTests s (Apply d Wrapping MulAdd (ThreeRegisters a b c) None)
 unfolding is_unoffered is_out_of_range is_mismatched is_offered
 mul_add_tests s d a b c ready there first second third = record {
   offered = refl;
@@ -112,7 +112,7 @@ mul_add_tests s d a b c ready there first second third = record {
   one_fraction = rw (same_fraction s a d ready first there, same_fraction s c d ready third there) refl;
 }
 
-add_prod_tests : (s : State) (d a b c : ℕ) → IsReady s → d < 8 → a < 8 → b < 8 → c < 8 → PassesTests s (Apply d Overflowing AddProd (ThreeRegisters a b c))
+add_prod_tests : (s : State) (d a b c : ℕ) → IsReady s → d < 8 → a < 8 → b < 8 → c < 8 → PassesTests s (Apply d Overflowing AddProd (ThreeRegisters a b c) None)
 unfolding is_unoffered is_out_of_range is_mismatched is_offered
 add_prod_tests s d a b c ready there first second third = record {
   offered = refl;
@@ -121,39 +121,39 @@ add_prod_tests s d a b c ready there first second third = record {
 }
 
 -- the only rows that may be undefined are under checked
-add_total : (s : State) (d a b k : ℕ) → first_of (causes_of s (Apply d Wrapping Add (TwoRegisters a b)) k) ≡ None
+add_total : (s : State) (d a b k : ℕ) → first_of (causes_of s (Apply d Wrapping Add (TwoRegisters a b) None) k) ≡ None
 unfolding row_causes exact
 add_total s d a b k = refl
 
-sub_total : (s : State) (d a b k : ℕ) → first_of (causes_of s (Apply d Overflowing Sub (TwoRegisters a b)) k) ≡ None
+sub_total : (s : State) (d a b k : ℕ) → first_of (causes_of s (Apply d Overflowing Sub (TwoRegisters a b) None) k) ≡ None
 unfolding row_causes exact
 sub_total s d a b k = refl
 
-mul_total : (s : State) (d a b k : ℕ) → first_of (causes_of s (Apply d Saturating Mul (TwoRegisters a b)) k) ≡ None
+mul_total : (s : State) (d a b k : ℕ) → first_of (causes_of s (Apply d Saturating Mul (TwoRegisters a b) None) k) ≡ None
 unfolding row_causes exact
 mul_total s d a b k = refl
 
-mul_add_total : (s : State) (d a b c k : ℕ) → first_of (causes_of s (Apply d Wrapping MulAdd (ThreeRegisters a b c)) k) ≡ None
+mul_add_total : (s : State) (d a b c k : ℕ) → first_of (causes_of s (Apply d Wrapping MulAdd (ThreeRegisters a b c) None) k) ≡ None
 unfolding row_causes exact
 mul_add_total s d a b c k = refl
 
-add_prod_total : (s : State) (d a b c k : ℕ) → first_of (causes_of s (Apply d Overflowing AddProd (ThreeRegisters a b c)) k) ≡ None
+add_prod_total : (s : State) (d a b c k : ℕ) → first_of (causes_of s (Apply d Overflowing AddProd (ThreeRegisters a b c) None) k) ≡ None
 unfolding row_causes exact
 add_prod_total s d a b c k = refl
 
-checked_total : (s : State) (d : ℕ) (op : Op) (xs : Operands) (k : ℕ) → first_of (causes_of s (Apply d Checked op xs) k) ≡ None
+checked_total : (s : State) (d : ℕ) (op : Op) (xs : Operands) (k : ℕ) → first_of (causes_of s (Apply d Checked op xs None) k) ≡ None
 unfolding row_causes
 checked_total s d op xs k = refl
 
 -- the text of each line is in one piece
-operands_lack : (xs : Operands) → list_all (lacks 10) (operand_tokens xs) ≡ true
+operands_lack : (xs : Operands) → list_all (lacks 10) (operand_tokens xs ++ []) ≡ true
 operands_lack (OneRegister a) = both_true (natural_lacks 10 a refl) refl
 operands_lack (TwoRegisters a b) = both_true (natural_lacks 10 a refl) (both_true (natural_lacks 10 b refl) refl)
 operands_lack (RegisterAndInt a k) = both_true (natural_lacks 10 a refl) (both_true (whole_lacks 10 k refl refl) refl)
 operands_lack (ThreeRegisters a b c) = both_true (natural_lacks 10 a refl) (both_true (natural_lacks 10 b refl) (both_true (natural_lacks 10 c refl) refl))
 
-applied_lacks : (d : ℕ) (policy : Policy) (op : Op) (xs : Operands) → lacks 10 (policy_name policy) ≡ true → lacks 10 (op_name op) ≡ true → lacks 10 (line_text (Apply d policy op xs)) ≡ true
-applied_lacks d policy op xs p o = joined_lack (line_tokens (Apply d policy op xs)) (both_true (natural_lacks 10 d refl) (both_true p (both_true o (operands_lack xs))))
+applied_lacks : (d : ℕ) (policy : Policy) (op : Op) (xs : Operands) → lacks 10 (policy_name policy) ≡ true → lacks 10 (op_name op) ≡ true → lacks 10 (line_text (Apply d policy op xs None)) ≡ true
+applied_lacks d policy op xs p o = joined_lack (line_tokens (Apply d policy op xs None)) (both_true (natural_lacks 10 d refl) (both_true p (both_true o (operands_lack xs))))
 
 set_lacks : (d t : ℕ) → lacks 10 (line_text (SetTo d (pos t))) ≡ true
 set_lacks d t = joined_lack (line_tokens (SetTo d (pos t))) (both_true (natural_lacks 10 d refl) (both_true (natural_lacks 10 t refl) refl))
@@ -168,12 +168,12 @@ set_drawn d t there small = record {
 }
 
 apply_drawn : (d : ℕ) (policy : Policy) (op : Op) (xs : Operands) → shape op ≡ shape_of xs → lacks 10 (policy_name policy) ≡ true → lacks 10 (op_name op) ≡ true → d < 8
-    → ((s : State) → IsReady s → PassesTests s (Apply d policy op xs)) → ((s : State) (k : ℕ) → first_of (causes_of s (Apply d policy op xs) k) ≡ None) → IsDrawn (Apply d policy op xs)
+    → ((s : State) → IsReady s → PassesTests s (Apply d policy op xs None)) → ((s : State) (k : ℕ) → first_of (causes_of s (Apply d policy op xs None) k) ≡ None) → IsDrawn (Apply d policy op xs None)
 apply_drawn d policy op xs shaped p o there tests total = record {
-  is_line = shaped;
+  is_line = (shaped, refl);
   one_piece = applied_lacks d policy op xs p o;
   there = there;
-  no_cause = λ s k ready. after_tests s (Apply d policy op xs) k (tests s ready) ∙ total s k;
+  no_cause = λ s k ready. after_tests s (Apply d policy op xs None) k (tests s ready) ∙ total s k;
 }
 
 -- each line of a list is such a line

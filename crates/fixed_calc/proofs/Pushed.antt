@@ -1,5 +1,5 @@
 -- A line of a demonstration, from its destination, the names of its policy and operation, and its operands.
-use Rattle.std.proofs.Common.{◌≡◌, ◌+◌, ◌/◌, ◌%◌, ℕ, suc, List, [], ◌∷◌, ◌++◌, append_assoc, add-one, map, get_or, Result, OnOk, pos, refl, sym, ap, ◌∙◌, subst, arith, codes}
+use Rattle.std.proofs.Common.{◌≡◌, ◌+◌, ◌/◌, ◌%◌, ℕ, suc, List, [], ◌∷◌, ◌++◌, append_assoc, add-one, map, get_or, None, Result, OnOk, pos, refl, sym, ap, ◌∙◌, subst, arith, codes}
 use Rattle.std.specs.List.{flat_map, join_with_byte}
 use Rattle.std.proofs.lemmas.List.{append-nil}
 use Rattle.std.proofs.lemmas.List.Folds.{flat_map-map}
@@ -22,7 +22,7 @@ operands_text registers = flat_map (λ register. 32 ∷ register_text register) 
 
 -- a text, and the line behind it
 applied_line : (old : List ℕ) (d : ℕ) (policy : Policy) (op : Op) (xs : Operands) (registers names : List ℕ) → operand_tokens xs ≡ map register_text registers → names ≡ (32 ∷ policy_name policy) ++ (32 ∷ op_name op)
-    → old ++ register_text d ++ names ++ operands_text registers ≡ old ++ line_text (Apply d policy op xs)
+    → old ++ register_text d ++ names ++ operands_text registers ≡ old ++ line_text (Apply d policy op xs None)
 applied_line old d policy op xs registers names tokens is =
     let p = 32 ∷ policy_name policy in
     let o = 32 ∷ op_name op in
@@ -30,6 +30,7 @@ applied_line old d policy op xs registers names tokens is =
     append_assoc (old ++ register_text d) names rest ∙ append_assoc old (register_text d) (names ++ rest)
     ∙ ap (λ us. old ++ (register_text d ++ us)) (ap (λ ns. ns ++ rest) is ∙ append_assoc p o rest ∙ ap (λ us. p ++ (o ++ us)) (sym (flat_map-map (λ u. 32 ∷ u) register_text registers) ∙ ap (flat_map (λ u. 32 ∷ u)) (sym tokens)))
     ∙ ap (λ us. old ++ us) (sym (spaced (register_text d) (policy_name policy ∷ op_name op ∷ operand_tokens xs)))
+    ∙ ap (λ us. old ++ join_with_byte 32 (register_text d ∷ policy_name policy ∷ op_name op ∷ us)) (sym (append-nil (operand_tokens xs)))
 
 -- the line of a draw whose last digit is known
 drawn_at : (t o : ℕ) → t / 512 % 8 ≡ o → drawn_line t ≡ get_or (choices t (t % 8) (t / 8 % 8) (t / 64 % 8)) o (SetTo (t % 8) (pos t))
@@ -43,7 +44,7 @@ pub adds_set : {T E : Type 0} (r : Result T E) (old new : List ℕ) (t : ℕ) �
 adds_set r old new t is h = subst (λ (l : ScriptLine). OnOk r (new ≡ old ++ line_text l)) (sym (drawn_at t 0 is)) h
 
 pub adds_applied : {T E : Type 0} (r : Result T E) (old new : List ℕ) (t o : ℕ) (policy : Policy) (op : Op) (xs : Operands) (registers names : List ℕ) → t / 512 % 8 ≡ o
-    → get_or (choices t (t % 8) (t / 8 % 8) (t / 64 % 8)) o (SetTo (t % 8) (pos t)) ≡ Apply (t % 8) policy op xs → operand_tokens xs ≡ map register_text registers → names ≡ (32 ∷ policy_name policy) ++ (32 ∷ op_name op)
+    → get_or (choices t (t % 8) (t / 8 % 8) (t / 64 % 8)) o (SetTo (t % 8) (pos t)) ≡ Apply (t % 8) policy op xs None → operand_tokens xs ≡ map register_text registers → names ≡ (32 ∷ policy_name policy) ++ (32 ∷ op_name op)
     → OnOk r (new ≡ old ++ register_text (t % 8) ++ names ++ operands_text registers) → OnOk r (new ≡ old ++ line_text (drawn_line t))
 adds_applied r old new t o policy op xs registers names is line tokens names_are h =
     subst (λ (l : ScriptLine). OnOk r (new ≡ old ++ line_text l)) (sym (drawn_at t o is ∙ line))

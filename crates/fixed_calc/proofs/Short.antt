@@ -4,6 +4,7 @@ use Rattle.std.specs.Prelude.{slice_index}
 use Rattle.std.proofs.lemmas.List.{length-take, length-map}
 use Rattle.std.proofs.lemmas.List.Splits.{length-slice_split}
 use Rattle.fixed_text.specs.declared.names.WordName.{WordName}
+use Rattle.fixed_word.specs.declared.rounding.Rounding.{Rounding}
 use Rattle.fixed_script.specs.declared.names.Policy.{Policy}
 use Rattle.fixed_script.specs.declared.names.Policy.TheVariants.{Checked, Saturating, Wrapping, Overflowing, Strict}
 use Rattle.fixed_script.specs.declared.names.Op.{Op}
@@ -18,7 +19,7 @@ use Rattle.fixed_script.proofs.HeaderLaws.{tokens_of_header}
 use Rattle.std.proofs.lemmas.List.Sums.{sum_by-take-le}
 use Rattle.fixed_word.specs.Format.{wrap, clamp}
 use Rattle.fixed_calc.specs.Projection.{plain, project}
-use Rattle.fixed_calc.specs.Machine.{State, cause, answer, is_signed, width, is_value, row_of, taken}
+use Rattle.fixed_calc.specs.Machine.{State, cause, answer, is_signed, width, is_value, row_by, taken}
 use Rattle.fixed_script.specs.Lines.{line_of, header_of, then_of, line_of_piece, header_of_piece}
 use Rattle.fixed_calc.specs.Meaning.{fractions_of}
 use Rattle.fixed_calc.specs.Rooms.{spaces_in}
@@ -26,11 +27,15 @@ use Rattle.fixed_calc.proofs.Fits.{value_small}
 use Rattle.fixed_calc.proofs.Causes.{IsValued, answer_valued}
 use Rattle.fixed_script.proofs.TextsRead.{reads_lines, reads_headers}
 
-line_length : (dest : ℕ) (policy : Policy) (op : Op) (xs : Operands) → 6 + length (policy_name policy) ≤ length (line_text (Apply dest policy op xs))
-line_length dest policy op (OneRegister a) = simp length-append (omega (arith, length_natural_some dest, length_natural_some a))
-line_length dest policy op (TwoRegisters a b) = simp length-append (omega (arith, length_natural_some dest, length_natural_some a))
-line_length dest policy op (RegisterAndInt a k) = simp length-append (omega (arith, length_natural_some dest, length_natural_some a))
-line_length dest policy op (ThreeRegisters a b c) = simp length-append (omega (arith, length_natural_some dest, length_natural_some a))
+line_length : (dest : ℕ) (policy : Policy) (op : Op) (xs : Operands) (how : Option Rounding) → 6 + length (policy_name policy) ≤ length (line_text (Apply dest policy op xs how))
+line_length dest policy op (OneRegister a) None = simp length-append (omega (arith, length_natural_some dest, length_natural_some a))
+line_length dest policy op (OneRegister a) (Some r) = simp length-append (omega (arith, length_natural_some dest, length_natural_some a))
+line_length dest policy op (TwoRegisters a b) None = simp length-append (omega (arith, length_natural_some dest, length_natural_some a))
+line_length dest policy op (TwoRegisters a b) (Some r) = simp length-append (omega (arith, length_natural_some dest, length_natural_some a))
+line_length dest policy op (RegisterAndInt a k) None = simp length-append (omega (arith, length_natural_some dest, length_natural_some a))
+line_length dest policy op (RegisterAndInt a k) (Some r) = simp length-append (omega (arith, length_natural_some dest, length_natural_some a))
+line_length dest policy op (ThreeRegisters a b c) None = simp length-append (omega (arith, length_natural_some dest, length_natural_some a))
+line_length dest policy op (ThreeRegisters a b c) (Some r) = simp length-append (omega (arith, length_natural_some dest, length_natural_some a))
 
 bits_short : (w : WordName) (x : ℤ) → is_value w x ≡ true → length (answer_text (Bits x)) ≤ 22
 bits_short w x h = simp length-append (omega (arith, length_whole x (value_small w x h)))
@@ -54,9 +59,9 @@ project_short w Strict (Some x) h = omega (arith, bits_short w x h)
 pub answer_short : (s : State) (l : ScriptLine) (k : ℕ) → cause s l k ≡ None → length (answer_text (answer s l)) ≤ 2 * length (line_text l) + 2
 unfolding answer
 answer_short s (SetTo dest x) k h = simp length-append (omega arith)
-answer_short s (Apply dest policy op xs) k h =
-    let short = project_short s.word policy (row_of op (taken s.registers xs)) (answer_valued s (Apply dest policy op xs) k h) in
-    omega (arith, short, line_length dest policy op xs)
+answer_short s (Apply dest policy op xs how) k h =
+    let short = project_short s.word policy (row_by how op (taken s.registers xs)) (answer_valued s (Apply dest policy op xs how) k h) in
+    omega (arith, short, line_length dest policy op xs how)
 
 pub body_length : (p q : List ℕ) → body p ≡ Some q → length q + 1 ≤ length p
 body_length [] q e = cc

@@ -13,7 +13,7 @@ use Rattle.fixed_calc.specs.declared.cause.Cause.TheVariants.{ZeroDivisor, Negat
 use Rattle.fixed_script.specs.Text.{ScriptLine, SetTo, Apply}
 use Rattle.fixed_calc.specs.Offered.{is_offered}
 use Rattle.fixed_calc.specs.Projection.{plain, flagged, project, is_strict}
-use Rattle.fixed_calc.specs.Machine.{State, is_signed, width, is_value, is_unoffered, is_out_of_range, is_mismatched, literals_of, registers_of, lacks_row, is_sqrt, exceeds, row_of, taken, row_causes, causes_of, first_of, cause, answer, move, stored, destination}
+use Rattle.fixed_calc.specs.Machine.{State, is_signed, width, is_value, is_unoffered, is_out_of_range, is_mismatched, literals_of, registers_of, lacks_row, is_sqrt, exceeds, row_by, taken, row_causes, causes_of, first_of, cause, answer, move, stored, destination}
 use Rattle.fixed_calc.specs.OneNumber.{WhereItFits}
 use Rattle.fixed_calc.specs.Step.{state_in}
 use Rattle.fixed_calc.specs.Widening.{IsWider, row_fits}
@@ -90,7 +90,7 @@ module _ (s : State) (wide : WordName) (wider : IsWider s.word wide) where
   same_offer : (line : ScriptLine) → is_unoffered wide line ≡ is_unoffered s.word line
   unfolding is_unoffered
   same_offer (SetTo dest k) = refl
-  same_offer (Apply dest policy op xs) = ap (λ (b : Bool). not (is_offered b policy op)) wider.same_sign
+  same_offer (Apply dest policy op xs how) = ap (λ (b : Bool). not (is_offered b policy op)) wider.same_sign
 
   still_in_range : (line : ScriptLine) → is_out_of_range s line ≡ false → is_out_of_range (widened wide s) line ≡ false
   unfolding is_out_of_range
@@ -112,8 +112,8 @@ module _ (s : State) (wide : WordName) (wider : IsWider s.word wide) where
 
   same_causes : (line : ScriptLine) (k : ℕ) → row_fits s line ≡ true → causes_of (widened wide s) line k ≡ causes_of s line k
   same_causes (SetTo dest x) k e = refl
-  same_causes (Apply dest policy op xs) k e =
-      let row = row_of op (taken s.registers xs) in
+  same_causes (Apply dest policy op xs how) k e =
+      let row = row_by how op (taken s.registers xs) in
       ap (λ (b : Bool). row_causes b (width wide) policy op row k) wider.same_sign
       ∙ same_row_causes (is_signed s.word) (width s.word) (width wide) more_or_equal policy op row k (not_true (exceeds (is_signed s.word) (width s.word) row) e)
 
@@ -125,8 +125,8 @@ module _ (s : State) (wide : WordName) (wider : IsWider s.word wide) where
   pub same_answer : (line : ScriptLine) → row_fits s line ≡ true → answer (widened wide s) line ≡ answer s line
   unfolding answer
   same_answer (SetTo dest x) e = refl
-  same_answer (Apply dest policy op xs) e =
-      let row = row_of op (taken s.registers xs) in
+  same_answer (Apply dest policy op xs how) e =
+      let row = row_by how op (taken s.registers xs) in
       ap (λ (b : Bool). project policy b (width wide) row) wider.same_sign
       ∙ same_projection (is_signed s.word) (width s.word) (width wide) more_or_equal policy row (is_width s.word) (is_width wide) (not_true (exceeds (is_signed s.word) (width s.word) row) e)
 

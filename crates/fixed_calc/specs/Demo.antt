@@ -1,5 +1,5 @@
 -- The script of `demo N`: a header, and N lines that a generator of numbers draws. Its answers, and their summary.
-use Rattle.std.specs.Prelude.{ℕ, zero, suc, ◌+◌, ◌*◌, ◌/◌, ◌%◌, ◌^◌, Bool, true, false, pos, List, [], ◌∷◌, ◌++◌, replicate, slice_index_or, flat_map, count_by, codes}
+use Rattle.std.specs.Prelude.{ℕ, zero, suc, ◌+◌, ◌*◌, ◌/◌, ◌%◌, ◌^◌, Bool, true, false, pos, List, [], ◌∷◌, ◌++◌, replicate, slice_index_or, flat_map, count_by, codes, None}
 use Rattle.fixed_word.specs.Decimal.{natural_text}
 use Rattle.fixed_text.specs.declared.names.WordName.TheVariants.{I64}
 use Rattle.fixed_script.specs.declared.names.Policy.TheVariants.{Checked, Saturating, Wrapping, Overflowing}
@@ -32,13 +32,13 @@ octal_digit t i = t / 8 ^ i % 8
 abbrev pub choices : ℕ → ℕ → ℕ → ℕ → List ScriptLine
 choices t d a b =
     SetTo d (pos t)
-    ∷ Apply d Wrapping Add (TwoRegisters a b)
-    ∷ Apply d Overflowing Sub (TwoRegisters a b)
-    ∷ Apply d Saturating Mul (TwoRegisters a b)
-    ∷ Apply d Checked Div (TwoRegisters a b)
-    ∷ Apply d Wrapping MulAdd (ThreeRegisters a b d)
-    ∷ Apply d Overflowing AddProd (ThreeRegisters d a b)
-    ∷ Apply d Checked Sqrt (OneRegister a)
+    ∷ Apply d Wrapping Add (TwoRegisters a b) None
+    ∷ Apply d Overflowing Sub (TwoRegisters a b) None
+    ∷ Apply d Saturating Mul (TwoRegisters a b) None
+    ∷ Apply d Checked Div (TwoRegisters a b) None
+    ∷ Apply d Wrapping MulAdd (ThreeRegisters a b d) None
+    ∷ Apply d Overflowing AddProd (ThreeRegisters d a b) None
+    ∷ Apply d Checked Sqrt (OneRegister a) None
     ∷ []
 
 -- digits 0, 1 and 2 are the destination and the operands, and digit 3 chooses

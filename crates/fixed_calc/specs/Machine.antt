@@ -1,6 +1,7 @@
 -- The register machine: its states, the cause of a line, and its move.
 use Rattle.std.specs.Prelude.{ℕ, ◌==◌, nat_le, ◌||◌, ◌&&◌, not, Bool, true, false, ℤ, pos, List, [], ◌∷◌, get_or, set, length, Option, Some, None, is_none, if◌then◌else◌}
 use Rattle.std.specs.List.{list_any}
+use Rattle.fixed_word.specs.declared.rounding.Rounding.{Rounding}
 use Rattle.fixed_text.specs.declared.names.WordName.{WordName}
 use Rattle.fixed_text.specs.declared.names.WordName.TheVariants.{I8, I16, I32, I64, U8, U16, U32, U64}
 use Rattle.fixed_script.specs.declared.names.Policy.{Policy}
@@ -10,7 +11,7 @@ use Rattle.fixed_calc.specs.declared.answer.Answer.{Answer}
 use Rattle.fixed_calc.specs.declared.answer.Answer.TheVariants.{Absent, Bits, Flagged}
 use Rattle.fixed_script.specs.Text.{ScriptLine, SetTo, Apply, Operands, OneRegister, TwoRegisters, RegisterAndInt, ThreeRegisters}
 use Rattle.fixed_word.specs.Format.{fits}
-use Rattle.fixed_calc.specs.Rows.{exact}
+use Rattle.fixed_calc.specs.Rows.{exact, exact_by}
 use Rattle.fixed_calc.specs.Projection.{project, is_checked, is_strict}
 use Rattle.fixed_calc.specs.Offered.{is_offered}
 use Rattle.fixed_calc.specs.declared.cause.Cause.{Cause}
@@ -58,7 +59,7 @@ cell_at cells r = get_or cells r empty_cell
 -- ---- what a line names
 abbrev pub destination : ScriptLine → ℕ
 destination (SetTo dest k) = dest
-destination (Apply dest policy op xs) = dest
+destination (Apply dest policy op xs rounding) = dest
 
 abbrev pub operand_registers : Operands → List ℕ
 operand_registers (OneRegister a) = a ∷ []
@@ -68,12 +69,12 @@ operand_registers (ThreeRegisters a b c) = a ∷ b ∷ c ∷ []
 
 abbrev pub registers_of : ScriptLine → List ℕ
 registers_of (SetTo dest k) = dest ∷ []
-registers_of (Apply dest policy op xs) = dest ∷ operand_registers xs
+registers_of (Apply dest policy op xs rounding) = dest ∷ operand_registers xs
 
 abbrev pub literals_of : ScriptLine → List ℤ
 literals_of (SetTo dest k) = k ∷ []
-literals_of (Apply dest policy op (RegisterAndInt a k)) = k ∷ []
-literals_of (Apply dest policy op xs) = []
+literals_of (Apply dest policy op (RegisterAndInt a k) rounding) = k ∷ []
+literals_of (Apply dest policy op xs rounding) = []
 
 -- the operands that have to have the destination's fraction
 abbrev pub tied_of_three : Op → ℕ → ℕ → ℕ → List ℕ
@@ -88,7 +89,7 @@ tied op (ThreeRegisters a b c) = tied_of_three op a b c
 
 abbrev pub tied_registers : ScriptLine → List ℕ
 tied_registers (SetTo dest k) = []
-tied_registers (Apply dest policy op xs) = tied op xs
+tied_registers (Apply dest policy op xs rounding) = tied op xs
 
 -- ---- the row of a line
 -- three operands, of which a line takes the first ones; an integer has no fraction
@@ -109,10 +110,14 @@ taken cells (ThreeRegisters a b c) = record { a = cell_at cells a; b = cell_at c
 abbrev pub row_of : Op → Taken → Option ℤ
 row_of op t = exact op t.a.bits t.b.bits t.c.bits t.a.fraction t.b.fraction t.c.fraction
 
+-- with the rounding that a line names, if it names one
+abbrev pub row_by : Option Rounding → Op → Taken → Option ℤ
+row_by rounding op t = exact_by rounding op t.a.bits t.b.bits t.c.bits t.a.fraction t.b.fraction t.c.fraction
+
 -- ---- causes
 unfoldable pub is_unoffered : WordName → ScriptLine → Bool
 is_unoffered word (SetTo dest k) = false
-is_unoffered word (Apply dest policy op xs) = not (is_offered (is_signed word) policy op)
+is_unoffered word (Apply dest policy op xs rounding) = not (is_offered (is_signed word) policy op)
 
 unfoldable pub is_out_of_range : State → ScriptLine → Bool
 is_out_of_range s line = list_any (λ r. nat_le (length s.registers) r) (registers_of line) || list_any (λ k. not (is_value s.word k)) (literals_of line)
@@ -138,7 +143,7 @@ row_causes signed n policy op row k =
 
 abbrev pub causes_of : State → ScriptLine → ℕ → List (Bool × Cause)
 causes_of s (SetTo dest x) k = []
-causes_of s (Apply dest policy op xs) k = row_causes (is_signed s.word) (width s.word) policy op (row_of op (taken s.registers xs)) k
+causes_of s (Apply dest policy op xs rounding) k = row_causes (is_signed s.word) (width s.word) policy op (row_by rounding op (taken s.registers xs)) k
 
 -- the first that holds
 abbrev pub first_of : List (Bool × Cause) → Option Cause
@@ -152,7 +157,7 @@ cause s line k =
 -- ---- moves
 unfoldable pub answer : State → ScriptLine → Answer
 answer s (SetTo dest k) = Bits k
-answer s (Apply dest policy op xs) = project policy (is_signed s.word) (width s.word) (row_of op (taken s.registers xs))
+answer s (Apply dest policy op xs rounding) = project policy (is_signed s.word) (width s.word) (row_by rounding op (taken s.registers xs))
 
 abbrev pub stored : List Cell → ℕ → Answer → List Cell
 stored cells dest Absent = cells

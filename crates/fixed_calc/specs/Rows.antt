@@ -1,8 +1,10 @@
--- The row of each operation of the calculator.
-use Rattle.std.specs.Prelude.{ℕ, ℤ, Option, Some}
+-- The row of each operation of the calculator, and of the six that may name their rounding.
+use Rattle.std.specs.Prelude.{ℕ, ℤ, Option, Some, None}
+use Rattle.fixed_word.specs.declared.rounding.Rounding.{Rounding}
 use Rattle.fixed_script.specs.declared.names.Op.{Op}
 use Rattle.fixed_script.specs.declared.names.Op.TheVariants.{Neg, Add, Sub, Mul, Div, Recip, MulAdd, AddProd, MulInt, DivInt, DivEuclid, DivEuclidInt, RemEuclidInt, NextMultipleOf, Dist, Sqrt, Abs, Signum, Rem, RemInt, RemEuclid, NextPowerOfTwo}
-use Rattle.fixed_kernel.specs.Rows.{exact_neg, exact_add, exact_sub, exact_mul, exact_mul_add, exact_add_prod, exact_mul_int, exact_dist, exact_abs, exact_signum, exact_next_power_of_two, row_div, row_recip, row_div_int, row_div_euclid, row_div_euclid_int, row_rem_euclid_int, row_next_multiple_of, row_sqrt, row_rem, row_rem_int, row_rem_euclid}
+use Rattle.fixed_kernel.specs.RoundedRows.{rounded_mul, rounded_div, rounded_recip, rounded_mul_add, rounded_add_prod, rounded_div_int}
+use Rattle.fixed_kernel.specs.Rows.{by_divisor, exact_neg, exact_add, exact_sub, exact_mul, exact_mul_add, exact_add_prod, exact_mul_int, exact_dist, exact_abs, exact_signum, exact_next_power_of_two, row_div, row_recip, row_div_int, row_div_euclid, row_div_euclid_int, row_rem_euclid_int, row_next_multiple_of, row_sqrt, row_rem, row_rem_int, row_rem_euclid}
 
 -- The exact number of units of the result, or nothing where the row is undefined.
 -- The operands stand in the order of the text, and f, g, h are their fractions; an operation looks at its own alone.
@@ -29,3 +31,18 @@ exact Rem a b _ _ _ _ = row_rem a b
 exact RemInt a k _ f _ _ = row_rem_int a k f
 exact RemEuclid a b _ _ _ _ = row_rem_euclid a b
 exact NextPowerOfTwo a _ _ _ _ _ = Some (exact_next_power_of_two a)
+
+-- the same with a rounding that is named; the other operations take none
+unfoldable pub exact_rounded : Rounding → Op → ℤ → ℤ → ℤ → ℕ → ℕ → ℕ → Option ℤ
+exact_rounded r Mul a b _ f _ _ = Some (rounded_mul a b f r)
+exact_rounded r Div a b _ f _ _ = by_divisor b (rounded_div a b f r)
+exact_rounded r Recip a _ _ f _ _ = by_divisor a (rounded_recip a f r)
+exact_rounded r MulAdd a m c _ g _ = Some (rounded_mul_add a m c g r)
+exact_rounded r AddProd c a b f g h = Some (rounded_add_prod c a b f g h r)
+exact_rounded r DivInt a k _ _ _ _ = by_divisor k (rounded_div_int a k r)
+exact_rounded r op a b c f g h = exact op a b c f g h
+
+-- with the rounding that a line names, if it names one
+abbrev pub exact_by : Option Rounding → Op → ℤ → ℤ → ℤ → ℕ → ℕ → ℕ → Option ℤ
+exact_by None op a b c f g h = exact op a b c f g h
+exact_by (Some r) op a b c f g h = exact_rounded r op a b c f g h

@@ -1,4 +1,6 @@
--- The types of a script's text, offered again: they are declared in fixed_text and fixed_script.
+-- The types of a script's text, offered again: they are declared in fixed_word, fixed_text and fixed_script.
+pub use Rattle.fixed_word.specs.declared.rounding.Rounding.{Rounding}
+pub use Rattle.fixed_word.specs.declared.rounding.Rounding.TheVariants.{Down, Zero, Even}
 pub use Rattle.fixed_text.specs.declared.names.WordName.{WordName}
 pub use Rattle.fixed_text.specs.declared.names.WordName.TheVariants.{I8, I16, I32, I64, U8, U16, U32, U64}
 pub use Rattle.fixed_script.specs.declared.names.Policy.{Policy}

@@ -35,7 +35,7 @@ pub use answer::Answer;
 pub use cause::{Cause, RunFault};
 pub use demo::{Script, demo_script};
 pub use fixed_script::{
-    Fractions, Header, Line, Literal, Op, Policy, WordName, parse_header, parse_line,
+    Fractions, Header, Line, Literal, Op, Policy, Rounding, WordName, parse_header, parse_line,
 };
 pub use memory::{MemorySink, MemorySource};
 pub use outside::{Failed, Refusal, Sink, Source};

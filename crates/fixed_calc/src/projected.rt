@@ -4,18 +4,19 @@ ghost use Rattle.std.specs.Prelude.{◌≡◌, ◌≤◌, ◌<◌, ◌^◌, ℕ,
 ghost use Rattle.fixed_word.specs.Format.{fits};
 ghost use Rattle.fixed_word.specs.Standing.{StandsFor};
 ghost use Rattle.fixed_calc.specs.Offered.{is_offered};
-ghost use Rattle.fixed_calc.specs.Machine.{row_of, is_signed, width};
+ghost use Rattle.fixed_calc.specs.Machine.{row_by, is_signed, width};
 ghost use Rattle.fixed_calc.specs.Step.{FitsFormat, IsCell, cell_of};
 ghost use Rattle.fixed_calc.specs.inside.Stepping.{NumberTells, RowTells, taken_of};
 
 use crate::answer::Answer;
 use crate::cause::Cause;
 use crate::register::{Register, Taken, with_sign};
-use crate::rows::{Operand, outcome_as};
+use crate::rows::{Operand, outcome_by};
 use fixed_script::{Op, Policy};
 use fixed_text::WordName;
 use fixed_word::{
-    Outcome, RawWord, Side, Word, checked_of, overflowing_of, saturating_of, strict_of, wrapping_of,
+    Outcome, RawWord, Rounding, Side, Word, checked_of, overflowing_of, saturating_of, strict_of,
+    wrapping_of,
 };
 
 /// The number of a word.
@@ -90,17 +91,23 @@ fn unanswered(policy: Policy, op: Op, number: u64) -> Result<Answer, Cause>
 
 /// The answer of an operation on registers of a word, or its cause.
 #[tactic(auto, unfolding(crate::specs::Machine::row_causes))]
-fn answer_as<T: Word>(policy: Policy, op: Op, taken: &Taken, number: u64) -> Result<Answer, Cause>
+fn answer_as<T: Word>(
+    policy: Policy,
+    op: Op,
+    rounding: Option<Rounding>,
+    taken: &Taken,
+    number: u64,
+) -> Result<Answer, Cause>
     requires offered { is_offered T.SIGNED policy op ≡ true }
     requires a { FitsFormat T.SIGNED T.BITS (cell_of taken.now.a) }
     requires b { FitsFormat T.SIGNED T.BITS (cell_of taken.now.b) }
     requires c { FitsFormat T.SIGNED T.BITS (cell_of taken.now.c) }
-    ensures { RowTells T.SIGNED T.BITS policy op (row_of op (taken_of taken.now)) number result }
+    ensures { RowTells T.SIGNED T.BITS policy op (row_by rounding op (taken_of taken.now)) number result }
 {
     let a = operand_of::<T>(taken.a);
     let b = operand_of::<T>(taken.b);
     let c = operand_of::<T>(taken.c);
-    match outcome_as(policy, op, a, b, c) {
+    match outcome_by(rounding, policy, op, a, b, c) {
         None => unanswered(policy, op, number),
         Some(outcome) => answered(policy, outcome, number),
     }
@@ -112,6 +119,7 @@ pub(crate) fn answer_in_word(
     word: WordName,
     policy: Policy,
     op: Op,
+    rounding: Option<Rounding>,
     taken: &Taken,
     number: u64,
 ) -> Result<Answer, Cause>
@@ -120,16 +128,16 @@ pub(crate) fn answer_in_word(
     requires b { IsCell word (cell_of taken.now.b) }
     requires c { IsCell word (cell_of taken.now.c) }
     ensures { RowTells (is_signed word)
-        (width word) policy op (row_of op (taken_of taken.now)) number result }
+        (width word) policy op (row_by rounding op (taken_of taken.now)) number result }
 {
     match word {
-        WordName::I8 => answer_as::<i8>(policy, op, taken, number),
-        WordName::I16 => answer_as::<i16>(policy, op, taken, number),
-        WordName::I32 => answer_as::<i32>(policy, op, taken, number),
-        WordName::I64 => answer_as::<i64>(policy, op, taken, number),
-        WordName::U8 => answer_as::<u8>(policy, op, taken, number),
-        WordName::U16 => answer_as::<u16>(policy, op, taken, number),
-        WordName::U32 => answer_as::<u32>(policy, op, taken, number),
-        WordName::U64 => answer_as::<u64>(policy, op, taken, number),
+        WordName::I8 => answer_as::<i8>(policy, op, rounding, taken, number),
+        WordName::I16 => answer_as::<i16>(policy, op, rounding, taken, number),
+        WordName::I32 => answer_as::<i32>(policy, op, rounding, taken, number),
+        WordName::I64 => answer_as::<i64>(policy, op, rounding, taken, number),
+        WordName::U8 => answer_as::<u8>(policy, op, rounding, taken, number),
+        WordName::U16 => answer_as::<u16>(policy, op, rounding, taken, number),
+        WordName::U32 => answer_as::<u32>(policy, op, rounding, taken, number),
+        WordName::U64 => answer_as::<u64>(policy, op, rounding, taken, number),
     }
 }

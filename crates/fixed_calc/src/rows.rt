@@ -1,18 +1,22 @@
 //! The row of an operation, over one word.
 
 ghost use Rattle.std.specs.Prelude.{◌≡◌, ◌≢◌, ◌≤◌, ℕ, ℤ, pos, true};
-ghost use Rattle.fixed_calc.specs.Rows.{exact as exact_row};
+ghost use Rattle.fixed_calc.specs.Rows.{exact as exact_row, exact_by, exact_rounded};
+ghost use Rattle.fixed_kernel.specs.Rows.{by_divisor};
+ghost use Rattle.fixed_kernel.specs.RoundedRows.{rounded_div, rounded_div_int, rounded_recip};
 ghost use Rattle.fixed_calc.specs.Offered.{is_offered};
 ghost use Rattle.fixed_calc.specs.inside.Groups.{group, OfOne, SumOrProduct, ByDivisor};
 ghost use Rattle.fixed_calc.specs.inside.Stepping.{OutcomeTells};
 
 use fixed_kernel::{
-    abs_of, add_of, add_prod_of, dist_of, div_euclid_int_of, div_euclid_of, div_int_of, div_of,
-    mul_add_of, mul_int_of, mul_of, neg_of, next_multiple_of_of, next_power_of_two_of, recip_of,
-    rem_euclid_int_of, rem_euclid_of, rem_int_of, rem_of, signum_of, sqrt_of, sub_of,
+    abs_of, add_of, add_prod_of, add_prod_round_of, dist_of, div_euclid_int_of, div_euclid_of,
+    div_int_of, div_int_round_of, div_of, div_round_of, mul_add_of, mul_add_round_of, mul_int_of,
+    mul_of, mul_round_of, neg_of, next_multiple_of_of, next_power_of_two_of, recip_of,
+    recip_round_of, rem_euclid_int_of, rem_euclid_of, rem_int_of, rem_of, signum_of, sqrt_of,
+    sub_of,
 };
 use fixed_script::{Op, Policy};
-use fixed_word::{Outcome, Word};
+use fixed_word::{Outcome, Rounding, Word};
 
 /// An operand: its bits in a word, and its fraction.
 #[derive(Clone, Copy)]
@@ -151,7 +155,7 @@ fn outcome_by_divisor<T: Word>(op: Op, x: T, y: T, frac: u32) -> Option<Outcome<
 
 /// The outcome of the operation's row, where it is defined.
 #[tactic(auto)]
-pub(crate) fn outcome_as<T: Word>(
+fn outcome_as<T: Word>(
     policy: Policy,
     op: Op,
     a: Operand<T>,
@@ -169,5 +173,93 @@ pub(crate) fn outcome_as<T: Word>(
         Group::OfOne => outcome_of_one(policy, op, a.bits, a.fraction),
         Group::SumOrProduct => outcome_of_sum_or_product(op, a, b, c),
         Group::ByDivisor => outcome_by_divisor(op, a.bits, b.bits, a.fraction),
+    }
+}
+
+/// The quotient with that rounding, and None where the divisor is 0.
+fn rounded_quotient<T: Word>(a: Operand<T>, b: T, rounding: Rounding) -> Option<Outcome<T>>
+    requires { a.fraction ≤ T.BITS }
+    ensures { OutcomeTells T.value T.SIGNED T.BITS
+        (by_divisor (T.value b) (rounded_div (T.value a.bits) (T.value b) a.fraction rounding)) result }
+{
+    if b == T::ZERO {
+        return None;
+    }
+    Some(div_round_of(a.bits, b, a.fraction, rounding))
+}
+
+/// The quotient by an integer with that rounding, and None where the integer is 0.
+fn rounded_quotient_by<T: Word>(a: T, k: T, rounding: Rounding) -> Option<Outcome<T>>
+    ensures { OutcomeTells T.value T.SIGNED T.BITS
+        (by_divisor (T.value k) (rounded_div_int (T.value a) (T.value k) rounding)) result }
+{
+    if k == T::ZERO {
+        return None;
+    }
+    Some(div_int_round_of(a, k, rounding))
+}
+
+/// The reciprocal with that rounding, and None where the operand is 0.
+fn rounded_reciprocal<T: Word>(a: Operand<T>, rounding: Rounding) -> Option<Outcome<T>>
+    requires { a.fraction ≤ T.BITS }
+    ensures { OutcomeTells T.value T.SIGNED T.BITS
+        (by_divisor (T.value a.bits) (rounded_recip (T.value a.bits) a.fraction rounding)) result }
+{
+    if a.bits == T::ZERO {
+        return None;
+    }
+    Some(recip_round_of(a.bits, a.fraction, rounding))
+}
+
+/// The outcome of the operation's row with the rounding that is named, where it is defined.
+#[tactic(auto, unfolding(crate::specs::Rows::exact_rounded))]
+fn rounded_outcome_as<T: Word>(
+    rounding: Rounding,
+    policy: Policy,
+    op: Op,
+    a: Operand<T>,
+    b: Operand<T>,
+    c: Operand<T>,
+) -> Option<Outcome<T>>
+    requires offered { is_offered T.SIGNED policy op ≡ true }
+    requires a { a.fraction ≤ T.BITS }
+    requires b { b.fraction ≤ T.BITS }
+    requires c { c.fraction ≤ T.BITS }
+    ensures { OutcomeTells T.value T.SIGNED T.BITS
+        (exact_rounded rounding op (T.value a.bits) (T.value b.bits) (T.value c.bits) a.fraction b.fraction c.fraction) result }
+{
+    match op {
+        Op::Mul => Some(mul_round_of(a.bits, b.bits, a.fraction, rounding)),
+        Op::MulAdd => Some(mul_add_round_of(a.bits, b.bits, c.bits, b.fraction, rounding)),
+        Op::AddProd => Some(add_prod_round_of(
+            a.bits, b.bits, c.bits, a.fraction, b.fraction, c.fraction, rounding,
+        )),
+        Op::Div => rounded_quotient(a, b.bits, rounding),
+        Op::DivInt => rounded_quotient_by(a.bits, b.bits, rounding),
+        Op::Recip => rounded_reciprocal(a, rounding),
+        _ => outcome_as(policy, op, a, b, c),
+    }
+}
+
+/// The outcome of the operation's row with the rounding that a line names, if it names one, where the row
+/// is defined.
+pub(crate) fn outcome_by<T: Word>(
+    rounding: Option<Rounding>,
+    policy: Policy,
+    op: Op,
+    a: Operand<T>,
+    b: Operand<T>,
+    c: Operand<T>,
+) -> Option<Outcome<T>>
+    requires offered { is_offered T.SIGNED policy op ≡ true }
+    requires a { a.fraction ≤ T.BITS }
+    requires b { b.fraction ≤ T.BITS }
+    requires c { c.fraction ≤ T.BITS }
+    ensures { OutcomeTells T.value T.SIGNED T.BITS
+        (exact_by rounding op (T.value a.bits) (T.value b.bits) (T.value c.bits) a.fraction b.fraction c.fraction) result }
+{
+    match rounding {
+        None => outcome_as(policy, op, a, b, c),
+        Some(rounding) => rounded_outcome_as(rounding, policy, op, a, b, c),
     }
 }

@@ -3,6 +3,7 @@
 ghost use Rattle.std.specs.Prelude.{◌≡◌, ◌≤◌, ◌<◌, ◌^◌, nat_le, length, set, Some, None, true, false, IsTrue, unsigned_abs};
 ghost use Rattle.std.specs.List.{All};
 ghost use Rattle.fixed_script.specs.Capped.{denoted, literal_value};
+ghost use Rattle.fixed_script.specs.Text.{may_round as rounds};
 ghost use Rattle.fixed_word.specs.Format.{fits};
 ghost use Rattle.fixed_calc.specs.Offered.{is_offered as offered};
 ghost use Rattle.fixed_calc.specs.Machine.{is_signed as signed, is_value, cell_at as cell_in, destination as destination_of, is_unoffered as unoffered, is_out_of_range as out_of_range, is_mismatched as mismatched, stored, integer};
@@ -13,21 +14,36 @@ use crate::answer::Answer;
 use crate::cause::Cause;
 use crate::projected::answer_in_word;
 use crate::register::{Register, Taken, with_sign};
-use fixed_script::{Line, Literal, Op, Policy, Shape, shape_of};
+use fixed_script::{Line, Literal, Op, Policy, Shape, shape_of, takes_rounding};
 use fixed_text::WordName;
-use fixed_word::{Side, Word, outcome_of};
+use fixed_word::{Rounding, Side, Word, outcome_of};
 
-/// Whether the operation takes the operands of the line.
+/// Whether the operation may name that rounding.
+fn may_round(op: Op, rounding: Option<Rounding>) -> bool
+    ensures { result ≡ rounds op rounding }
+{
+    rounding.is_none() || takes_rounding(op)
+}
+
+/// Whether the operation takes the operands of the line, and its rounding.
 fn is_shaped(line: &Line) -> bool
     ensures yes { result ≡ true → denoted line.now ≡ Some (seen line.now) }
     ensures no { result ≡ false → denoted line.now ≡ None }
 {
     match line {
         Line::Set { .. } => true,
-        Line::One { op, .. } => shape_of(*op) == Shape::Unary,
-        Line::Two { op, .. } => shape_of(*op) == Shape::Binary,
-        Line::Int { op, .. } => shape_of(*op) == Shape::ByInteger,
-        Line::Three { op, .. } => shape_of(*op) == Shape::Ternary,
+        Line::One { op, rounding, .. } => {
+            shape_of(*op) == Shape::Unary && may_round(*op, *rounding)
+        }
+        Line::Two { op, rounding, .. } => {
+            shape_of(*op) == Shape::Binary && may_round(*op, *rounding)
+        }
+        Line::Int { op, rounding, .. } => {
+            shape_of(*op) == Shape::ByInteger && may_round(*op, *rounding)
+        }
+        Line::Three { op, rounding, .. } => {
+            shape_of(*op) == Shape::Ternary && may_round(*op, *rounding)
+        }
     }
 }
 
@@ -241,9 +257,10 @@ fn answer_of_operation(
     line: &Line,
     policy: Policy,
     op: Op,
+    rounding: Option<Rounding>,
     number: u64,
 ) -> Result<Answer, Cause>
-    requires is { IsApplied (seen line.now) policy op }
+    requires is { IsApplied (seen line.now) policy op rounding }
     requires offered { unoffered word (seen line.now) ≡ false }
     requires in_range { out_of_range
         (state_in word (cells_of registers.now)) (seen line.now) ≡ false }
@@ -253,7 +270,7 @@ fn answer_of_operation(
     ensures { AnswerTells (state_in word (cells_of registers.now)) (seen line.now) number result }
 {
     let taken = taken_by(word, registers, line);
-    answer_in_word(word, policy, op, &taken, number)
+    answer_in_word(word, policy, op, rounding, &taken, number)
 }
 
 /// The answer of a line whose first three tests fail.
@@ -273,18 +290,30 @@ fn answer_past_tests(
 {
     match line {
         Line::Set { literal, .. } => Ok(Answer::Bits(whole_of(*literal))),
-        Line::One { policy, op, .. } => answer_of_operation(
-            word, registers, line, *policy, *op, number,
-        ),
-        Line::Two { policy, op, .. } => answer_of_operation(
-            word, registers, line, *policy, *op, number,
-        ),
-        Line::Int { policy, op, .. } => answer_of_operation(
-            word, registers, line, *policy, *op, number,
-        ),
-        Line::Three { policy, op, .. } => answer_of_operation(
-            word, registers, line, *policy, *op, number,
-        ),
+        Line::One {
+            policy,
+            op,
+            rounding,
+            ..
+        } => answer_of_operation(word, registers, line, *policy, *op, *rounding, number),
+        Line::Two {
+            policy,
+            op,
+            rounding,
+            ..
+        } => answer_of_operation(word, registers, line, *policy, *op, *rounding, number),
+        Line::Int {
+            policy,
+            op,
+            rounding,
+            ..
+        } => answer_of_operation(word, registers, line, *policy, *op, *rounding, number),
+        Line::Three {
+            policy,
+            op,
+            rounding,
+            ..
+        } => answer_of_operation(word, registers, line, *policy, *op, *rounding, number),
     }
 }
 

@@ -16,7 +16,7 @@ use Rattle.fixed_script.specs.declared.line.Line.{Line}
 use Rattle.fixed_script.specs.declared.line.Line.TheVariants.{Set, One, Two, Int, Three}
 use Rattle.fixed_word.specs.Decimal.{whole_text}
 use Rattle.fixed_script.specs.Names.{policy_name, policy_named, op_name, op_named, all_ops, rounding_name, rounding_named}
-use Rattle.fixed_script.specs.Text.{ScriptLine, SetTo, Apply, Operands, OneRegister, TwoRegisters, RegisterAndInt, ThreeRegisters, shape, shape_of, takes_rounding, MayRound, IsLine, register_text, line_tokens, line_text, operand_tokens, rounding_tokens}
+use Rattle.fixed_script.specs.Text.{ScriptLine, SetTo, Apply, Operands, OneRegister, TwoRegisters, RegisterAndInt, ThreeRegisters, shape, shape_of, takes_rounding, may_round, IsLine, register_text, line_tokens, line_text, operand_tokens, rounding_tokens}
 use Rattle.fixed_text.specs.Numerals.{cap}
 use Rattle.fixed_script.specs.Capped.{cap_whole, cap_operands, capped, denoted, literal_value, of_shape, if_rounds}
 use Rattle.fixed_text.specs.Tokens.{◌>>=◌, next_by, at_end, tokens_of}
@@ -38,27 +38,26 @@ set_takes dest ts line e =
     (k.0, ap (λ u. u ∷ []) k.1 ∙ ap (λ us. t.token ∷ us) (sym done.0) ∙ sym t.is, ap denoted (sym done.1) ∙ ap (λ v. Some (SetTo dest v)) k.2)
 
 -- the rounding that was read, or none
-rounding_read : (op : Op) (ts : List (List ℕ)) (r : Option Rounding) → rounding_at op ts ≡ Some r → MayRound op r × (rounding_tokens r ≡ ts)
+rounding_read : (op : Op) (ts : List (List ℕ)) (r : Option Rounding) → rounding_at op ts ≡ Some r → (may_round op r ≡ true) × (rounding_tokens r ≡ ts)
 unfolding rounding_at
-rounding_read op [] r e = subst (λ q. MayRound op q × (rounding_tokens q ≡ [])) (same_Some None r e) (tt, refl)
+rounding_read op [] r e = subst (λ q. (may_round op q ≡ true) × (rounding_tokens q ≡ [])) (same_Some None r e) (refl, refl)
 rounding_read op (t ∷ ts) r e =
     let n = next_some rounding_named (t ∷ ts) (λ x. cond (takes_rounding op) (at_end x.1 (Some x.0)) None) r e in
     let g = guard_some (takes_rounding op) (at_end n.rest (Some n.value)) r n.goes_on in
     let done = end_some n.rest (Some n.value) r g.1 in
     let name = named_takes rounding_name (Down ∷ Zero ∷ Even ∷ []) n.token n.value n.reads in
-    subst (λ q. MayRound op q × (rounding_tokens q ≡ t ∷ ts)) done.1 (g.0, ap (λ x. x ∷ []) name ∙ ap (λ us. n.token ∷ us) (sym done.0) ∙ sym n.is)
+    subst (λ q. (may_round op q ≡ true) × (rounding_tokens q ≡ t ∷ ts)) done.1 (g.0, ap (λ x. x ∷ []) name ∙ ap (λ us. n.token ∷ us) (sym done.0) ∙ sym n.is)
 
-rounding_takes : (op : Op) (ts : List (List ℕ)) (line : Option Rounding → Line) (found : Line) → ends_by op ts line ≡ Some found → (r : Option Rounding) × MayRound op r × (rounding_tokens r ≡ ts) × (line r ≡ found)
+rounding_takes : (op : Op) (ts : List (List ℕ)) (line : Option Rounding → Line) (found : Line) → ends_by op ts line ≡ Some found → (r : Option Rounding) × (may_round op r ≡ true) × (rounding_tokens r ≡ ts) × (line r ≡ found)
 rounding_takes op ts line found e =
     let p = bind_some (rounding_at op ts) (λ r. Some (line r)) found e in
     let q = rounding_read op ts p.0 p.1 in
     (p.0, q.0, q.1, same_Some (line p.0) found p.2)
 
-rounds_some : (op : Op) (r : Option Rounding) (line : Option ScriptLine) → MayRound op r → if_rounds op r line ≡ line
-rounds_some op None line m = refl
-rounds_some op (Some r) line m = ap (λ b. cond b line None) m
+rounds_some : (op : Op) (r : Option Rounding) (line : Option ScriptLine) → may_round op r ≡ true → if_rounds op r line ≡ line
+rounds_some op r line m = ap (λ b. cond b line None) m
 
-rounding_again : (op : Op) (r : Option Rounding) → MayRound op r → rounding_at op (rounding_tokens r) ≡ Some r
+rounding_again : (op : Op) (r : Option Rounding) → may_round op r ≡ true → rounding_at op (rounding_tokens r) ≡ Some r
 unfolding rounding_at
 rounding_again op None m = refl
 rounding_again op (Some Down) m = ap (λ b. cond b (Some (Some Down)) None) m
@@ -68,7 +67,7 @@ rounding_again op (Some Even) m = ap (λ b. cond b (Some (Some Even)) None) m
 -- the operands that were read, and the rounding
 abbrev AreOperands : ℕ → Policy → Op → ℕ → List (List ℕ) → Line → Type 0
 AreOperands dest policy op a ts line =
-    (xs : Operands) × (r : Option Rounding) × (shape op ≡ shape_of xs) × MayRound op r × (operand_tokens xs ++ rounding_tokens r ≡ register_text a ∷ ts) × (denoted line ≡ Some (Apply dest policy op (cap_operands xs) r))
+    (xs : Operands) × (r : Option Rounding) × (shape op ≡ shape_of xs) × (may_round op r ≡ true) × (operand_tokens xs ++ rounding_tokens r ≡ register_text a ∷ ts) × (denoted line ≡ Some (Apply dest policy op (cap_operands xs) r))
 
 operands_takes : (s : Shape) (dest : ℕ) (policy : Policy) (op : Op) (a : ℕ) (ts : List (List ℕ)) (line : Line) → shape op ≡ s → operands_at s dest policy op (cap a) ts ≡ Some line → AreOperands dest policy op a ts line
 unfolding operands_at
@@ -124,7 +123,7 @@ operands_takes Ternary dest policy op a ts line s e =
 
 abbrev IsApplied : ℕ → Policy → List (List ℕ) → Line → Type 0
 IsApplied dest policy ts line =
-    (op : Op) × (xs : Operands) × (r : Option Rounding) × (shape op ≡ shape_of xs) × MayRound op r × (op_name op ∷ (operand_tokens xs ++ rounding_tokens r) ≡ ts) × (denoted line ≡ Some (Apply dest policy op (cap_operands xs) r))
+    (op : Op) × (xs : Operands) × (r : Option Rounding) × (shape op ≡ shape_of xs) × (may_round op r ≡ true) × (op_name op ∷ (operand_tokens xs ++ rounding_tokens r) ≡ ts) × (denoted line ≡ Some (Apply dest policy op (cap_operands xs) r))
 
 apply_takes : (dest : ℕ) (policy : Policy) (ts : List (List ℕ)) (line : Line) → apply_at dest policy ts ≡ Some line → IsApplied dest policy ts line
 unfolding apply_at

@@ -12,7 +12,7 @@ use Rattle.fixed_script.specs.declared.line.Shape.{Shape}
 use Rattle.fixed_script.specs.declared.line.Shape.TheVariants.{Unary, Binary, ByInteger, Ternary}
 use Rattle.fixed_word.specs.Decimal.{natural_text, whole_text}
 use Rattle.fixed_script.specs.Names.{policy_named, op_named, rounding_named}
-use Rattle.fixed_script.specs.Text.{ScriptHeader, header_text, header_tokens, ScriptLine, SetTo, Apply, Operands, OneRegister, TwoRegisters, RegisterAndInt, ThreeRegisters, takes_rounding, MayRound, IsLine, line_text, line_tokens, operand_tokens, rounding_tokens, shape, shape_of}
+use Rattle.fixed_script.specs.Text.{ScriptHeader, header_text, header_tokens, ScriptLine, SetTo, Apply, Operands, OneRegister, TwoRegisters, RegisterAndInt, ThreeRegisters, takes_rounding, may_round, IsLine, line_text, line_tokens, operand_tokens, rounding_tokens, shape, shape_of}
 use Rattle.fixed_text.specs.Tokens.{tokens_of}
 use Rattle.fixed_text.proofs.Decimals.{decimal_of_text}
 use Rattle.fixed_script.proofs.Readers.{policy_again, op_again}
@@ -47,17 +47,17 @@ last_back op (TwoRegisters a b) r is = rw is refl
 last_back op (RegisterAndInt a k) r is = rw is refl
 last_back op (ThreeRegisters a b c) r is = rw is refl
 
-named_back : (b : Bool) (op : Op) (r : Option Rounding) → takes_rounding op ≡ b → MayRound op r → (if b then rounding_named (token (rounding_tokens r) 0) else None) ≡ r
+named_back : (b : Bool) (op : Op) (r : Option Rounding) → takes_rounding op ≡ b → may_round op r ≡ true → (if b then rounding_named (token (rounding_tokens r) 0) else None) ≡ r
 named_back true op None t m = refl
 named_back false op None t m = refl
 named_back b op (Some Down) t m = ap (λ (c : Bool). if c then Some Down else None) (sym t ∙ m)
 named_back b op (Some Zero) t m = ap (λ (c : Bool). if c then Some Zero else None) (sym t ∙ m)
 named_back b op (Some Even) t m = ap (λ (c : Bool). if c then Some Even else None) (sym t ∙ m)
 
-rounding_back : (op : Op) (xs : Operands) (r : Option Rounding) → shape op ≡ shape_of xs → MayRound op r → rounding_in op (operand_tokens xs ++ rounding_tokens r) ≡ r
+rounding_back : (op : Op) (xs : Operands) (r : Option Rounding) → shape op ≡ shape_of xs → may_round op r ≡ true → rounding_in op (operand_tokens xs ++ rounding_tokens r) ≡ r
 rounding_back op xs r is m = ap (λ (t : List ℕ). if takes_rounding op then rounding_named t else None) (last_back op xs r is) ∙ named_back (takes_rounding op) op r refl m
 
-applied_back : (dest : ℕ) (policy : Policy) (op : Op) (xs : Operands) (r : Option Rounding) → shape op ≡ shape_of xs → MayRound op r
+applied_back : (dest : ℕ) (policy : Policy) (op : Op) (xs : Operands) (r : Option Rounding) → shape op ≡ shape_of xs → may_round op r ≡ true
     → apply_in dest (Some policy) (Some op) (operand_tokens xs ++ rounding_tokens r) ≡ Some (Apply dest policy op xs r)
 applied_back dest policy op xs r is m =
     ap (λ (ys : Operands). Some (Apply dest policy op ys (rounding_in op (operand_tokens xs ++ rounding_tokens r)))) (operands_back op xs r is)
@@ -84,9 +84,9 @@ shaped Binary ts = refl
 shaped ByInteger ts = refl
 shaped Ternary ts = refl
 
-may : (b : Bool) (op : Op) (r : Option Rounding) → takes_rounding op ≡ b → MayRound op (if b then r else None)
-may false op r is = tt
-may true op None is = tt
+may : (b : Bool) (op : Op) (r : Option Rounding) → takes_rounding op ≡ b → may_round op (if b then r else None) ≡ true
+may false op r is = refl
+may true op None is = refl
 may true op (Some r) is = is
 
 apply_is : (dest : ℕ) (p : Option Policy) (o : Option Op) (ts : List (List ℕ)) (l : ScriptLine) → apply_in dest p o ts ≡ Some l → IsLine l

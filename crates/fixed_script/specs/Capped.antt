@@ -8,7 +8,7 @@ use Rattle.fixed_script.specs.declared.line.Shape.TheVariants.{Unary, Binary, By
 use Rattle.fixed_script.specs.declared.literal.Literal.{Literal}
 use Rattle.fixed_script.specs.declared.line.Line.{Line}
 use Rattle.fixed_script.specs.declared.line.Line.TheVariants.{Set, One, Two, Int, Three}
-use Rattle.fixed_script.specs.Text.{Operands, OneRegister, TwoRegisters, RegisterAndInt, ThreeRegisters, ScriptLine, SetTo, Apply, shape, takes_rounding}
+use Rattle.fixed_script.specs.Text.{Operands, OneRegister, TwoRegisters, RegisterAndInt, ThreeRegisters, ScriptLine, SetTo, Apply, shape, may_round}
 
 -- a number keeps its sign
 abbrev pub cap_whole : ℤ → ℤ
@@ -38,10 +38,9 @@ of_shape ByInteger ByInteger line = Some line
 of_shape Ternary Ternary line = Some line
 of_shape _ _ line = None
 
--- the line, if the operation may name its rounding
+-- the line, if the operation may name that rounding
 abbrev pub if_rounds : Op → Option Rounding → Option ScriptLine → Option ScriptLine
-if_rounds op None line = line
-if_rounds op (Some rounding) line = if takes_rounding op then line else None
+if_rounds op rounding line = if may_round op rounding then line else None
 
 -- the abstract line that a line of the code denotes, with its numbers and its rounding as they stand
 abbrev pub denoted : Line → Option ScriptLine

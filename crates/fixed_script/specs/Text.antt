@@ -71,15 +71,15 @@ takes_rounding AddProd = true
 takes_rounding DivInt = true
 takes_rounding _ = false
 
--- a rounding is named by those operations alone
-abbrev pub MayRound : Op → Option Rounding → Type 0
-MayRound op None = Unit {0}
-MayRound op (Some rounding) = takes_rounding op ≡ true
+-- whether the operation may name that rounding, or none
+abbrev pub may_round : Op → Option Rounding → Bool
+may_round op None = true
+may_round op (Some rounding) = takes_rounding op
 
 -- the operands are those of the operation, and so is the rounding
 abbrev pub IsLine : ScriptLine → Type 0
 IsLine (SetTo dest value) = Unit {0}
-IsLine (Apply dest policy op operands rounding) = (shape op ≡ shape_of operands) × MayRound op rounding
+IsLine (Apply dest policy op operands rounding) = (shape op ≡ shape_of operands) × (may_round op rounding ≡ true)
 
 abbrev pub register_text : ℕ → List ℕ
 register_text n = 114 ∷ natural_text n

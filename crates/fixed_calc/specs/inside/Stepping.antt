@@ -1,5 +1,6 @@
 -- What the parts of a step say.
 use Rattle.std.specs.Prelude.{◌≡◌, ℕ, ℤ, Bool, List, Option, Some, None, Result, Ok, Err, ⊤, true, false, not, ◌&&◌}
+use Rattle.fixed_word.specs.declared.rounding.Rounding.{Rounding}
 use Rattle.fixed_script.specs.declared.names.Policy.{Policy}
 use Rattle.fixed_script.specs.declared.names.Op.{Op}
 use Rattle.fixed_calc.specs.declared.answer.Answer.{Answer}
@@ -20,15 +21,15 @@ use Rattle.fixed_calc.specs.Step.{cell_of}
 abbrev pub taken_of : RegistersTaken → Taken
 taken_of t = record { a = cell_of t.a; b = cell_of t.b; c = cell_of t.c }
 
--- the line applies an operation under a policy
-abbrev pub IsApplied : ScriptLine → Policy → Op → Type 0
-IsApplied (SetTo dest k) policy op = ⊥
-IsApplied (Apply dest p o xs) policy op = (p ≡ policy) × (o ≡ op)
+-- the line applies an operation under a policy, with that rounding
+abbrev pub IsApplied : ScriptLine → Policy → Op → Option Rounding → Type 0
+IsApplied (SetTo dest k) policy op rounding = ⊥
+IsApplied (Apply dest p o xs r) policy op rounding = (p ≡ policy) × (o ≡ op) × (r ≡ rounding)
 
 -- the operands that a line takes
 abbrev pub TakenTells : List Cell → ScriptLine → RegistersTaken → Type 0
 TakenTells cells (SetTo dest k) t = ⊤
-TakenTells cells (Apply dest policy op xs) t = taken_of t ≡ taken cells xs
+TakenTells cells (Apply dest policy op xs rounding) t = taken_of t ≡ taken cells xs
 
 -- an outcome for each row that is a number
 abbrev pub OutcomeTells : {T : Type 0} → (T → ℤ) → Bool → ℕ → Option ℤ → Option (Outcome T) → Type 0
@@ -48,10 +49,10 @@ RowTells signed n policy op row k (Err c) = first_of (row_causes signed n policy
 -- the abstract line with the numbers of a line as they stand
 abbrev pub seen : Line → ScriptLine
 seen (Set dest literal) = SetTo dest (literal_value literal)
-seen (One dest policy op a) = Apply dest policy op (OneRegister a)
-seen (Two dest policy op a b) = Apply dest policy op (TwoRegisters a b)
-seen (Int dest policy op a literal) = Apply dest policy op (RegisterAndInt a (literal_value literal))
-seen (Three dest policy op a b c) = Apply dest policy op (ThreeRegisters a b c)
+seen (One dest policy op a rounding) = Apply dest policy op (OneRegister a) rounding
+seen (Two dest policy op a b rounding) = Apply dest policy op (TwoRegisters a b) rounding
+seen (Int dest policy op a literal rounding) = Apply dest policy op (RegisterAndInt a (literal_value literal)) rounding
+seen (Three dest policy op a b c rounding) = Apply dest policy op (ThreeRegisters a b c) rounding
 
 -- the answer, or the cause
 abbrev pub AnswerTells : State → ScriptLine → ℕ → Result Answer Cause → Type 0
