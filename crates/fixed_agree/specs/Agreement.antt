@@ -8,10 +8,10 @@ use Rattle.fixed_calc.specs.Offered.{is_offered}
 use Rattle.fixed_word.specs.Format.{InRange}
 
 -- in every state of a word of that sign and width, the machine answers `result` to every line of the policy and the
--- operation that takes these operands
+-- operation that takes these operands and names no rounding
 unfoldable pub MachineAnswers : Bool → ℕ → Policy → Op → Taken → Answer → Type 0
 MachineAnswers signed n policy op operands result =
-    (s : State) (dest : ℕ) (xs : Operands) → is_signed s.word ≡ signed → width s.word ≡ n → taken s.registers xs ≡ operands → answer s (Apply dest policy op xs) ≡ result
+    (s : State) (dest : ℕ) (xs : Operands) → is_signed s.word ≡ signed → width s.word ≡ n → taken s.registers xs ≡ operands → answer s (Apply dest policy op xs None) ≡ result
 
 -- ---- operands, by their bits and fractions
 abbrev pub holding : ℤ → ℕ → Cell

@@ -3,7 +3,7 @@
 ghost use Rattle.std.specs.Prelude.{IsSome};
 
 use fixed_calc::{
-    Answer, Answers, Cause, Line, Op, Policy, Room, RunFault, Script, Status, WordName,
+    Answer, Answers, Cause, Line, Op, Policy, Room, Rounding, RunFault, Script, Status, WordName,
     parse_header, parse_line, run_in, step,
 };
 use std::process::Abort;
@@ -175,11 +175,25 @@ fn step_each(rt: &impl Abort, room: &mut Room)
         op: Op::Neg,
         a: 0,
         b: 0,
+        rounding: None,
     };
     assert_eq!(rt;
         step(room, &misshapen, 4),
         Err(Cause::Syntax(4)),
         "one operand too many"
+    );
+    let rounded = Line::Two {
+        dest: 0,
+        policy: Policy::Checked,
+        op: Op::Add,
+        a: 0,
+        b: 0,
+        rounding: Some(Rounding::Even),
+    };
+    assert_eq!(rt;
+        step(room, &rounded, 4),
+        Err(Cause::Syntax(4)),
+        "a sum has nothing to round"
     );
     assert_eq!(rt; room.answers(), b"".as_slice(), "a step adds no answer");
 }

@@ -6,7 +6,7 @@ use std::alloc::Global;
 use std::test::Fail;
 
 /// Scripts, their first causes and the lines for the errors.
-const CAUSES: [(&str, Cause, &str); 22] = [
+const CAUSES: [(&str, Cause, &str); 27] = [
     ("", Cause::Syntax(1), "line 1: syntax\n"),
     ("i32 33\n", Cause::OutOfRange(1), "line 1: out of range\n"),
     ("u8 9\nxx\n", Cause::OutOfRange(1), "line 1: out of range\n"),
@@ -104,6 +104,31 @@ const CAUSES: [(&str, Cause, &str); 22] = [
         "i8 0\nr0 set 127\nr0 strict mul_int r0 2\nr0 wrapping add r0 r0\n",
         Cause::Overflow(3),
         "line 3: overflow\n",
+    ),
+    (
+        "i8 4\nr0 strict add r0 r0 down\n",
+        Cause::Syntax(2),
+        "line 2: syntax\n",
+    ),
+    (
+        "i8 4\nr0 strict mul r0 r0 up\n",
+        Cause::Syntax(2),
+        "line 2: syntax\n",
+    ),
+    (
+        "i8 4\nr0 strict mul r0 r0  even\n",
+        Cause::Syntax(2),
+        "line 2: syntax\n",
+    ),
+    (
+        "i8 1\nr0 set 85\nr0 strict mul r0 r0 zero\n",
+        Cause::Overflow(3),
+        "line 3: overflow\n",
+    ),
+    (
+        "i8 4\nr0 wrapping div_int r0 0 even\n",
+        Cause::ZeroDivisor(2),
+        "line 2: zero divisor\n",
     ),
 ];
 

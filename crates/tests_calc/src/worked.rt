@@ -5,7 +5,7 @@ use fixed_calc::{Cause, RunFault, Status, run};
 use std::test::Fail;
 
 /// Scripts and their answers.
-const ANSWERS: [(&str, &str); 31] = [
+const ANSWERS: [(&str, &str); 41] = [
     ("i32 16\n", ""),
     ("i8 4\n", ""),
     ("u64 0 64 32\n", ""),
@@ -109,6 +109,42 @@ const ANSWERS: [(&str, &str); 31] = [
     (
         "i64 32\nr0 set -9223372036854775808\nr0 set 9223372036854775807\nr0 set 0\n",
         "-9223372036854775808\n9223372036854775807\n0\n",
+    ),
+    (
+        "i8 4 4\nr0 set -3\nr1 set 8\nr0 strict mul r0 r1 zero\n",
+        "-3\n8\n-1\n",
+    ),
+    (
+        "i8 4 4\nr0 set -3\nr1 set 8\nr0 strict mul r0 r1 even\n",
+        "-3\n8\n-2\n",
+    ),
+    (
+        "i8 4 4\nr0 set -3\nr1 set 8\nr0 strict mul r0 r1\n",
+        "-3\n8\n-2\n",
+    ),
+    ("i8 4\nr0 set 7\nr0 strict div_int r0 2 even\n", "7\n4\n"),
+    ("i8 4\nr0 set -7\nr0 strict div_int r0 2 down\n", "-7\n-4\n"),
+    (
+        "i8 1 1\nr0 set 85\nr1 set 3\nr0 overflowing mul r0 r1 even\n",
+        "85\n3\n-128 true\n",
+    ),
+    (
+        "i8 1 1\nr0 set 85\nr1 set 3\nr0 checked mul r0 r1 even\nr0 checked mul r0 r1\n",
+        "85\n3\nnone\n127\n",
+    ),
+    (
+        "u8 8\nr0 set 3\nr0 overflowing recip r0 even\n",
+        "3\n85 true\n",
+    ),
+    (
+        "i16 4 4 2\nr0 set 11\nr1 set -6\nr2 set 1\nr0 wrapping mul_add r0 r2 r1 even\n\
+         r0 set 3\nr0 saturating add_prod r0 r1 r2 zero\n\
+         r0 checked div r0 r1 down\nr0 checked recip r0 zero\n",
+        "11\n-6\n1\n-3\n3\n2\n-6\n-42\n",
+    ),
+    (
+        "i8 4 4\nr0 set 3\nr0 checked div r0 r1 even\nr0 checked recip r1 down\n",
+        "3\nnone\nnone\n",
     ),
 ];
 
