@@ -14,7 +14,7 @@ use Rattle.fixed_script.proofs.TextsRead.{reads_headers}
 use Rattle.fixed_calc.proofs.Twice.{output_of}
 
 -- a piece is its body and a newline
-body_by : (p t : List ℕ) (b : Bool) → slice_index p (length p - 1) == 10 ≡ b → (if b then Some (take (length p - 1) p) else None) ≡ Some t → p ≡ t ++ (10 ∷ [])
+pub body_by : (p t : List ℕ) (b : Bool) → slice_index p (length p - 1) == 10 ≡ b → (if b then Some (take (length p - 1) p) else None) ≡ Some t → p ≡ t ++ (10 ∷ [])
 body_by [] t true is e = cc
 body_by (x ∷ xs) t true is e =
     let p = x ∷ xs in

@@ -16,3 +16,4 @@ pub mod Wider
 pub mod WidenedRuns
 pub mod Headed
 pub mod Divisors
+pub mod Before

@@ -12,6 +12,7 @@ pub mod Headline
 pub mod Caps
 pub mod OneNumber
 pub mod Widening
+pub mod Before
 pub mod Demo
 pub mod CommandLine
 pub mod inside

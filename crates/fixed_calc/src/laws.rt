@@ -3,6 +3,7 @@
 ghost use Rattle.std.specs.Prelude.{◌≡◌, ◌*◌, ◌≤◌, Bool, List, None, ℕ, ℤ, false, flat_map, length, true};
 ghost use Rattle.fixed_word.specs.Format.{IsWidth, fits};
 ghost use Rattle.fixed_calc.specs.Answers.{answer_text};
+ghost use Rattle.fixed_calc.specs.Before.{MeansAsBefore, ReadsOldLines};
 ghost use Rattle.fixed_calc.specs.Caps.{CapsAlike};
 ghost use Rattle.fixed_calc.specs.Demo.{demo_answers, demo_text};
 ghost use Rattle.fixed_calc.specs.Meaning.{Output, meaning, run_of, start};
@@ -53,4 +54,11 @@ pub fn widening_law()
         → meaning (script_of (with_word wide header) lines) ≡ Output bytes }
     ensures headed { (script bytes : List ℕ) → meaning script ≡ Output bytes
         → (header : ScriptHeader) × ((lines : List ℕ) × (script ≡ script_of header lines)) }
+{}
+
+/// A script of which no piece has a space and the name of a rounding before its newline means what it
+/// meant before lines could name a rounding.
+pub fn before_law()
+    ensures meaning { MeansAsBefore }
+    ensures lines { ReadsOldLines }
 {}

@@ -63,7 +63,7 @@ applied_back dest policy op xs r is m =
     ap (λ (ys : Operands). Some (Apply dest policy op ys (rounding_in op (operand_tokens xs ++ rounding_tokens r)))) (operands_back op xs r is)
     ∙ ap (λ (q : Option Rounding). Some (Apply dest policy op xs q)) (rounding_back op xs r is m)
 
-line_back : (l : ScriptLine) → IsLine l → line_in (line_tokens l) ≡ Some l
+pub line_back : (l : ScriptLine) → IsLine l → line_in (line_tokens l) ≡ Some l
 line_back (SetTo dest k) is = rw (natural_back dest, whole_back k) refl
 line_back (Apply dest policy op xs r) is = rw (not_set policy, policy_again policy, op_again op, natural_back dest) (applied_back dest policy op xs r is.0 is.1)
 
@@ -94,7 +94,7 @@ apply_is dest None o ts l e = cc
 apply_is dest (Some p) None ts l e = cc
 apply_is dest (Some p) (Some o) ts l e = subst IsLine (same_Some (Apply dest p o (operands_in (shape o) ts) (rounding_in o ts)) l e) (shaped (shape o) ts, may (takes_rounding o) o (rounding_named (token ts (operand_count (shape o)))) refl)
 
-line_is : (ts : List (List ℕ)) (l : ScriptLine) → line_in ts ≡ Some l → IsLine l
+pub line_is : (ts : List (List ℕ)) (l : ScriptLine) → line_in ts ≡ Some l → IsLine l
 line_is ts l e = by_name (bytes_eq (token ts 1) (codes "set")) e
   where
     by_name : (b : Bool) → (if b then Some (SetTo (register_in (token ts 0)) (whole_in (token ts 2))) else apply_in (register_in (token ts 0)) (policy_named (token ts 1)) (op_named (token ts 2)) (drop 3 ts)) ≡ Some l → IsLine l
@@ -102,7 +102,7 @@ line_is ts l e = by_name (bytes_eq (token ts 1) (codes "set")) e
     by_name false e = apply_is (register_in (token ts 0)) (policy_named (token ts 1)) (op_named (token ts 2)) (drop 3 ts) l e
 
 -- ---- what has the text of the piece
-its_text : {A : Type 0} (text : A → List ℕ) (piece : List ℕ) (read : Option A) (x : A) → if_its_text text piece read ≡ Some x → (read ≡ Some x) × (text x ≡ piece)
+pub its_text : {A : Type 0} (text : A → List ℕ) (piece : List ℕ) (read : Option A) (x : A) → if_its_text text piece read ≡ Some x → (read ≡ Some x) × (text x ≡ piece)
 its_text text piece None x e = cc
 its_text text piece (Some y) x e = by_test (bytes_eq (text y) piece) refl e
   where
@@ -110,7 +110,7 @@ its_text text piece (Some y) x e = by_test (bytes_eq (text y) piece) refl e
     by_test false is e = cc
     by_test true is e = (e, ap text (sym (same_Some y x e)) ∙ (bytes_eq-Decides (text y) piece).0 is)
 
-has_text : {A : Type 0} (text : A → List ℕ) (piece : List ℕ) (read : Option A) (x : A) → read ≡ Some x → text x ≡ piece → if_its_text text piece read ≡ Some x
+pub has_text : {A : Type 0} (text : A → List ℕ) (piece : List ℕ) (read : Option A) (x : A) → read ≡ Some x → text x ≡ piece → if_its_text text piece read ≡ Some x
 has_text text piece read x is e = ap (if_its_text text piece) is ∙ ap (λ (b : Bool). if b then Some x else None) (same (text x) piece e)
   where
     same : (xs ys : List ℕ) → xs ≡ ys → bytes_eq xs ys ≡ true

@@ -1,0 +1,156 @@
+-- A script without a rounding word has the meaning that it had before.
+use Rattle.std.proofs.Common.{◌≡◌, ◌+◌, ℕ, suc, Bool, true, false, List, [], ◌∷◌, ◌++◌, Option, Some, None, if◌then◌else◌, refl, sym, ap, subst, ◌∙◌, arith, append_assoc}
+use Rattle.std.specs.Option.{option_map}
+use Rattle.std.specs.List.{All, join_with_byte}
+use Rattle.std.specs.Str.{bytes_eq}
+use Rattle.std.proofs.lemmas.Bool.{false≢true}
+use Rattle.std.proofs.lemmas.Slice.Eq.{bytes_eq-Decides}
+use Rattle.std.proofs.lemmas.Option.{same_Some}
+use Rattle.fixed_word.specs.declared.rounding.Rounding.{Rounding}
+use Rattle.fixed_word.specs.Pieces.{pieces, body}
+use Rattle.fixed_text.specs.Tokens.{tokens_of}
+use Rattle.fixed_script.specs.declared.names.Policy.{Policy}
+use Rattle.fixed_script.specs.declared.names.Op.{Op}
+use Rattle.fixed_script.specs.Names.{policy_name, op_name, rounding_name}
+use Rattle.fixed_script.specs.Text.{ScriptHeader, ScriptLine, SetTo, Apply, Operands, IsLine, register_text, operand_tokens, line_text}
+use Rattle.fixed_script.specs.Lines.{line_in, if_its_text, then_of, line_of, line_of_piece, header_of_piece}
+use Rattle.fixed_script.proofs.Joined.{tokens_of_line}
+use Rattle.fixed_script.proofs.TextsRead.{line_back, line_is, its_text, has_text}
+use Rattle.fixed_calc.specs.Answers.{answer_text}
+use Rattle.fixed_calc.specs.Machine.{State, cause, answer, move}
+use Rattle.fixed_calc.specs.Meaning.{Run, by_cause, step_then, run_lines, run_from, run_pieces, run_of, start, fractions_of, has_wide, stopped, meaning_with}
+use Rattle.fixed_calc.specs.declared.cause.Cause.TheVariants.{OutOfRange}
+use Rattle.fixed_calc.specs.Before.{names_none, without_rounding, old_line_of, old_line_of_piece, old_step_then, old_run_lines, old_run_from, old_run_pieces, ReadsOldLines, EndsInRounding, MeansAsBefore}
+use Rattle.fixed_calc.proofs.Headed.{body_by}
+
+-- ---- the old reading
+free_of_rounding : (l : ScriptLine) → names_none (without_rounding l) ≡ true
+free_of_rounding (SetTo dest k) = refl
+free_of_rounding (Apply dest policy op xs r) = refl
+
+still_line : (l : ScriptLine) → IsLine l → IsLine (without_rounding l)
+still_line (SetTo dest k) is = tt
+still_line (Apply dest policy op xs r) is = (is.0, refl)
+
+free_is_itself : (l : ScriptLine) → names_none l ≡ true → without_rounding l ≡ l
+free_is_itself (SetTo dest k) free = refl
+free_is_itself (Apply dest policy op xs None) free = refl
+free_is_itself (Apply dest policy op xs (Some r)) free = cc
+
+mapped : (o : Option ScriptLine) (l : ScriptLine) → option_map without_rounding o ≡ Some l → (m : ScriptLine) × (o ≡ Some m) × (without_rounding m ≡ l)
+mapped None l e = cc
+mapped (Some m) l e = (m, refl, same_Some (without_rounding m) l e)
+
+pub reads_old_lines : ReadsOldLines
+unfolding old_line_of
+reads_old_lines piece l = (
+  λ e.
+      let t = its_text line_text piece (option_map without_rounding (line_in (tokens_of piece))) l e in
+      let m = mapped (line_in (tokens_of piece)) l t.0 in
+      let is = still_line m.0 (line_is (tokens_of piece) m.0 m.1) in
+      (subst IsLine m.2 is, subst (λ k. names_none k ≡ true) m.2 (free_of_rounding m.0), t.1),
+  λ h.
+      let read : line_in (tokens_of piece) ≡ Some l = ap (λ (p : List ℕ). line_in (tokens_of p)) (sym h.2) ∙ ap line_in (tokens_of_line l) ∙ line_back l h.0 in
+      has_text line_text piece (option_map without_rounding (line_in (tokens_of piece))) l (ap (option_map without_rounding) read ∙ ap Some (free_is_itself l h.1)) h.2,
+)
+
+-- ---- a line that names a rounding ends in its name
+join_last : (t : List ℕ) (us : List (List ℕ)) (v : List ℕ) → join_with_byte 32 (t ∷ (us ++ (v ∷ []))) ≡ join_with_byte 32 (t ∷ us) ++ (32 ∷ v)
+join_last t [] v = refl
+join_last t (u ∷ us) v = ap (λ zs. t ++ (32 ∷ zs)) (join_last u us v) ∙ sym (append_assoc t (32 ∷ join_with_byte 32 (u ∷ us)) (32 ∷ v))
+
+abbrev Ends : List ℕ → Type 0
+Ends bytes = (front : List ℕ) × (rounding : Rounding) × (bytes ≡ front ++ (32 ∷ rounding_name rounding))
+
+named_ends : (dest : ℕ) (policy : Policy) (op : Op) (xs : Operands) (r : Rounding) → Ends (line_text (Apply dest policy op xs (Some r)))
+named_ends dest policy op xs r = (
+  join_with_byte 32 (register_text dest ∷ policy_name policy ∷ op_name op ∷ operand_tokens xs),
+  r,
+  join_last (register_text dest) (policy_name policy ∷ op_name op ∷ operand_tokens xs) (rounding_name r),
+)
+
+piece_ends : (piece front : List ℕ) → body piece ≡ Some front → Ends front → EndsInRounding piece
+piece_ends piece front is ends = (
+  ends.0,
+  ends.1,
+  body_by piece front _ refl is ∙ ap (λ (f : List ℕ). f ++ (10 ∷ [])) ends.2,
+)
+
+-- ---- such a line is read as before
+no_text : (text front : List ℕ) (l : ScriptLine) → (text ≡ front → ⊥) → (if bytes_eq text front then Some l else None) ≡ None
+no_text text front l apart = by_test (bytes_eq text front) refl
+  where
+    by_test : (b : Bool) → bytes_eq text front ≡ b → (if b then Some l else None) ≡ None
+    by_test false is = refl
+    by_test true is = absurd (apart ((bytes_eq-Decides text front).0 is))
+
+-- the tokens are those of one line alone
+one_reading : (front : List ℕ) (dest : ℕ) (policy : Policy) (op : Op) (xs : Operands) (r : Rounding) → line_in (tokens_of front) ≡ Some (Apply dest policy op xs (Some r))
+    → line_text (Apply dest policy op xs None) ≡ front → ⊥
+one_reading front dest policy op xs r read text =
+    let plain = Apply dest policy op xs None in
+    let is = line_is (tokens_of front) (Apply dest policy op xs (Some r)) read in
+    let again : line_in (tokens_of front) ≡ Some plain = ap (λ (p : List ℕ). line_in (tokens_of p)) (sym text) ∙ ap line_in (tokens_of_line plain) ∙ line_back plain (is.0, refl) in
+    let same : Apply dest policy op xs (Some r) ≡ plain = same_Some (Apply dest policy op xs (Some r)) plain (sym read ∙ again) in
+    false≢true (ap names_none same)
+
+read_alike : (front : List ℕ) (o : Option ScriptLine) → line_in (tokens_of front) ≡ o → (Ends front → ⊥) → if_its_text line_text front o ≡ if_its_text line_text front (option_map without_rounding o)
+read_alike front None is apart = refl
+read_alike front (Some (SetTo dest k)) is apart = refl
+read_alike front (Some (Apply dest policy op xs None)) is apart = refl
+read_alike front (Some (Apply dest policy op xs (Some r))) is apart =
+    no_text (line_text (Apply dest policy op xs (Some r))) front (Apply dest policy op xs (Some r)) (λ e. apart (subst Ends e (named_ends dest policy op xs r)))
+    ∙ sym (no_text (line_text (Apply dest policy op xs None)) front (Apply dest policy op xs None) (one_reading front dest policy op xs r is))
+
+front_alike : (front : List ℕ) → (Ends front → ⊥) → line_of front ≡ old_line_of front
+unfolding line_of old_line_of
+front_alike front apart = read_alike front (line_in (tokens_of front)) refl apart
+
+body_alike : (piece : List ℕ) (o : Option (List ℕ)) → body piece ≡ o → (EndsInRounding piece → ⊥) → then_of o line_of ≡ then_of o old_line_of
+body_alike piece None is apart = refl
+body_alike piece (Some front) is apart = front_alike front (λ ends. apart (piece_ends piece front is ends))
+
+piece_alike : (piece : List ℕ) → (EndsInRounding piece → ⊥) → line_of_piece piece ≡ old_line_of_piece piece
+unfolding line_of_piece old_line_of_piece
+piece_alike piece apart = body_alike piece (body piece) refl apart
+
+old_free : (piece : List ℕ) (o : Option (List ℕ)) (l : ScriptLine) → then_of o old_line_of ≡ Some l → names_none l ≡ true
+old_free piece None l e = cc
+old_free piece (Some front) l e = ((reads_old_lines front l).0 e).1
+
+piece_free : (piece : List ℕ) (l : ScriptLine) → old_line_of_piece piece ≡ Some l → names_none l ≡ true
+unfolding old_line_of_piece
+piece_free piece l e = old_free piece (body piece) l e
+
+-- ---- and moves as before
+same_step : (s : State) (k : ℕ) (l : ScriptLine) (next before : State → Run) → names_none l ≡ true → ((t : State) → next t ≡ before t) → step_then s k (Some l) next ≡ old_step_then s k (Some l) before
+unfolding answer
+same_step s k (SetTo dest x) next before free same = ap (by_cause (cause s (SetTo dest x) k) s (answer_text (answer s (SetTo dest x)))) (same (move s (SetTo dest x)))
+same_step s k (Apply dest policy op xs None) next before free same =
+    let l = Apply dest policy op xs None in
+    ap (by_cause (cause s l k) s (answer_text (answer s l))) (same (move s l))
+same_step s k (Apply dest policy op xs (Some r)) next before free same = cc
+
+step_alike : (s : State) (k : ℕ) (o : Option ScriptLine) (next before : State → Run) → ((l : ScriptLine) → o ≡ Some l → names_none l ≡ true) → ((t : State) → next t ≡ before t) → step_then s k o next ≡ old_step_then s k o before
+step_alike s k None next before free same = refl
+step_alike s k (Some l) next before free same = same_step s k l next before (free l refl) same
+
+lines_alike : (ps : List (List ℕ)) (s : State) (k : ℕ) → All (λ piece. EndsInRounding piece → ⊥) ps → run_lines s k ps ≡ old_run_lines s k ps
+unfolding run_lines old_run_lines
+lines_alike [] s k free = refl
+lines_alike (p ∷ ps) s k free =
+    ap (λ o. step_then s k o (λ t. run_lines t (k + 1) ps)) (piece_alike p (free 0 [] (omega arith)))
+    ∙ step_alike s k (old_line_of_piece p) (λ t. run_lines t (k + 1) ps) (λ t. old_run_lines t (k + 1) ps) (piece_free p)
+    (λ t. lines_alike ps t (k + 1) (λ i d lt. free (suc i) d (omega arith)))
+
+from_alike : (o : Option ScriptHeader) (ps : List (List ℕ)) → All (λ piece. EndsInRounding piece → ⊥) ps → run_from o ps ≡ old_run_from o ps
+from_alike None ps free = refl
+from_alike (Some h) ps free = ap (λ r. if has_wide h.word (fractions_of h) then stopped None (OutOfRange 1) else r) (lines_alike ps (start h) 2 free)
+
+pieces_alike : (ps : List (List ℕ)) → All (λ piece. EndsInRounding piece → ⊥) ps → run_pieces ps ≡ old_run_pieces ps
+pieces_alike [] free = refl
+pieces_alike (p ∷ ps) free = from_alike (header_of_piece p) ps (λ i d lt. free (suc i) d (omega arith))
+
+pub means_as_before : MeansAsBefore
+unfolding run_of
+means_as_before script free = ap (λ r. meaning_with r.output r.fault) (pieces_alike (pieces script) free)

@@ -1,0 +1,85 @@
+-- What a script meant before a line could name its rounding: the same fold, over lines without a rounding, whose rows
+-- have none.
+use Rattle.std.specs.Prelude.{◌≡◌, ◌↔◌, ◌+◌, ◌++◌, ℕ, Bool, true, false, List, [], ◌∷◌, Option, Some, None, if◌then◌else◌}
+use Rattle.std.specs.Option.{option_map}
+use Rattle.std.specs.List.{All}
+use Rattle.fixed_word.specs.declared.rounding.Rounding.{Rounding}
+use Rattle.fixed_word.specs.Pieces.{pieces, body}
+use Rattle.fixed_text.specs.Tokens.{tokens_of}
+use Rattle.fixed_script.specs.Names.{rounding_name}
+use Rattle.fixed_script.specs.Text.{ScriptHeader, ScriptLine, SetTo, Apply, IsLine, line_text}
+use Rattle.fixed_script.specs.Lines.{line_in, if_its_text, then_of, header_of_piece}
+use Rattle.fixed_calc.specs.declared.answer.Answer.{Answer}
+use Rattle.fixed_calc.specs.declared.answer.Answer.TheVariants.{Bits}
+use Rattle.fixed_calc.specs.declared.cause.Cause.{Cause}
+use Rattle.fixed_calc.specs.declared.cause.Cause.TheVariants.{Syntax, OutOfRange, FractionMismatch}
+use Rattle.fixed_calc.specs.Answers.{answer_text}
+use Rattle.fixed_calc.specs.Projection.{project}
+use Rattle.fixed_calc.specs.Machine.{State, is_signed, width, taken, row_of, row_causes, first_of, is_unoffered, is_out_of_range, is_mismatched, destination, stored}
+use Rattle.fixed_calc.specs.Meaning.{Run, Meaning, stopped, by_cause, start, fractions_of, has_wide, meaning, meaning_with}
+
+-- ---- reading
+abbrev pub names_none : ScriptLine → Bool
+names_none (SetTo dest k) = true
+names_none (Apply dest policy op xs None) = true
+names_none (Apply dest policy op xs (Some rounding)) = false
+
+abbrev pub without_rounding : ScriptLine → ScriptLine
+without_rounding (SetTo dest k) = SetTo dest k
+without_rounding (Apply dest policy op xs rounding) = Apply dest policy op xs None
+
+-- the line without a rounding whose text the bytes are
+unfoldable pub old_line_of : List ℕ → Option ScriptLine
+old_line_of piece = if_its_text line_text piece (option_map without_rounding (line_in (tokens_of piece)))
+
+unfoldable pub old_line_of_piece : List ℕ → Option ScriptLine
+old_line_of_piece piece = then_of (body piece) old_line_of
+
+-- ---- the machine
+abbrev pub old_row_causes : State → ScriptLine → ℕ → List (Bool × Cause)
+old_row_causes s (SetTo dest x) k = []
+old_row_causes s (Apply dest policy op xs rounding) k = row_causes (is_signed s.word) (width s.word) policy op (row_of op (taken s.registers xs)) k
+
+abbrev pub old_cause : State → ScriptLine → ℕ → Option Cause
+old_cause s line k =
+    first_of ((is_unoffered s.word line, Syntax k) ∷ (is_out_of_range s line, OutOfRange k) ∷ (is_mismatched s line, FractionMismatch k) ∷ old_row_causes s line k)
+
+abbrev pub old_answer : State → ScriptLine → Answer
+old_answer s (SetTo dest k) = Bits k
+old_answer s (Apply dest policy op xs rounding) = project policy (is_signed s.word) (width s.word) (row_of op (taken s.registers xs))
+
+abbrev pub old_move : State → ScriptLine → State
+old_move s line = record { word = s.word; registers = stored s.registers (destination line) (old_answer s line) }
+
+-- ---- the fold
+abbrev pub old_step_then : State → ℕ → Option ScriptLine → (State → Run) → Run
+old_step_then s k None next = stopped (Some s) (Syntax k)
+old_step_then s k (Some line) next = by_cause (old_cause s line k) s (answer_text (old_answer s line)) (next (old_move s line))
+
+unfoldable pub old_run_lines : State → ℕ → List (List ℕ) → Run
+old_run_lines s k [] = record { state = Some s; output = []; fault = None }
+old_run_lines s k (p ∷ ps) = old_step_then s k (old_line_of_piece p) (λ t. old_run_lines t (k + 1) ps)
+
+abbrev pub old_run_from : Option ScriptHeader → List (List ℕ) → Run
+old_run_from None ps = stopped None (Syntax 1)
+old_run_from (Some h) ps = if has_wide h.word (fractions_of h) then stopped None (OutOfRange 1) else old_run_lines (start h) 2 ps
+
+abbrev pub old_run_pieces : List (List ℕ) → Run
+old_run_pieces [] = stopped None (Syntax 1)
+old_run_pieces (p ∷ ps) = old_run_from (header_of_piece p) ps
+
+abbrev pub old_meaning : List ℕ → Meaning
+old_meaning script = let run = old_run_pieces (pieces script) in meaning_with run.output run.fault
+
+-- ---- the laws
+-- the old reading finds the lines that name no rounding, and no other
+abbrev pub ReadsOldLines : Type 0
+ReadsOldLines = (piece : List ℕ) (line : ScriptLine) → (old_line_of piece ≡ Some line) ↔ (IsLine line × (names_none line ≡ true) × (line_text line ≡ piece))
+
+-- a space and the name of a rounding stand before the newline of the piece
+abbrev pub EndsInRounding : List ℕ → Type 0
+EndsInRounding piece = (front : List ℕ) × (rounding : Rounding) × (piece ≡ front ++ (32 ∷ rounding_name rounding) ++ (10 ∷ []))
+
+-- a script without such a piece has the meaning that it had before
+abbrev pub MeansAsBefore : Type 0
+MeansAsBefore = (script : List ℕ) → All (λ piece. EndsInRounding piece → ⊥) (pieces script) → meaning script ≡ old_meaning script
