@@ -4,6 +4,7 @@ ghost use Rattle.std.specs.Prelude.{◌≡◌, ◌≢◌, ◌≤◌, ℕ, ℤ, p
 ghost use Rattle.fixed_calc.specs.Rows.{exact as exact_row, exact_by, exact_rounded};
 ghost use Rattle.fixed_kernel.specs.Rows.{by_divisor};
 ghost use Rattle.fixed_kernel.specs.RoundedRows.{rounded_div, rounded_div_int, rounded_recip};
+ghost use Rattle.fixed_script.specs.Text.{takes_rounding as rounds};
 ghost use Rattle.fixed_calc.specs.Offered.{is_offered};
 ghost use Rattle.fixed_calc.specs.inside.Groups.{group, OfOne, SumOrProduct, ByDivisor};
 ghost use Rattle.fixed_calc.specs.inside.Stepping.{OutcomeTells};
@@ -15,7 +16,7 @@ use fixed_kernel::{
     recip_round_of, rem_euclid_int_of, rem_euclid_of, rem_int_of, rem_of, signum_of, sqrt_of,
     sub_of,
 };
-use fixed_script::{Op, Policy};
+use fixed_script::{Op, Policy, takes_rounding};
 use fixed_word::{Outcome, Rounding, Word};
 
 /// An operand: its bits in a word, and its fraction.
@@ -212,16 +213,16 @@ fn rounded_reciprocal<T: Word>(a: Operand<T>, rounding: Rounding) -> Option<Outc
 }
 
 /// The outcome of the operation's row with the rounding that is named, where it is defined.
+#[inline(never)]
 #[tactic(auto, unfolding(crate::specs::Rows::exact_rounded))]
 fn rounded_outcome_as<T: Word>(
     rounding: Rounding,
-    policy: Policy,
     op: Op,
     a: Operand<T>,
     b: Operand<T>,
     c: Operand<T>,
 ) -> Option<Outcome<T>>
-    requires offered { is_offered T.SIGNED policy op ≡ true }
+    requires rounds { rounds op ≡ true }
     requires a { a.fraction ≤ T.BITS }
     requires b { b.fraction ≤ T.BITS }
     requires c { c.fraction ≤ T.BITS }
@@ -237,7 +238,7 @@ fn rounded_outcome_as<T: Word>(
         Op::Div => rounded_quotient(a, b.bits, rounding),
         Op::DivInt => rounded_quotient_by(a.bits, b.bits, rounding),
         Op::Recip => rounded_reciprocal(a, rounding),
-        _ => outcome_as(policy, op, a, b, c),
+        _ => None,
     }
 }
 
@@ -259,7 +260,7 @@ pub(crate) fn outcome_by<T: Word>(
         (exact_by rounding op (T.value a.bits) (T.value b.bits) (T.value c.bits) a.fraction b.fraction c.fraction) result }
 {
     match rounding {
-        None => outcome_as(policy, op, a, b, c),
-        Some(rounding) => rounded_outcome_as(rounding, policy, op, a, b, c),
+        Some(rounding) if takes_rounding(op) => rounded_outcome_as(rounding, op, a, b, c),
+        _ => outcome_as(policy, op, a, b, c),
     }
 }

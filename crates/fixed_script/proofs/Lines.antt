@@ -20,7 +20,7 @@ use Rattle.fixed_script.specs.Text.{ScriptLine, SetTo, Apply, Operands, OneRegis
 use Rattle.fixed_text.specs.Numerals.{cap}
 use Rattle.fixed_script.specs.Capped.{cap_whole, cap_operands, capped, denoted, literal_value, of_shape, if_rounds}
 use Rattle.fixed_text.specs.Tokens.{◌>>=◌, next_by, at_end, tokens_of}
-use Rattle.fixed_script.specs.inside.Parser.{register_at, literal_at, set_at, rounding_at, ends_by, operands_at, apply_at, line_at}
+use Rattle.fixed_script.specs.inside.Parser.{register_at, literal_at, set_at, named_at, rounding_at, ends_by, operands_at, apply_at, line_at}
 use Rattle.fixed_text.proofs.Steps.{guard_some, bind_some, next_some, end_some, named_takes}
 use Rattle.fixed_script.proofs.Readers.{register_takes, register_again, literal_takes, literal_again, policy_again, op_again}
 use Rattle.fixed_script.proofs.Joined.{tokens_of_line}
@@ -42,11 +42,13 @@ rounding_read : (op : Op) (ts : List (List ℕ)) (r : Option Rounding) → round
 unfolding rounding_at
 rounding_read op [] r e = subst (λ q. (may_round op q ≡ true) × (rounding_tokens q ≡ [])) (same_Some None r e) (refl, refl)
 rounding_read op (t ∷ ts) r e =
-    let n = next_some rounding_named (t ∷ ts) (λ x. cond (takes_rounding op) (at_end x.1 (Some x.0)) None) r e in
-    let g = guard_some (takes_rounding op) (at_end n.rest (Some n.value)) r n.goes_on in
-    let done = end_some n.rest (Some n.value) r g.1 in
+    let p = bind_some (named_at op (t ∷ ts)) (λ q. Some (Some q)) r e in
+    let n = next_some rounding_named (t ∷ ts) (λ x. cond (takes_rounding op) (at_end x.1 x.0) None) p.0 p.1 in
+    let g = guard_some (takes_rounding op) (at_end n.rest n.value) p.0 n.goes_on in
+    let done = end_some n.rest n.value p.0 g.1 in
     let name = named_takes rounding_name (Down ∷ Zero ∷ Even ∷ []) n.token n.value n.reads in
-    subst (λ q. (may_round op q ≡ true) × (rounding_tokens q ≡ t ∷ ts)) done.1 (g.0, ap (λ x. x ∷ []) name ∙ ap (λ us. n.token ∷ us) (sym done.0) ∙ sym n.is)
+    let again = ap (λ q. rounding_name q ∷ []) (sym done.1) ∙ ap (λ x. x ∷ []) name ∙ ap (λ us. n.token ∷ us) (sym done.0) ∙ sym n.is in
+    subst (λ q. (may_round op q ≡ true) × (rounding_tokens q ≡ t ∷ ts)) (same_Some (Some p.0) r p.2) (g.0, again)
 
 rounding_takes : (op : Op) (ts : List (List ℕ)) (line : Option Rounding → Line) (found : Line) → ends_by op ts line ≡ Some found → (r : Option Rounding) × (may_round op r ≡ true) × (rounding_tokens r ≡ ts) × (line r ≡ found)
 rounding_takes op ts line found e =
@@ -60,9 +62,9 @@ rounds_some op r line m = ap (λ b. cond b line None) m
 rounding_again : (op : Op) (r : Option Rounding) → may_round op r ≡ true → rounding_at op (rounding_tokens r) ≡ Some r
 unfolding rounding_at
 rounding_again op None m = refl
-rounding_again op (Some Down) m = ap (λ b. cond b (Some (Some Down)) None) m
-rounding_again op (Some Zero) m = ap (λ b. cond b (Some (Some Zero)) None) m
-rounding_again op (Some Even) m = ap (λ b. cond b (Some (Some Even)) None) m
+rounding_again op (Some Down) m = ap (λ b. cond b (Some Down) None >>= λ q. Some (Some q)) m
+rounding_again op (Some Zero) m = ap (λ b. cond b (Some Zero) None >>= λ q. Some (Some q)) m
+rounding_again op (Some Even) m = ap (λ b. cond b (Some Even) None >>= λ q. Some (Some q)) m
 
 -- the operands that were read, and the rounding
 abbrev AreOperands : ℕ → Policy → Op → ℕ → List (List ℕ) → Line → Type 0

@@ -4,7 +4,7 @@ ghost use Rattle.std.specs.Prelude.{◌≡◌, Some, IfSome, IfNone};
 ghost use Rattle.fixed_script.specs.Text.{shape, takes_rounding as rounds, ScriptLine, IsLine, line_text};
 ghost use Rattle.fixed_script.specs.Capped.{capped, denoted};
 ghost use Rattle.fixed_text.specs.Tokens.{at_end, tokens_of};
-ghost use Rattle.fixed_script.specs.inside.Parser.{set_at, rounding_at, operands_at, apply_at, line_at};
+ghost use Rattle.fixed_script.specs.inside.Parser.{set_at, named_at, rounding_at, operands_at, apply_at, line_at};
 
 use crate::literal::Literal;
 use crate::names::{Op, Policy, policy_of, rounding_of};
@@ -110,25 +110,36 @@ fn set_of(dest: u128, tokens: &mut Tokens<'_>) -> Option<Line>
     at_end(tokens, Line::Set { dest, literal })
 }
 
-/// The rounding that the last token names, or none where no token is left.
-#[tactic(auto, unfolding(crate::specs::inside::Parser::rounding_at))]
-fn rounding_at_end(op: Op, tokens: &mut Tokens<'_>) -> Option<Option<Rounding>>
-    ensures { result ≡ rounding_at op tokens.old }
+/// The rounding that the last token names. The tokens come by value, so that those of the lines without a
+/// rounding stay in registers.
+#[inline(never)]
+fn named_rounding(op: Op, mut tokens: Tokens<'_>) -> Option<Rounding>
+    ensures { result ≡ named_at op tokens.entry }
 {
-    if tokens.is_empty() {
-        return Some(None);
-    }
     let rounding = rounding_of(tokens.take()?)?;
     if takes_rounding(op) && tokens.is_empty() {
-        Some(Some(rounding))
+        Some(rounding)
     } else {
         None
     }
 }
 
+/// The rounding that the last token names, or none where no token is left.
+#[inline(always)]
+#[tactic(auto, unfolding(crate::specs::inside::Parser::rounding_at))]
+fn rounding_at_end(op: Op, tokens: Tokens<'_>) -> Option<Option<Rounding>>
+    ensures { result ≡ rounding_at op tokens.entry }
+{
+    if tokens.is_empty() {
+        Some(None)
+    } else {
+        Some(Some(named_rounding(op, tokens)?))
+    }
+}
+
 #[tactic(auto, unfolding(crate::specs::inside::Parser::operands_at))]
-fn operands_of(dest: u128, policy: Policy, op: Op, a: u128, tokens: &mut Tokens<'_>) -> Option<Line>
-    ensures { result ≡ operands_at (shape op) dest policy op a tokens.old }
+fn operands_of(dest: u128, policy: Policy, op: Op, a: u128, mut tokens: Tokens<'_>) -> Option<Line>
+    ensures { result ≡ operands_at (shape op) dest policy op a tokens.entry }
 {
     match shape_of(op) {
         Shape::Unary => {
@@ -142,7 +153,7 @@ fn operands_of(dest: u128, policy: Policy, op: Op, a: u128, tokens: &mut Tokens<
             })
         }
         Shape::Binary => {
-            let b = take_register(tokens)?;
+            let b = take_register(&mut tokens)?;
             let rounding = rounding_at_end(op, tokens)?;
             Some(Line::Two {
                 dest,
@@ -154,7 +165,7 @@ fn operands_of(dest: u128, policy: Policy, op: Op, a: u128, tokens: &mut Tokens<
             })
         }
         Shape::ByInteger => {
-            let literal = take_literal(tokens)?;
+            let literal = take_literal(&mut tokens)?;
             let rounding = rounding_at_end(op, tokens)?;
             Some(Line::Int {
                 dest,
@@ -166,8 +177,8 @@ fn operands_of(dest: u128, policy: Policy, op: Op, a: u128, tokens: &mut Tokens<
             })
         }
         Shape::Ternary => {
-            let b = take_register(tokens)?;
-            let c = take_register(tokens)?;
+            let b = take_register(&mut tokens)?;
+            let c = take_register(&mut tokens)?;
             let rounding = rounding_at_end(op, tokens)?;
             Some(Line::Three {
                 dest,
@@ -183,11 +194,11 @@ fn operands_of(dest: u128, policy: Policy, op: Op, a: u128, tokens: &mut Tokens<
 }
 
 #[tactic(auto, unfolding(crate::specs::inside::Parser::apply_at))]
-fn apply_of(dest: u128, policy: Policy, tokens: &mut Tokens<'_>) -> Option<Line>
-    ensures { result ≡ apply_at dest policy tokens.old }
+fn apply_of(dest: u128, policy: Policy, mut tokens: Tokens<'_>) -> Option<Line>
+    ensures { result ≡ apply_at dest policy tokens.entry }
 {
-    let op = take_op(tokens)?;
-    let a = take_register(tokens)?;
+    let op = take_op(&mut tokens)?;
+    let a = take_register(&mut tokens)?;
     operands_of(dest, policy, op, a, tokens)
 }
 
@@ -207,7 +218,7 @@ fn line_from(mut tokens: Tokens<'_>) -> Option<Line>
             policy_of(name)?
         }
     };
-    apply_of(dest, policy, &mut tokens)
+    apply_of(dest, policy, tokens)
 }
 
 /// The line whose text the piece is, without its newline; None exactly where no line has that text.

@@ -28,12 +28,16 @@ set_at dest ts = do
   literal ← next_by literal_at ts
   at_end literal.1 (Set dest literal.0)
 
+-- the rounding that the last token names
+abbrev pub named_at : Op → List (List ℕ) → Option Rounding
+named_at op ts = do
+  rounding ← next_by rounding_named ts
+  if takes_rounding op then at_end rounding.1 rounding.0 else None
+
 -- a rounding or none, and then no token
 unfoldable pub rounding_at : Op → List (List ℕ) → Option (Option Rounding)
 rounding_at op [] = Some None
-rounding_at op (t ∷ ts) = do
-  rounding ← next_by rounding_named (t ∷ ts)
-  if takes_rounding op then at_end rounding.1 (Some rounding.0) else None
+rounding_at op (t ∷ ts) = named_at op (t ∷ ts) >>= λ rounding. Some (Some rounding)
 
 -- the line that takes a rounding, or none, at its end
 abbrev pub ends_by : Op → List (List ℕ) → (Option Rounding → Line) → Option Line
