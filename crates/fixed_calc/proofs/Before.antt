@@ -55,7 +55,7 @@ reads_old_lines piece l = (
 )
 
 -- ---- a line that names a rounding ends in its name
-join_last : (t : List ℕ) (us : List (List ℕ)) (v : List ℕ) → join_with_byte 32 (t ∷ (us ++ (v ∷ []))) ≡ join_with_byte 32 (t ∷ us) ++ (32 ∷ v)
+pub join_last : (t : List ℕ) (us : List (List ℕ)) (v : List ℕ) → join_with_byte 32 (t ∷ (us ++ (v ∷ []))) ≡ join_with_byte 32 (t ∷ us) ++ (32 ∷ v)
 join_last t [] v = refl
 join_last t (u ∷ us) v = ap (λ zs. t ++ (32 ∷ zs)) (join_last u us v) ∙ sym (append_assoc t (32 ∷ join_with_byte 32 (u ∷ us)) (32 ∷ v))
 

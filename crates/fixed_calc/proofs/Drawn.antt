@@ -1,8 +1,7 @@
 -- The lines of a demonstration: each is a line, in one piece, and has no cause where its eight registers have one fraction.
-use Rattle.std.proofs.Common.{◌≡◌, ◌^◌, ◌<◌, ◌==◌, ℕ, zero, suc, pos, true, false, not, nat_le, List, [], ◌∷◌, ◌++◌, length, None, refl, ◌∙◌, arith}
+use Rattle.std.proofs.Common.{◌≡◌, ◌^◌, ◌<◌, ◌==◌, ℕ, zero, suc, pos, true, false, not, nat_le, List, [], ◌∷◌, length, None, refl, ◌∙◌, arith}
 use Rattle.std.specs.Bool.{⊤}
-use Rattle.std.specs.List.{All, list_all}
-use Rattle.std.specs.Cmp.Derive.{both_true}
+use Rattle.std.specs.List.{All}
 use Rattle.std.proofs.lemmas.Bool.Decides.{nat_tests}
 use Rattle.std.proofs.lemmas.Int.{ints}
 use Rattle.std.proofs.lemmas.List.Elements.{All-nil, All-cons, All-append, All-set}
@@ -15,15 +14,15 @@ use Rattle.fixed_script.specs.declared.names.Op.{Op}
 use Rattle.fixed_script.specs.declared.names.Op.TheVariants.{Add, Sub, Mul, Div, MulAdd, AddProd, Sqrt}
 use Rattle.fixed_calc.specs.declared.answer.Answer.{Answer}
 use Rattle.fixed_calc.specs.declared.answer.Answer.TheVariants.{Absent, Bits, Flagged}
-use Rattle.fixed_script.specs.Names.{policy_name, op_name}
-use Rattle.fixed_script.specs.Text.{ScriptLine, SetTo, Apply, Operands, OneRegister, TwoRegisters, RegisterAndInt, ThreeRegisters, IsLine, shape, shape_of, operand_tokens, line_tokens, line_text}
+use Rattle.fixed_script.specs.Text.{ScriptLine, SetTo, Apply, Operands, OneRegister, TwoRegisters, ThreeRegisters, IsLine, shape, shape_of, line_text}
 use Rattle.fixed_calc.specs.Rows.{exact}
 use Rattle.fixed_calc.specs.Offered.{is_offered}
 use Rattle.fixed_calc.specs.Machine.{State, Cell, empty_cell, cell_at, destination, is_value, is_unoffered, is_out_of_range, is_mismatched, row_causes, causes_of, first_of, cause, stored, answer, move}
 use Rattle.fixed_calc.specs.Demo.{state_at, draw, octal_digit, choices, drawn_line, demo_lines}
+use Rattle.fixed_calc.proofs.Lacks.{line_lacks}
 use Rattle.fixed_calc.proofs.Causes.{PassesTests, after_tests}
 use Rattle.fixed_calc.proofs.Fits.{fit_true}
-use Rattle.fixed_text.proofs.Lacking.{lacks, natural_lacks, whole_lacks, joined_lack}
+use Rattle.fixed_text.proofs.Lacking.{lacks}
 
 -- ---- the draws
 pub state_small : (i : ℕ) → state_at i < 2 ^ 64
@@ -145,33 +144,20 @@ checked_total : (s : State) (d : ℕ) (op : Op) (xs : Operands) (k : ℕ) → fi
 unfolding row_causes
 checked_total s d op xs k = refl
 
--- the text of each line is in one piece
-operands_lack : (xs : Operands) → list_all (lacks 10) (operand_tokens xs ++ []) ≡ true
-operands_lack (OneRegister a) = both_true (natural_lacks 10 a refl) refl
-operands_lack (TwoRegisters a b) = both_true (natural_lacks 10 a refl) (both_true (natural_lacks 10 b refl) refl)
-operands_lack (RegisterAndInt a k) = both_true (natural_lacks 10 a refl) (both_true (whole_lacks 10 k refl refl) refl)
-operands_lack (ThreeRegisters a b c) = both_true (natural_lacks 10 a refl) (both_true (natural_lacks 10 b refl) (both_true (natural_lacks 10 c refl) refl))
-
-applied_lacks : (d : ℕ) (policy : Policy) (op : Op) (xs : Operands) → lacks 10 (policy_name policy) ≡ true → lacks 10 (op_name op) ≡ true → lacks 10 (line_text (Apply d policy op xs None)) ≡ true
-applied_lacks d policy op xs p o = joined_lack (line_tokens (Apply d policy op xs None)) (both_true (natural_lacks 10 d refl) (both_true p (both_true o (operands_lack xs))))
-
-set_lacks : (d t : ℕ) → lacks 10 (line_text (SetTo d (pos t))) ≡ true
-set_lacks d t = joined_lack (line_tokens (SetTo d (pos t))) (both_true (natural_lacks 10 d refl) (both_true (natural_lacks 10 t refl) refl))
-
 -- ---- the lines that are drawn
 set_drawn : (d t : ℕ) → d < 8 → t < 2 ^ 31 → IsDrawn (SetTo d (pos t))
 set_drawn d t there small = record {
   is_line = tt;
-  one_piece = set_lacks d t;
+  one_piece = line_lacks (SetTo d (pos t));
   there = there;
   no_cause = λ s k ready. after_tests s (SetTo d (pos t)) k (set_tests s d t ready there small);
 }
 
-apply_drawn : (d : ℕ) (policy : Policy) (op : Op) (xs : Operands) → shape op ≡ shape_of xs → lacks 10 (policy_name policy) ≡ true → lacks 10 (op_name op) ≡ true → d < 8
+apply_drawn : (d : ℕ) (policy : Policy) (op : Op) (xs : Operands) → shape op ≡ shape_of xs → d < 8
     → ((s : State) → IsReady s → PassesTests s (Apply d policy op xs None)) → ((s : State) (k : ℕ) → first_of (causes_of s (Apply d policy op xs None) k) ≡ None) → IsDrawn (Apply d policy op xs None)
-apply_drawn d policy op xs shaped p o there tests total = record {
+apply_drawn d policy op xs shaped there tests total = record {
   is_line = (shaped, refl);
-  one_piece = applied_lacks d policy op xs p o;
+  one_piece = line_lacks (Apply d policy op xs None);
   there = there;
   no_cause = λ s k ready. after_tests s (Apply d policy op xs None) k (tests s ready) ∙ total s k;
 }
@@ -190,13 +176,13 @@ unfolding is_offered
 choices_drawn t d a b small there first second =
     let two = TwoRegisters a b in
     let set = set_drawn d t there small in
-    let add = apply_drawn d Wrapping Add two refl refl refl there (λ s ready. two_tests s d a b Wrapping Add refl ready there first second) (λ s k. add_total s d a b k) in
-    let sub = apply_drawn d Overflowing Sub two refl refl refl there (λ s ready. two_tests s d a b Overflowing Sub refl ready there first second) (λ s k. sub_total s d a b k) in
-    let mul = apply_drawn d Saturating Mul two refl refl refl there (λ s ready. two_tests s d a b Saturating Mul refl ready there first second) (λ s k. mul_total s d a b k) in
-    let div = apply_drawn d Checked Div two refl refl refl there (λ s ready. two_tests s d a b Checked Div refl ready there first second) (λ s k. checked_total s d Div two k) in
-    let mul_add = apply_drawn d Wrapping MulAdd (ThreeRegisters a b d) refl refl refl there (λ s ready. mul_add_tests s d a b d ready there first second there) (λ s k. mul_add_total s d a b d k) in
-    let add_prod = apply_drawn d Overflowing AddProd (ThreeRegisters d a b) refl refl refl there (λ s ready. add_prod_tests s d d a b ready there there first second) (λ s k. add_prod_total s d d a b k) in
-    let sqrt = apply_drawn d Checked Sqrt (OneRegister a) refl refl refl there (λ s ready. one_tests s d a Checked Sqrt refl ready there first) (λ s k. checked_total s d Sqrt (OneRegister a) k) in
+    let add = apply_drawn d Wrapping Add two refl there (λ s ready. two_tests s d a b Wrapping Add refl ready there first second) (λ s k. add_total s d a b k) in
+    let sub = apply_drawn d Overflowing Sub two refl there (λ s ready. two_tests s d a b Overflowing Sub refl ready there first second) (λ s k. sub_total s d a b k) in
+    let mul = apply_drawn d Saturating Mul two refl there (λ s ready. two_tests s d a b Saturating Mul refl ready there first second) (λ s k. mul_total s d a b k) in
+    let div = apply_drawn d Checked Div two refl there (λ s ready. two_tests s d a b Checked Div refl ready there first second) (λ s k. checked_total s d Div two k) in
+    let mul_add = apply_drawn d Wrapping MulAdd (ThreeRegisters a b d) refl there (λ s ready. mul_add_tests s d a b d ready there first second there) (λ s k. mul_add_total s d a b d k) in
+    let add_prod = apply_drawn d Overflowing AddProd (ThreeRegisters d a b) refl there (λ s ready. add_prod_tests s d d a b ready there there first second) (λ s k. add_prod_total s d d a b k) in
+    let sqrt = apply_drawn d Checked Sqrt (OneRegister a) refl there (λ s ready. one_tests s d a Checked Sqrt refl ready there first) (λ s k. checked_total s d Sqrt (OneRegister a) k) in
     (set, (add, (sub, (mul, (div, (mul_add, (add_prod, (sqrt, tt))))))))
 
 drawn : (t : ℕ) → t < 2 ^ 31 → IsDrawn (drawn_line t)

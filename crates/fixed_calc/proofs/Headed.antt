@@ -31,7 +31,7 @@ header_by p h None is e = cc
 header_by p h (Some t) is e =
     body_by p t (slice_index p (length p - 1) == 10) refl is ∙ ap (λ (f : List ℕ). f ++ (10 ∷ [])) (sym ((reads_headers t h).0 e))
 
-header_piece : (p : List ℕ) (h : ScriptHeader) → header_of_piece p ≡ Some h → p ≡ header_text h ++ (10 ∷ [])
+pub header_piece : (p : List ℕ) (h : ScriptHeader) → header_of_piece p ≡ Some h → p ≡ header_text h ++ (10 ∷ [])
 unfolding header_of_piece
 header_piece p h e = header_by p h (body p) refl e
 

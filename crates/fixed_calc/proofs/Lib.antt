@@ -17,3 +17,5 @@ pub mod WidenedRuns
 pub mod Headed
 pub mod Divisors
 pub mod Before
+pub mod Lacks
+pub mod Spellings

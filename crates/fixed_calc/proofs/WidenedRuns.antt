@@ -77,7 +77,7 @@ word_lacks U16 = refl
 word_lacks U32 = refl
 word_lacks U64 = refl
 
-script_pieces : (h : ScriptHeader) (lines : List ℕ) → pieces (script_of h lines) ≡ ended (header_text h) ∷ pieces lines
+pub script_pieces : (h : ScriptHeader) (lines : List ℕ) → pieces (script_of h lines) ≡ ended (header_text h) ∷ pieces lines
 script_pieces h lines = pieces_ended (header_text h) lines (joined_lack (header_tokens h) (both_true (word_lacks h.word) (naturals_lack 10 (fractions_of h) refl)))
 
 lines_run : (h : ScriptHeader) (lines : List ℕ) → has_wide h.word (fractions_of h) ≡ false → run_of (script_of h lines) ≡ run_lines (start h) 2 (pieces lines)

@@ -13,6 +13,7 @@ pub mod Caps
 pub mod OneNumber
 pub mod Widening
 pub mod Before
+pub mod Spelled
 pub mod Demo
 pub mod CommandLine
 pub mod inside

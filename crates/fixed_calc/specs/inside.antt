@@ -5,3 +5,4 @@ pub mod Moves
 pub mod Reading
 pub mod Stepping
 pub mod Groups
+pub mod Spelling

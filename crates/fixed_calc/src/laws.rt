@@ -8,6 +8,7 @@ ghost use Rattle.fixed_calc.specs.Caps.{CapsAlike};
 ghost use Rattle.fixed_calc.specs.Demo.{demo_answers, demo_text};
 ghost use Rattle.fixed_calc.specs.Meaning.{Output, meaning, run_of, start};
 ghost use Rattle.fixed_calc.specs.OneNumber.{WhereItFits, WhereItMisses};
+ghost use Rattle.fixed_calc.specs.Spelled.{KeepsMeaning};
 ghost use Rattle.fixed_calc.specs.Widening.{IsWider, rows_fit, script_of, with_word};
 ghost use Rattle.fixed_script.specs.Text.{ScriptHeader};
 ghost use Rattle.fixed_text.specs.declared.names.WordName.{WordName};
@@ -61,4 +62,10 @@ pub fn widening_law()
 pub fn before_law()
     ensures meaning { MeansAsBefore }
     ensures lines { ReadsOldLines }
+{}
+
+/// A script that is spelled out means what the script means: the same output, or the same cause of the
+/// same line.
+pub fn spelling_law()
+    ensures { KeepsMeaning }
 {}

@@ -20,6 +20,8 @@ mod programs;
 #[cfg(test)]
 mod refused;
 #[cfg(test)]
+mod spelled;
+#[cfg(test)]
 mod text;
 #[cfg(test)]
 mod worked;

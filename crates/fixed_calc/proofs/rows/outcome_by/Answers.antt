@@ -1,4 +1,4 @@
-use Rattle.std.proofs.Common.{◌≡◌, ℤ, Option, sym, ap, subst, ◌∙◌}
+use Rattle.std.proofs.Common.{ℤ, Option, sym, ap, subst, ◌∙◌}
 use Rattle.fixed_calc.specs.Rows.{exact_by}
 use Rattle.fixed_calc.specs.inside.Stepping.{OutcomeTells}
 use Rattle.fixed_calc.proofs.Divisors.{named_in_vain}

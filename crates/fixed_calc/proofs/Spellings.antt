@@ -1,0 +1,293 @@
+-- A script that is spelled out: how it is written, and that it means the same.
+use Rattle.std.proofs.Common.{◌≡◌, ◌+◌, ◌-◌, ℕ, ℤ, pos, negsuc, Bool, true, false, not, ◌||◌, nat_le, List, [], ◌∷◌, ◌++◌, length, take, length-append, Option, Some, None, if◌then◌else◌, refl, sym, ap, ◌∙◌, arith, append_assoc}
+use Rattle.std.specs.List.{join_with_byte, list_any}
+use Rattle.std.proofs.lemmas.List.{append-nil}
+use Rattle.std.proofs.lemmas.Option.{same_Some}
+use Rattle.std.proofs.Math.Seq.{take-append_seam}
+use Rattle.fixed_word.specs.declared.rounding.Rounding.{Rounding}
+use Rattle.fixed_word.specs.declared.rounding.Rounding.TheVariants.{Down}
+use Rattle.fixed_word.specs.Pieces.{pieces, body}
+use Rattle.fixed_kernel.specs.Rows.{exact_add_prod_at}
+use Rattle.fixed_kernel.specs.RoundedRows.{rounded_add_prod_at}
+use Rattle.fixed_script.specs.declared.names.Policy.{Policy}
+use Rattle.fixed_script.specs.declared.names.Op.{Op}
+use Rattle.fixed_script.specs.declared.names.Op.TheVariants.{Neg, Add, Sub, Mul, Div, Recip, MulAdd, AddProd, MulInt, DivInt, DivEuclid, DivEuclidInt, RemEuclidInt, NextMultipleOf, Dist, Sqrt, Abs, Signum, Rem, RemInt, RemEuclid, NextPowerOfTwo}
+use Rattle.fixed_script.specs.declared.line.Shape.{Shape}
+use Rattle.fixed_script.specs.declared.line.Shape.TheVariants.{Unary, Binary, ByInteger, Ternary}
+use Rattle.fixed_script.specs.declared.line.Line.{Line}
+use Rattle.fixed_script.specs.declared.line.Line.TheVariants.{Set, One, Two, Int, Three}
+use Rattle.fixed_script.specs.Names.{policy_name, op_name, rounding_name}
+use Rattle.fixed_script.specs.Text.{ScriptHeader, ScriptLine, SetTo, Apply, Operands, OneRegister, TwoRegisters, RegisterAndInt, ThreeRegisters, IsLine, shape, may_round, register_text, operand_tokens, header_text, line_text}
+use Rattle.fixed_script.specs.Capped.{capped, denoted, literal_value, of_shape}
+use Rattle.fixed_script.specs.Lines.{then_of, line_of, line_of_piece, header_of_piece}
+use Rattle.fixed_script.proofs.TextsRead.{reads_lines}
+use Rattle.fixed_calc.specs.Answers.{answer_text}
+use Rattle.fixed_calc.specs.Demo.{ended}
+use Rattle.fixed_calc.specs.Machine.{State, Taken, taken, row_by, row_causes, causes_of, first_of, literals_of, registers_of, is_value, is_unoffered, is_out_of_range, is_mismatched, is_signed, width, stored, cause, answer, move}
+use Rattle.fixed_calc.specs.Rows.{exact, exact_rounded}
+use Rattle.fixed_calc.specs.Projection.{project}
+use Rattle.fixed_calc.specs.Meaning.{Run, by_cause, step_then, run_lines, run_from, run_pieces, run_of, start, fractions_of, has_wide, stopped, meaning_with}
+use Rattle.fixed_calc.specs.declared.cause.Cause.TheVariants.{Syntax, OutOfRange, FractionMismatch}
+use Rattle.fixed_calc.specs.Spelled.{default_rounding, spelled_line, Spelling, Written, NoForm, in_front, spell_then, spelled_lines, spelled_from, spelled_pieces, spelled, KeepsMeaning}
+use Rattle.fixed_calc.specs.inside.Spelling.{added_to, with_end}
+use Rattle.fixed_calc.specs.inside.Stepping.{seen}
+use Rattle.fixed_calc.proofs.Before.{join_last}
+use Rattle.fixed_calc.proofs.Ended.{pieces_ended, line_read, header_read}
+use Rattle.fixed_calc.proofs.Headed.{body_by, header_piece}
+use Rattle.fixed_calc.proofs.Lacks.{line_lacks}
+use Rattle.fixed_calc.proofs.WidenedRuns.{script_pieces}
+
+-- ---- the line that was read, and the rounding that is added
+shape_seen : (s t : Shape) (l x : ScriptLine) → of_shape s t l ≡ Some x → of_shape s t l ≡ Some l
+shape_seen Unary Unary l x e = refl
+shape_seen Binary Binary l x e = refl
+shape_seen ByInteger ByInteger l x e = refl
+shape_seen Ternary Ternary l x e = refl
+shape_seen Unary Binary l x e = cc
+shape_seen Unary ByInteger l x e = cc
+shape_seen Unary Ternary l x e = cc
+shape_seen Binary Unary l x e = cc
+shape_seen Binary ByInteger l x e = cc
+shape_seen Binary Ternary l x e = cc
+shape_seen ByInteger Unary l x e = cc
+shape_seen ByInteger Binary l x e = cc
+shape_seen ByInteger Ternary l x e = cc
+shape_seen Ternary Unary l x e = cc
+shape_seen Ternary Binary l x e = cc
+shape_seen Ternary ByInteger l x e = cc
+
+round_seen : (b : Bool) (s t : Shape) (l x : ScriptLine) → (if b then of_shape s t l else None) ≡ Some x → l ≡ x
+round_seen true s t l x e = same_Some l x (sym (shape_seen s t l x e) ∙ e)
+round_seen false s t l x e = cc
+
+line_seen : (line : Line) (x : ScriptLine) → denoted line ≡ Some x → seen line ≡ x
+line_seen (Set dest l) x e = same_Some (SetTo dest (literal_value l)) x e
+line_seen (One dest policy op a r) x e = round_seen (may_round op r) (shape op) Unary (Apply dest policy op (OneRegister a) r) x e
+line_seen (Two dest policy op a b r) x e = round_seen (may_round op r) (shape op) Binary (Apply dest policy op (TwoRegisters a b) r) x e
+line_seen (Int dest policy op a l r) x e = round_seen (may_round op r) (shape op) ByInteger (Apply dest policy op (RegisterAndInt a (literal_value l)) r) x e
+line_seen (Three dest policy op a b c r) x e = round_seen (may_round op r) (shape op) Ternary (Apply dest policy op (ThreeRegisters a b c) r) x e
+
+added_capped : (x : ScriptLine) → added_to (capped x) ≡ added_to x
+added_capped (SetTo dest k) = refl
+added_capped (Apply dest policy op xs None) = refl
+added_capped (Apply dest policy op xs (Some r)) = refl
+
+pub added_seen : (line : Line) (x : ScriptLine) → denoted line ≡ Some (capped x) → added_to (seen line) ≡ added_to x
+added_seen line x e = ap added_to (line_seen line (capped x) e) ∙ added_capped x
+
+-- ---- the text that is written
+text_rounded : (dest : ℕ) (policy : Policy) (op : Op) (xs : Operands) (r : Rounding) → line_text (Apply dest policy op xs (Some r)) ≡ line_text (Apply dest policy op xs None) ++ (32 ∷ rounding_name r)
+text_rounded dest policy op xs r =
+    join_last (register_text dest) (policy_name policy ∷ op_name op ∷ operand_tokens xs) (rounding_name r)
+    ∙ ap (λ us. join_with_byte 32 (register_text dest ∷ policy_name policy ∷ op_name op ∷ us) ++ (32 ∷ rounding_name r)) (sym (append-nil (operand_tokens xs)))
+
+front_ended : (t : List ℕ) → take (length (ended t) - 1) (ended t) ≡ t
+front_ended t =
+    let back : length (ended t) - 1 ≡ length t = omega (arith, length-append t (10 ∷ [])) in
+    ap (λ n. take n (ended t)) back ∙ take-append_seam t (10 ∷ [])
+
+end_written : (t : List ℕ) (r : Rounding) → with_end (Some r) (ended t) ≡ ended (t ++ (32 ∷ rounding_name r))
+end_written t r = ap (λ f. f ++ (32 ∷ (rounding_name r ++ (10 ∷ [])))) (front_ended t) ∙ sym (append_assoc t (32 ∷ rounding_name r) (10 ∷ []))
+
+default_written : (dest : ℕ) (policy : Policy) (op : Op) (xs : Operands) (o : Option Rounding) → with_end o (ended (line_text (Apply dest policy op xs None))) ≡ ended (line_text (Apply dest policy op xs o))
+default_written dest policy op xs None = refl
+default_written dest policy op xs (Some r) = end_written (line_text (Apply dest policy op xs None)) r ∙ ap ended (sym (text_rounded dest policy op xs r))
+
+line_written : (l : ScriptLine) → with_end (added_to l) (ended (line_text l)) ≡ ended (line_text (spelled_line l))
+line_written (SetTo dest k) = refl
+line_written (Apply dest policy op xs None) = default_written dest policy op xs (default_rounding op)
+line_written (Apply dest policy op xs (Some r)) = refl
+
+front_text : (p : List ℕ) (l : ScriptLine) (o : Option (List ℕ)) → body p ≡ o → then_of o line_of ≡ Some l → p ≡ ended (line_text l)
+front_text p l None is e = cc
+front_text p l (Some t) is e = body_by p t _ refl is ∙ ap ended (sym ((reads_lines t l).0 e).1)
+
+pub line_piece : (p : List ℕ) (l : ScriptLine) → line_of_piece p ≡ Some l → p ≡ ended (line_text l)
+unfolding line_of_piece
+line_piece p l e = front_text p l (body p) refl e
+
+pub piece_written : (p : List ℕ) (l : ScriptLine) → line_of_piece p ≡ Some l → with_end (added_to l) p ≡ ended (line_text (spelled_line l))
+piece_written p l e = ap (with_end (added_to l)) (line_piece p l e) ∙ line_written l
+
+-- ---- one line, and then the rest
+in_front_twice : (xs ys : List ℕ) (s : Spelling) → in_front xs (in_front ys s) ≡ in_front (xs ++ ys) s
+in_front_twice xs ys (Written zs) = ap Written (sym (append_assoc xs ys zs))
+in_front_twice xs ys (NoForm k) = refl
+
+spelled_step : (k : ℕ) (rest p left : List ℕ) → pieces rest ≡ p ∷ pieces left → spelled_lines k (pieces rest) ≡ spell_then k (line_of_piece p) (spelled_lines (k + 1) (pieces left))
+unfolding spelled_lines
+spelled_step k rest p left cut = ap (spelled_lines k) cut
+
+pub spelling_moves : (old new : List ℕ) (k : ℕ) (rest p left : List ℕ) (l : ScriptLine) → pieces rest ≡ p ∷ pieces left → line_of_piece p ≡ Some l → new ≡ old ++ ended (line_text (spelled_line l))
+    → in_front new (spelled_lines (k + 1) (pieces left)) ≡ in_front old (spelled_lines k (pieces rest))
+spelling_moves old new k rest p left l cut is written =
+    let more = spelled_lines (k + 1) (pieces left) in
+    ap (λ bs. in_front bs more) written ∙ sym (in_front_twice old (ended (line_text (spelled_line l))) more)
+    ∙ ap (in_front old) (sym (spelled_step k rest p left cut ∙ ap (λ o. spell_then k o more) is))
+
+pub spelling_stops : (old : List ℕ) (k : ℕ) (rest p left : List ℕ) → pieces rest ≡ p ∷ pieces left → line_of_piece p ≡ None → in_front old (spelled_lines k (pieces rest)) ≡ NoForm k
+spelling_stops old k rest p left cut is = ap (in_front old) (spelled_step k rest p left cut ∙ ap (λ o. spell_then k o (spelled_lines (k + 1) (pieces left))) is)
+
+pub spelling_ends : (written : List ℕ) (k : ℕ) → in_front written (spelled_lines k (pieces [])) ≡ Written written
+unfolding spelled_lines
+spelling_ends written k = ap Written (append-nil written)
+
+pub script_spelled : (script p left before bytes : List ℕ) (h : ScriptHeader) → pieces script ≡ p ∷ pieces left → header_of_piece p ≡ Some h → before ≡ p → in_front before (spelled_lines 2 (pieces left)) ≡ Written bytes → spelled script ≡ Written bytes
+script_spelled script p left before bytes h cut is same e =
+    ap spelled_pieces cut ∙ ap (λ o. spelled_from o (pieces left)) is
+    ∙ ap (λ t. in_front t (spelled_lines 2 (pieces left))) (sym (header_piece p h is) ∙ sym same) ∙ e
+
+-- ---- a line means the same with its default
+add_prod_down : (c a b s : ℤ) → rounded_add_prod_at c a b s Down ≡ exact_add_prod_at c a b s
+add_prod_down c a b (pos n) = refl
+add_prod_down c a b (negsuc n) = refl
+
+default_row : (op : Op) (t : Taken) → row_by (default_rounding op) op t ≡ row_by None op t
+unfolding exact exact_rounded
+default_row Neg t = refl
+default_row Add t = refl
+default_row Sub t = refl
+default_row Mul t = refl
+default_row Div t = refl
+default_row Recip t = refl
+default_row MulAdd t = refl
+default_row AddProd t = ap Some (add_prod_down t.a.bits t.b.bits t.c.bits _)
+default_row MulInt t = refl
+default_row DivInt t = refl
+default_row DivEuclid t = refl
+default_row DivEuclidInt t = refl
+default_row RemEuclidInt t = refl
+default_row NextMultipleOf t = refl
+default_row Dist t = refl
+default_row Sqrt t = refl
+default_row Abs t = refl
+default_row Signum t = refl
+default_row Rem t = refl
+default_row RemInt t = refl
+default_row RemEuclid t = refl
+default_row NextPowerOfTwo t = refl
+
+literals_alike : (dest : ℕ) (policy : Policy) (op : Op) (xs : Operands) (r q : Option Rounding) → literals_of (Apply dest policy op xs r) ≡ literals_of (Apply dest policy op xs q)
+literals_alike dest policy op (OneRegister a) r q = refl
+literals_alike dest policy op (TwoRegisters a b) r q = refl
+literals_alike dest policy op (RegisterAndInt a k) r q = refl
+literals_alike dest policy op (ThreeRegisters a b c) r q = refl
+
+module _ (s : State) (k dest : ℕ) (policy : Policy) (op : Op) (xs : Operands) where
+  abbrev spelled_out : ScriptLine
+  spelled_out = Apply dest policy op xs (default_rounding op)
+
+  abbrev plain : ScriptLine
+  plain = Apply dest policy op xs None
+
+  same_range : is_out_of_range s spelled_out ≡ is_out_of_range s plain
+  unfolding is_out_of_range
+  same_range =
+      ap (λ ks. list_any (λ r. nat_le (length s.registers) r) (registers_of plain) || list_any (λ x. not (is_value s.word x)) ks)
+      (literals_alike dest policy op xs (default_rounding op) None)
+
+  same_cause : cause s spelled_out k ≡ cause s plain k
+  unfolding is_unoffered is_mismatched
+  same_cause =
+      ap (λ b. first_of ((is_unoffered s.word plain, Syntax k) ∷ (b, OutOfRange k) ∷ (is_mismatched s plain, FractionMismatch k) ∷ causes_of s spelled_out k)) same_range
+      ∙ ap (λ row. first_of ((is_unoffered s.word plain, Syntax k) ∷ (is_out_of_range s plain, OutOfRange k) ∷ (is_mismatched s plain, FractionMismatch k) ∷ row_causes (is_signed s.word) (width s.word) policy op row k))
+      (default_row op (taken s.registers xs))
+
+  same_answer : answer s spelled_out ≡ answer s plain
+  unfolding answer
+  same_answer = ap (project policy (is_signed s.word) (width s.word)) (default_row op (taken s.registers xs))
+
+  same_step : (next before : State → Run) → ((t : State) → next t ≡ before t) → step_then s k (Some spelled_out) next ≡ step_then s k (Some plain) before
+  same_step next before same =
+      (λ i. by_cause (same_cause i) s (answer_text (same_answer i)) (next (record { word = s.word; registers = stored s.registers dest (same_answer i) })))
+      ∙ ap (by_cause (cause s plain k) s (answer_text (answer s plain))) (same (move s plain))
+
+step_spelled : (s : State) (k : ℕ) (l : ScriptLine) (next before : State → Run) → ((t : State) → next t ≡ before t) → step_then s k (Some (spelled_line l)) next ≡ step_then s k (Some l) before
+step_spelled s k (SetTo dest x) next before same = ap (by_cause (cause s (SetTo dest x) k) s (answer_text (answer s (SetTo dest x)))) (same (move s (SetTo dest x)))
+step_spelled s k (Apply dest policy op xs None) next before same = same_step s k dest policy op xs next before same
+step_spelled s k (Apply dest policy op xs (Some r)) next before same =
+    let l = Apply dest policy op xs (Some r) in
+    ap (by_cause (cause s l k) s (answer_text (answer s l))) (same (move s l))
+
+default_may : (op : Op) → may_round op (default_rounding op) ≡ true
+default_may Neg = refl
+default_may Add = refl
+default_may Sub = refl
+default_may Mul = refl
+default_may Div = refl
+default_may Recip = refl
+default_may MulAdd = refl
+default_may AddProd = refl
+default_may MulInt = refl
+default_may DivInt = refl
+default_may DivEuclid = refl
+default_may DivEuclidInt = refl
+default_may RemEuclidInt = refl
+default_may NextMultipleOf = refl
+default_may Dist = refl
+default_may Sqrt = refl
+default_may Abs = refl
+default_may Signum = refl
+default_may Rem = refl
+default_may RemInt = refl
+default_may RemEuclid = refl
+default_may NextPowerOfTwo = refl
+
+still_line : (l : ScriptLine) → IsLine l → IsLine (spelled_line l)
+still_line (SetTo dest k) is = is
+still_line (Apply dest policy op xs None) is = (is.0, default_may op)
+still_line (Apply dest policy op xs (Some r)) is = is
+
+front_line : (o : Option (List ℕ)) (l : ScriptLine) → then_of o line_of ≡ Some l → IsLine l
+front_line None l e = cc
+front_line (Some t) l e = ((reads_lines t l).0 e).0
+
+piece_line : (p : List ℕ) (l : ScriptLine) → line_of_piece p ≡ Some l → IsLine l
+unfolding line_of_piece
+piece_line p l e = front_line (body p) l e
+
+-- ---- so do the lines, and the script
+ended_pieces : (t more : List ℕ) → pieces (t ++ (10 ∷ more)) ≡ ended t ∷ pieces more → pieces (ended t ++ more) ≡ ended t ∷ pieces more
+ended_pieces t more e = ap pieces (append_assoc t (10 ∷ []) more) ∙ e
+
+written_same : (xs ys : List ℕ) → Written xs ≡ Written ys → xs ≡ ys
+written_same xs ys e = cc
+
+abbrev KeepsLines : ℕ → List (List ℕ) → Type 0
+KeepsLines k ps = (s : State) (bytes : List ℕ) → spelled_lines k ps ≡ Written bytes → run_lines s k (pieces bytes) ≡ run_lines s k ps
+
+piece_kept : (s : State) (k : ℕ) (p : List ℕ) (ps : List (List ℕ)) (bytes : List ℕ) (o : Option ScriptLine) (rest : Spelling) → line_of_piece p ≡ o → spelled_lines (k + 1) ps ≡ rest → KeepsLines (k + 1) ps
+    → spell_then k o rest ≡ Written bytes → run_lines s k (pieces bytes) ≡ step_then s k o (λ t. run_lines t (k + 1) ps)
+unfolding run_lines
+piece_kept s k p ps bytes None rest is later keeps e = cc
+piece_kept s k p ps bytes (Some l) (NoForm j) is later keeps e = cc
+piece_kept s k p ps bytes (Some l) (Written more) is later keeps e =
+    let t = line_text (spelled_line l) in
+    let written = written_same (ended t ++ more) bytes e in
+    let cut = ended_pieces t more (pieces_ended t more (line_lacks (spelled_line l))) in
+    ap (λ bs. run_lines s k (pieces bs)) (sym written) ∙ ap (run_lines s k) cut
+    ∙ ap (λ o. step_then s k o (λ u. run_lines u (k + 1) (pieces more))) (line_read (spelled_line l) (still_line l (piece_line p l is)))
+    ∙ step_spelled s k l (λ u. run_lines u (k + 1) (pieces more)) (λ u. run_lines u (k + 1) ps) (λ u. keeps u more later)
+
+lines_kept : (ps : List (List ℕ)) (k : ℕ) → KeepsLines k ps
+unfolding run_lines spelled_lines
+lines_kept [] k s bytes e = ap (λ bs. run_lines s k (pieces bs)) (sym (written_same [] bytes e))
+lines_kept (p ∷ ps) k s bytes e = piece_kept s k p ps bytes (line_of_piece p) (spelled_lines (k + 1) ps) refl refl (lines_kept ps (k + 1)) e
+
+header_kept : (o : Option ScriptHeader) (ps : List (List ℕ)) (bytes : List ℕ) (rest : Spelling) → spelled_lines 2 ps ≡ rest → (spelled_from o ps ≡ Written bytes) → run_pieces (pieces bytes) ≡ run_from o ps
+header_kept None ps bytes rest later e = cc
+header_kept (Some h) ps bytes (NoForm k) later e = let f : in_front (ended (header_text h)) (NoForm k) ≡ Written bytes = ap (in_front (ended (header_text h))) (sym later) ∙ e in cc
+header_kept (Some h) ps bytes (Written more) later e =
+    let f : in_front (ended (header_text h)) (Written more) ≡ Written bytes = ap (in_front (ended (header_text h))) (sym later) ∙ e in
+    let written = written_same (ended (header_text h) ++ more) bytes f in
+    let cut = ended_pieces (header_text h) more (script_pieces h more) in
+    ap (λ bs. run_pieces (pieces bs)) (sym written) ∙ ap run_pieces cut ∙ ap (λ o. run_from o (pieces more)) (header_read h)
+    ∙ ap (λ r. if has_wide h.word (fractions_of h) then stopped None (OutOfRange 1) else r) (lines_kept ps 2 (start h) more later)
+
+pieces_kept : (ps : List (List ℕ)) (bytes : List ℕ) → spelled_pieces ps ≡ Written bytes → run_pieces (pieces bytes) ≡ run_pieces ps
+pieces_kept [] bytes e = cc
+pieces_kept (p ∷ ps) bytes e = header_kept (header_of_piece p) ps bytes (spelled_lines 2 ps) refl e
+
+pub keeps_meaning : KeepsMeaning
+unfolding run_of
+keeps_meaning script bytes e = ap (λ r. meaning_with r.output r.fault) (pieces_kept (pieces script) bytes e)

@@ -1,0 +1,68 @@
+-- A script in which each line that may name a rounding does.
+use Rattle.std.specs.Prelude.{◌≡◌, ◌+◌, ◌++◌, ℕ, List, [], ◌∷◌, Option, Some, None, Result, Ok, Err}
+use Rattle.std.specs.Bool.{⊤}
+use Rattle.fixed_word.specs.declared.rounding.Rounding.{Rounding}
+use Rattle.fixed_word.specs.declared.rounding.Rounding.TheVariants.{Down, Zero}
+use Rattle.fixed_word.specs.Pieces.{pieces}
+use Rattle.fixed_script.specs.declared.names.Op.{Op}
+use Rattle.fixed_script.specs.declared.names.Op.TheVariants.{Mul, Div, Recip, MulAdd, AddProd, DivInt}
+use Rattle.fixed_script.specs.Text.{ScriptHeader, ScriptLine, SetTo, Apply, header_text, line_text}
+use Rattle.fixed_script.specs.Lines.{header_of_piece, line_of_piece}
+use Rattle.fixed_calc.specs.Demo.{ended}
+use Rattle.fixed_calc.specs.Meaning.{meaning}
+use Rattle.fixed_calc.specs.declared.spelled.ExplicitFault.{ExplicitFault}
+use Rattle.fixed_calc.specs.declared.spelled.ExplicitFault.TheVariants.{Syntax, Memory}
+
+-- the rounding of an operation whose line names none
+abbrev pub default_rounding : Op → Option Rounding
+default_rounding Mul = Some Down
+default_rounding MulAdd = Some Down
+default_rounding AddProd = Some Down
+default_rounding Div = Some Zero
+default_rounding Recip = Some Zero
+default_rounding DivInt = Some Zero
+default_rounding _ = None
+
+abbrev pub spelled_line : ScriptLine → ScriptLine
+spelled_line (SetTo dest k) = SetTo dest k
+spelled_line (Apply dest policy op xs None) = Apply dest policy op xs (default_rounding op)
+spelled_line (Apply dest policy op xs (Some rounding)) = Apply dest policy op xs (Some rounding)
+
+-- the script spelled out, or the number of the first piece that is no header, or no line, in its place
+pub data Spelling : Type 0 where
+  Written : (bytes : List ℕ) → Spelling
+  NoForm : (number : ℕ) → Spelling
+
+abbrev pub in_front : List ℕ → Spelling → Spelling
+in_front text (Written more) = Written (text ++ more)
+in_front text (NoForm k) = NoForm k
+
+abbrev pub spell_then : ℕ → Option ScriptLine → Spelling → Spelling
+spell_then k None rest = NoForm k
+spell_then k (Some line) rest = in_front (ended (line_text (spelled_line line))) rest
+
+-- the lines from piece k on
+unfoldable pub spelled_lines : ℕ → List (List ℕ) → Spelling
+spelled_lines k [] = Written []
+spelled_lines k (p ∷ ps) = spell_then k (line_of_piece p) (spelled_lines (k + 1) ps)
+
+abbrev pub spelled_from : Option ScriptHeader → List (List ℕ) → Spelling
+spelled_from None ps = NoForm 1
+spelled_from (Some header) ps = in_front (ended (header_text header)) (spelled_lines 2 ps)
+
+abbrev pub spelled_pieces : List (List ℕ) → Spelling
+spelled_pieces [] = NoForm 1
+spelled_pieces (p ∷ ps) = spelled_from (header_of_piece p) ps
+
+abbrev pub spelled : List ℕ → Spelling
+spelled script = spelled_pieces (pieces script)
+
+-- the script spelled out, or the piece without the form; want of memory comes in the place of either
+abbrev pub SpellingTells : Spelling → Result (List ℕ) ExplicitFault → Type 0
+SpellingTells spelling (Ok script) = spelling ≡ Written script
+SpellingTells spelling (Err (Syntax k)) = spelling ≡ NoForm k
+SpellingTells spelling (Err Memory) = ⊤
+
+-- the law: what is spelled out means the same, faults and their lines included
+abbrev pub KeepsMeaning : Type 0
+KeepsMeaning = (script bytes : List ℕ) → spelled script ≡ Written bytes → meaning bytes ≡ meaning script

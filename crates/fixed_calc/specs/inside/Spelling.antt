@@ -1,0 +1,37 @@
+-- What the parts of the spelling say.
+use Rattle.std.specs.Prelude.{◌≡◌, ◌<◌, ◌≤◌, ◌+◌, ◌-◌, ◌++◌, ℕ, List, [], ◌∷◌, length, take, drop, Option, Some, None, Result, Ok, Err}
+use Rattle.std.specs.Bool.{⊤}
+use Rattle.fixed_word.specs.declared.rounding.Rounding.{Rounding}
+use Rattle.fixed_word.specs.Pieces.{pieces}
+use Rattle.fixed_script.specs.Names.{rounding_name}
+use Rattle.fixed_script.specs.Text.{ScriptLine, SetTo, Apply}
+use Rattle.fixed_calc.specs.Spelled.{default_rounding, Spelling, Written, NoForm, in_front, spelled_lines}
+use Rattle.fixed_calc.specs.declared.spelled.ExplicitFault.{ExplicitFault}
+use Rattle.fixed_calc.specs.declared.spelled.ExplicitFault.TheVariants.{Syntax, Memory}
+
+-- the rounding that is added to a line, if any is
+abbrev pub added_to : ScriptLine → Option Rounding
+added_to (SetTo dest k) = None
+added_to (Apply dest policy op xs None) = default_rounding op
+added_to (Apply dest policy op xs (Some rounding)) = None
+
+-- a piece whose line ends in that rounding
+abbrev pub with_end : Option Rounding → List ℕ → List ℕ
+with_end None piece = piece
+with_end (Some rounding) piece = take (length piece - 1) piece ++ (32 ∷ (rounding_name rounding ++ (10 ∷ [])))
+
+-- why the spelling stops
+abbrev pub StopTells : Spelling → ExplicitFault → Type 0
+StopTells spelling (Syntax k) = spelling ≡ NoForm k
+StopTells spelling Memory = ⊤
+
+-- all is written, or why the spelling stops
+abbrev pub AllTells : Spelling → Result (Unit {0}) ExplicitFault → List ℕ → Type 0
+AllTells spelling (Ok u) bytes = spelling ≡ Written bytes
+AllTells spelling (Err fault) bytes = StopTells spelling fault
+
+-- the first line of the rest was spelled: the spelling from there, after what is written, is the spelling from before
+pub record HasSpelled (k : ℕ) (rest : List ℕ) (end : ℕ) (old new : List ℕ) : Type 0 where
+  pub some : 0 < end
+  pub within : end ≤ length rest
+  pub same : in_front new (spelled_lines (k + 1) (pieces (drop end rest))) ≡ in_front old (spelled_lines k (pieces rest))
