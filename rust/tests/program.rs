@@ -41,7 +41,7 @@ fn each_example_answers_as_stated() {
             tried += 1;
         }
     }
-    assert_eq!(tried, 5);
+    assert_eq!(tried, 6);
 }
 
 #[test]

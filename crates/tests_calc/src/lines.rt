@@ -111,6 +111,16 @@ fn lines(rt: HostRuntime) -> Result<(), Fail> {
                 rounding: None,
             }),
         ),
+    ] {
+        assert_eq!(rt; parse_line(text.as_bytes()), line, "{text}");
+    }
+    Ok(())
+}
+
+/// A line of each kind that names its rounding.
+#[test]
+fn rounded_lines(rt: HostRuntime) -> Result<(), Fail> {
+    for (text, line) in [
         (
             "r0 strict recip r1 down",
             Some(Line::One {
@@ -155,20 +165,30 @@ fn lines(rt: HostRuntime) -> Result<(), Fail> {
                 rounding: Some(Rounding::Even),
             }),
         ),
-        ("r0 strict add r0 r0 down", None),
-        ("r0 strict mul_int r0 2 even", None),
-        ("r0 strict sqrt r0 zero", None),
-        ("r0 strict mul r0 r0 up", None),
-        ("r0 strict mul r0 r0  even", None),
-        ("r0 strict mul r0 r0 even even", None),
-        ("r0 strict mul r0 r0 even ", None),
-        ("r0 strict mul r0 r0 ", None),
-        ("r0 strict mul r0 even", None),
-        ("r0 set 1 down", None),
-        ("r0 set 1\n", None),
-        ("", None),
     ] {
         assert_eq!(rt; parse_line(text.as_bytes()), line, "{text}");
+    }
+    Ok(())
+}
+
+/// What no line is.
+#[test]
+fn texts_of_no_line(rt: HostRuntime) -> Result<(), Fail> {
+    for text in [
+        "r0 strict add r0 r0 down",
+        "r0 strict mul_int r0 2 even",
+        "r0 strict sqrt r0 zero",
+        "r0 strict mul r0 r0 up",
+        "r0 strict mul r0 r0  even",
+        "r0 strict mul r0 r0 even even",
+        "r0 strict mul r0 r0 even ",
+        "r0 strict mul r0 r0 ",
+        "r0 strict mul r0 even",
+        "r0 set 1 down",
+        "r0 set 1\n",
+        "",
+    ] {
+        assert_eq!(rt; parse_line(text.as_bytes()), None, "{text}");
     }
     Ok(())
 }
