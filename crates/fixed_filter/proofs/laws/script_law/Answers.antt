@@ -1,7 +1,7 @@
 use Rattle.std.proofs.Common.{◌∷◌, ap, ◌∙◌}
 use Rattle.std.proofs.lemmas.List.{length-map}
 use Rattle.fixed_text.specs.Words.{is_signed, width}
-use Rattle.fixed_filter.specs.Scripts.{are_samples, taps_of_channels}
+use Rattle.fixed_filter.specs.Scripts.{are_samples}
 use Rattle.fixed_filter.proofs.Scripts.{script_printed}
 use Rattle.fixed_filter.proofs.laws.script_law.Goals as goal
 

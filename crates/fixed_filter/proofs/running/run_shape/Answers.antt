@@ -1,4 +1,4 @@
-use Rattle.std.proofs.Common.{◌+◌, ◌≤◌, ◌<◌, ◌^◌, length, subst, arith}
+use Rattle.std.proofs.Common.{◌+◌, ◌<◌, ◌^◌, length, subst, arith}
 use Rattle.fixed_word.specs.Pieces.{pieces}
 use Rattle.fixed_text.specs.Runs.{Ending}
 use Rattle.fixed_text.specs.Tells.{RunTells}
