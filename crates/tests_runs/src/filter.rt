@@ -169,7 +169,7 @@ fn faults(rt: HostRuntime) {
     }
 }
 
-/// The first channel is the one of the first script; the second overflows, and has its sample all the same.
+/// The first channel is that of the first script. The second overflows, and has its sample all the same.
 #[test]
 fn on_words(rt: HostRuntime) -> Result<(), Fail> {
     let shape = Shape {
@@ -178,17 +178,12 @@ fn on_words(rt: HostRuntime) -> Result<(), Fail> {
         sample_frac: 8,
     };
     let mut bank = Bank::<i16>::new(rt.alloc(), shape);
-    let added = bank.add_channel(&[128, 128]);
-    assert!(rt; added.is_ok());
+    bank.add_channel(&[128, 128])?;
     bank.add_channel(&[32767, 256])?;
-    for (channel, sample, reply) in [
-        (0, 256, Reply::Value(128)),
-        (1, 257, Reply::Overflow(0)),
-        (0, 512, Reply::Value(384)),
-        (1, 0, Reply::Value(257)),
-    ] {
-        assert_eq!(rt; bank.push(channel, sample), reply);
-    }
+    assert_eq!(rt; bank.push(0, 256), Reply::Value(128));
+    assert_eq!(rt; bank.push(1, 257), Reply::Overflow(0));
+    assert_eq!(rt; bank.push(0, 512), Reply::Value(384));
+    assert_eq!(rt; bank.push(1, 0), Reply::Value(257));
     assert_eq!(rt; bank.channels(), 2);
     assert_eq!(rt; bank.taps(1), 2);
     assert_eq!(rt; bank.tap(1, 0), 32767);
