@@ -41,11 +41,6 @@ all_some-push (t ∷ rest) taps a h = (a.0, all_some-push rest taps a.1 h)
 abbrev pub Fine : FilterState → ℕ → Type 0
 Fine state left = AllSome state.bank × (length state.before + left < 2 ^ 64)
 
-some_tap : (bank : List (List ℤ)) (j : ℕ) → AllSome bank → j < length bank → 0 < length (taps_at bank j)
-some_tap [] j a h = absurd (omega arith)
-some_tap (t ∷ rest) zero a h = a.0
-some_tap (t ∷ rest) (suc j) a h = some_tap rest j a.1 (omega arith)
-
 -- ---- a channel's own samples
 pub own_here : (m i : ℕ) (x : ℤ) (before : List (ℕ × ℤ)) → m ≡ i → own i ((m, x) ∷ before) ≡ x ∷ own i before
 own_here m i x before e = ap (λ (b : Bool). cond b (x ∷ own i before) (own i before)) (eq-eqb m i e)
