@@ -2,5 +2,7 @@
 #![tactic(auto)]
 
 #[cfg(test)]
+mod filter;
+#[cfg(test)]
 mod poly;
 pub mod whole;

@@ -1,0 +1,10 @@
+pub mod Sums
+pub mod Places
+pub mod Alone
+pub mod Past
+pub mod Counted
+pub mod Simulated
+pub mod Viewed
+pub mod Lines
+pub mod Readers
+pub mod Scripts

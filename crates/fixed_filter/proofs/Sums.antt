@@ -1,0 +1,79 @@
+-- The partial sums of a filter.
+use Rattle.std.proofs.Common.{◌≡◌, ◌+◌, ◌<◌, ℕ, zero, suc, ℤ, pos, true, false, List, Bool, Option, Some, None, length, get_or, take, refl, sym, ap, ◌∙◌, arith, add-one, inl, inr}
+use Rattle.std.specs.Prelude.{if◌then◌else◌, not}
+use Rattle.std.specs.Option.{option_or}
+use Rattle.std.proofs.lemmas.Bool.{cases_lt}
+use Rattle.std.proofs.lemmas.List.Sums.{fold_more}
+use Rattle.fixed_word.specs.Format.{fits}
+use Rattle.fixed_word.specs.Policies.{checked}
+use Rattle.fixed_kernel.specs.Rows.{exact_add_prod}
+use Rattle.fixed_policy.specs.DotProduct.{dot, places, pairs, with_product}
+use Rattle.fixed_policy.proofs.Parts.{pairs_length, pair_at}
+use Rattle.fixed_filter.specs.declared.reply.Reply.TheVariants.{Value, Overflow}
+use Rattle.fixed_filter.specs.Replies.{accumulator, misses, least_below, overflow_or, filter_reply}
+
+-- what checked answers tells whether the number fits
+checked_some : (s : Bool) (n : ℕ) (y z : ℤ) → Some z ≡ checked s n (Some y) → (z ≡ y) × (not (fits s n y) ≡ false)
+checked_some s n y z e = by_test (fits s n y) refl e
+  where
+    by_test : (b : Bool) → fits s n y ≡ b → Some z ≡ (if b then Some y else None) → (z ≡ y) × (not (fits s n y) ≡ false)
+    by_test true t e = (cc, ap not t)
+    by_test false t e = absurd (cc)
+
+checked_none : (s : Bool) (n : ℕ) (y : ℤ) → None ≡ checked s n (Some y) → not (fits s n y) ≡ true
+checked_none s n y e = by_test (fits s n y) refl e
+  where
+    by_test : (b : Bool) → fits s n y ≡ b → None ≡ (if b then Some y else None) → not (fits s n y) ≡ true
+    by_test true t e = absurd (cc)
+    by_test false t e = ap not t
+
+-- the walk has come to t, with sum: each partial sum so far fits
+pub record IsAt (signed : Bool) (n : ℕ) (s : ℤ) (ps : List (ℤ × ℤ)) (t : ℕ) (sum : ℤ) : Type 0 where
+  pub value : sum ≡ accumulator s ps t
+  pub fitted : least_below (misses signed n s ps) t ≡ None
+
+-- ---- the least number that passes
+least_none : (p : ℕ → Bool) (t : ℕ) → p t ≡ false → least_below p t ≡ None → least_below p (t + 1) ≡ None
+least_none p t miss none = rw add-one (ap (λ (o : Option ℕ). option_or o (if p t then Some t else None)) none ∙ ap (λ (b : Bool). if b then Some t else None) miss)
+
+least_found : (p : ℕ → Bool) (t : ℕ) → p t ≡ true → least_below p t ≡ None → least_below p (suc t) ≡ Some t
+least_found p t hit none = ap (λ (o : Option ℕ). option_or o (if p t then Some t else None)) none ∙ ap (λ (b : Bool). if b then Some t else None) hit
+
+-- it stays the least where more are looked at
+least_stays : (p : ℕ → Bool) (t k : ℕ) → p t ≡ true → least_below p t ≡ None → t < k → least_below p k ≡ Some t
+least_stays p t zero hit none h = absurd (omega arith)
+least_stays p t (suc k) hit none h = elim (cases_lt t k) [
+  | inl less ↦ ap (λ (o : Option ℕ). option_or o (if p k then Some k else None)) (least_stays p t k hit none less)
+  | inr same ↦ let e : suc k ≡ suc t = omega arith in ap (least_below p) e ∙ least_found p t hit none
+]
+
+module _ {X : Type 0} (number : X → ℤ) (signed : Bool) (n f g h : ℕ) (taps past : List X) (same : length taps ≡ length past) where
+  -- one step on, by a tap and its sample
+  module _ (sum : ℤ) (t : ℕ) (tap sample : X) (there : t < length taps) (is_tap : tap ≡ get_or taps t tap) (is_sample : sample ≡ get_or past t sample) (a : IsAt signed n (places f g h) (pairs number number taps past) t sum) where
+    step_is : exact_add_prod sum (number tap) (number sample) f g h ≡ accumulator (places f g h) (pairs number number taps past) (t + 1)
+    step_is =
+        let s = places f g h in
+        let ps = pairs number number taps past in
+        let in_pairs : t < length ps = omega (arith, pairs_length number number taps past same) in
+        ap (λ (c : ℤ). with_product s c (number tap, number sample)) a.value
+        ∙ ap (with_product s (dot s (pos 0) (take t ps))) (pair_at number number taps past same t tap sample there is_tap is_sample)
+        ∙ sym (fold_more (with_product s) (pos 0) ps t (number tap, number sample) in_pairs)
+
+    pub steps : (next : ℤ) → Some next ≡ checked signed n (Some (exact_add_prod sum (number tap) (number sample) f g h)) → IsAt signed n (places f g h) (pairs number number taps past) (t + 1) next
+    steps next e =
+        let p = checked_some signed n (exact_add_prod sum (number tap) (number sample) f g h) next e in
+        let hit : misses signed n (places f g h) (pairs number number taps past) t ≡ false = sym (ap (λ (z : ℤ). not (fits signed n z)) step_is) ∙ p.1 in
+        record { value = p.0 ∙ step_is; fitted = least_none (misses signed n (places f g h) (pairs number number taps past)) t hit a.fitted }
+
+    pub stops : None ≡ checked signed n (Some (exact_add_prod sum (number tap) (number sample) f g h)) → Overflow t ≡ filter_reply signed n (places f g h) (pairs number number taps past)
+    stops e =
+        let p = checked_none signed n (exact_add_prod sum (number tap) (number sample) f g h) e in
+        let miss : misses signed n (places f g h) (pairs number number taps past) t ≡ true = sym (ap (λ (z : ℤ). not (fits signed n z)) step_is) ∙ p in
+        let long = pairs_length number number taps past same in
+        sym (ap (overflow_or (accumulator (places f g h) (pairs number number taps past) (length (pairs number number taps past)))) (least_stays (misses signed n (places f g h) (pairs number number taps past)) t (length (pairs number number taps past)) miss a.fitted (omega arith)))
+
+  pub ends : (sum : ℤ) (t : ℕ) → t ≡ length taps → IsAt signed n (places f g h) (pairs number number taps past) t sum → Value sum ≡ filter_reply signed n (places f g h) (pairs number number taps past)
+  ends sum t all a =
+      let ps = pairs number number taps past in
+      let long : length ps ≡ t = pairs_length number number taps past same ∙ sym all in
+      sym (ap (λ (k : ℕ). overflow_or (accumulator (places f g h) ps k) (least_below (misses signed n (places f g h) ps) k)) long ∙ ap (overflow_or (accumulator (places f g h) ps t)) a.fitted ∙ ap (λ (z : ℤ). Value z) (sym a.value))

@@ -1,0 +1,34 @@
+-- What a filter answers: its products, the newest sample first, are added one after the other to 0.
+-- s are the places by which a product moves down to those of the output; ps are the pairs of taps and samples.
+use Rattle.std.specs.Prelude.{◌+◌, ℕ, zero, suc, ℤ, pos, Bool, not, Option, Some, None, List, length, take, if◌then◌else◌}
+use Rattle.std.specs.Option.{option_or}
+use Rattle.fixed_word.specs.Format.{fits}
+use Rattle.fixed_policy.specs.DotProduct.{dot}
+use Rattle.fixed_filter.specs.declared.reply.Reply.{Reply}
+use Rattle.fixed_filter.specs.declared.reply.Reply.TheVariants.{Value, Overflow}
+
+-- acc_t: the first t products
+abbrev pub accumulator : ℤ → List (ℤ × ℤ) → ℕ → ℤ
+accumulator s ps t = dot s (pos 0) (take t ps)
+
+-- acc_(t + 1) does not fit
+abbrev pub misses : Bool → ℕ → ℤ → List (ℤ × ℤ) → ℕ → Bool
+misses signed n s ps t = not (fits signed n (accumulator s ps (t + 1)))
+
+-- the least number below k that passes
+abbrev pub least_below : (ℕ → Bool) → ℕ → Option ℕ
+least_below p zero = None
+least_below p (suc k) = option_or (least_below p k) (if p k then Some k else None)
+
+abbrev pub overflow_or : ℤ → Option ℕ → Reply ℤ
+overflow_or v None = Value v
+overflow_or v (Some t) = Overflow t
+
+-- the least t for which acc_(t + 1) does not fit, or else acc_k
+abbrev pub filter_reply : Bool → ℕ → ℤ → List (ℤ × ℤ) → Reply ℤ
+filter_reply signed n s ps = overflow_or (accumulator s ps (length ps)) (least_below (misses signed n s ps) (length ps))
+
+-- a reply, by the whole number of its value
+abbrev pub reply_map : {T : Type 0} → (T → ℤ) → Reply T → Reply ℤ
+reply_map value (Value v) = Value (value v)
+reply_map value (Overflow t) = Overflow t

@@ -1,0 +1,7 @@
+-- Headers, as the code holds them.
+use Rattle.fixed_text.specs.Numerals.{cap}
+use Rattle.fixed_filter.specs.declared.header.Header.{Header}
+use Rattle.fixed_filter.specs.Text.{FilterHeader}
+
+abbrev pub capped_header : FilterHeader → Header
+capped_header h = record { word = h.word; out = cap h.out; coef = cap h.coef; sample = cap h.sample }

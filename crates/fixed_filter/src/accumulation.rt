@@ -1,0 +1,48 @@
+//! The sum of the products of a channel.
+
+ghost use Rattle.std.specs.Prelude.{◌≡◌, Some, length};
+ghost use Rattle.std.specs.Option.{option_map};
+ghost use Rattle.fixed_word.specs.Policies.{checked};
+ghost use Rattle.fixed_kernel.specs.Rows.{exact_add_prod};
+ghost use Rattle.fixed_policy.specs.DotProduct.{pairs};
+ghost use Rattle.fixed_filter.specs.Replies.{filter_reply, reply_map};
+ghost use Rattle.fixed_filter.specs.Banks.{IsShape, places_of};
+
+use crate::reply::Reply;
+use crate::shape::Shape;
+use fixed_kernel::add_prod_of;
+use fixed_word::{RawWord, Word, checked_of};
+
+/// The sum plus the product of a tap and a sample; None exactly where that does not fit.
+fn checked_add_prod<T: Word>(sum: T, tap: T, sample: T, shape: &Shape) -> Option<T>
+    requires { IsShape T.BITS shape.now }
+    ensures { option_map T.value result ≡ checked T.SIGNED T.BITS
+        (Some (exact_add_prod (T.value sum) (T.value tap) (T.value sample)
+        shape.now.out_frac shape.now.coef_frac shape.now.sample_frac)) }
+{
+    checked_of(add_prod_of(
+        sum,
+        tap,
+        sample,
+        shape.out_frac,
+        shape.coef_frac,
+        shape.sample_frac,
+    ))
+}
+
+/// What a channel with these taps answers, after these samples, the newest first.
+pub(crate) fn filtered<T: Word>(shape: &Shape, taps: &[T], past: &[T]) -> Reply<T>
+    requires shape { IsShape T.BITS shape.now }
+    requires lengths { length taps.now ≡ length past.now }
+    ensures { reply_map T.value result ≡ filter_reply T.SIGNED T.BITS
+        (places_of shape.now) (pairs T.value T.value taps.now past.now) }
+{
+    let mut sum = T::ZERO;
+    for i in 0..taps.len() {
+        match checked_add_prod(sum, taps[i], past[i], shape) {
+            Some(next) => sum = next,
+            None => return Reply::Overflow(i),
+        }
+    }
+    Reply::Value(sum)
+}

@@ -1,0 +1,55 @@
+//! Laws of the definitions. These functions do nothing: each contract is the law.
+
+ghost use Rattle.std.specs.Prelude.{◌≡◌, ◌-◌, ◌*◌, ◌^◌, ◌≤ℤ◌, ◌-ℤ◌, ◌*ℤ◌, Bool, List, [], ◌∷◌, length, negsuc, pos, suc, true, ℕ, ℤ};
+ghost use Rattle.fixed_text.specs.Runs.{Printed};
+ghost use Rattle.fixed_text.specs.Texts.{IsReader};
+ghost use Rattle.fixed_text.specs.Words.{is_signed, width};
+ghost use Rattle.fixed_filter.specs.Banks.{places_of};
+ghost use Rattle.fixed_policy.specs.DotProduct.{products};
+ghost use Rattle.fixed_filter.specs.Outputs.{alone, own, replies, taps_at};
+ghost use Rattle.fixed_filter.specs.Parser.{header_of, line_of};
+ghost use Rattle.fixed_filter.specs.Replies.{filter_reply};
+ghost use Rattle.fixed_filter.specs.Runs.{filter_output, shape_fits, shape_of};
+ghost use Rattle.fixed_filter.specs.Scripts.{all_fit, are_samples, channels_and_samples, reply_texts, script_text, taps_of_channels};
+ghost use Rattle.fixed_filter.specs.Text.{FilterHeader, header_text, line_text};
+ghost use Rattle.fixed_filter.specs.declared.reply.Reply.TheVariants.{Value};
+
+/// Where products move down by s places, an output lies at or below the exact sum, by less than one of its units
+/// for each tap. Where they move up, it is the exact sum.
+pub fn output_law()
+    ensures from_zero { (signed : Bool) (n s : ℕ) (v : ℤ) (ps : List (ℤ × ℤ))
+        → filter_reply signed n (pos s) ps ≡ Value v
+        → pos 0 ≤ℤ (products ps -ℤ v *ℤ pos (2 ^ s)) }
+    ensures at_most { (signed : Bool) (n s : ℕ) (v : ℤ) (ps : List (ℤ × ℤ))
+        → filter_reply signed n (pos s) ps ≡ Value v
+        → (products ps -ℤ v *ℤ pos (2 ^ s)) ≤ℤ pos (length ps * (2 ^ s - 1)) }
+    ensures exact { (signed : Bool) (n t : ℕ) (v : ℤ) (ps : List (ℤ × ℤ))
+        → filter_reply signed n (negsuc t) ps ≡ Value v
+        → v ≡ products ps *ℤ pos (2 ^ suc t) }
+{}
+
+/// The replies to one channel are those of a bank that has this channel alone and gets its samples alone.
+pub fn channel_law()
+    ensures { (signed : Bool) (n : ℕ) (s : ℤ) (bank : List (List ℤ)) (channel : ℕ)
+        (samples : List (ℕ × ℤ))
+        → own channel (replies signed n s bank [] samples)
+        ≡ own 0 (replies signed n s (taps_at bank channel ∷ []) [] (alone (own channel samples))) }
+{}
+
+/// A script of channels and their samples prints the texts of the replies to the samples, in order: those of which
+/// [`channel_law`](channel_law) speaks.
+pub fn script_law()
+    ensures { (h : FilterHeader) (channels : List (ℤ × List ℤ)) (samples : List (ℕ × ℤ))
+        → shape_fits (width h.word) (shape_of h) ≡ true
+        → all_fit (is_signed h.word) (width h.word) (taps_of_channels channels) ≡ true
+        → are_samples (is_signed h.word) (width h.word) (length channels) samples ≡ true
+        → filter_output (script_text h (channels_and_samples channels samples))
+        ≡ Printed (reply_texts [] (replies (is_signed h.word) (width h.word)
+        (places_of (shape_of h)) (taps_of_channels channels) [] samples)) }
+{}
+
+/// A piece is a header, or a line, exactly where it is the text of one, and is read as that.
+pub fn text_law()
+    ensures headers { IsReader header_text header_of }
+    ensures lines { IsReader line_text line_of }
+{}

@@ -1,0 +1,23 @@
+//! Banks of finite filters, with a proved bound on their rounding.
+//!
+//! A channel has taps and as many past samples; its output is the sum of their products, each brought to the
+//! output's fraction and rounded down. Where a partial sum does not fit the reply names the tap.
+//! [`laws::output_law`](laws::output_law) says how far an output lies below the exact sum. Only a new channel and
+//! [`filter_run`], the run of a script, take memory. All items are this project's own.
+#![tactic(auto)]
+
+mod accumulation;
+mod bank;
+mod channel;
+mod fault;
+mod header;
+pub mod laws;
+mod reply;
+mod running;
+mod shape;
+
+pub use bank::Bank;
+pub use fault::FilterFault;
+pub use reply::Reply;
+pub use running::filter_run;
+pub use shape::Shape;

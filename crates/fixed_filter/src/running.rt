@@ -1,0 +1,292 @@
+//! The run of a script.
+
+ghost use Rattle.std.specs.Prelude.{◌≡◌, ◌++◌, ◌<◌, [], Err, IfSome, None, OnOk, Some, if◌then◌else◌, length, map, nat_lt, slice_index_or, ℕ};
+ghost use Rattle.fixed_word.specs.Pieces.{pieces};
+ghost use Rattle.fixed_text.specs.Numerals.{cap};
+ghost use Rattle.fixed_text.specs.Numbers.{only_number, wholes_in};
+ghost use Rattle.fixed_text.specs.Runs.{Ending, Read, lines_from, then_by};
+ghost use Rattle.fixed_text.specs.Tells.{EndsBy, RunTells, StepTells};
+ghost use Rattle.fixed_text.specs.Words.{is_signed, width};
+ghost use Rattle.fixed_filter.specs.Banks.{IsShape, change_at, with_sample};
+ghost use Rattle.fixed_filter.specs.declared.reply.Reply.TheVariants.{Overflow};
+ghost use Rattle.fixed_filter.specs.inside.Kept.{kept_line, kept_read, kept_reply, kept_sample, kept_taps, kept_text, lane_at};
+ghost use Rattle.fixed_filter.specs.Parser.{sample_of, taps_of};
+ghost use Rattle.fixed_filter.specs.Replies.{reply_map};
+ghost use Rattle.fixed_filter.specs.Runs.{FilterTells, filter_line, filter_output, reply_text, start, started};
+
+use crate::bank::Bank;
+use crate::fault::FilterFault;
+use crate::header::{Header, read_header};
+use crate::reply::Reply;
+use crate::shape::Shape;
+use fixed_text::{
+    Output, Refusal, Run, RunFault, Tokens, WordName, fitting, open, read_numbered,
+    read_only_number, read_words, run_lines,
+};
+use fixed_word::{RawWord, Valued, Word};
+use std::alloc::{AllocError, Global};
+use std::marker::Model;
+
+/// The bank of a run, how many samples each channel had, and whether one had any.
+#[derive(Drop)]
+struct FilterRun<T: Word> {
+    alloc: Global,
+    begun: bool,
+    bank: Bank<T>,
+    counts: Vec<u64>,
+}
+
+impl<T: Word> Model for FilterRun<T> {
+    ghost use Rattle.std.specs.Prelude.{◌≤◌, length, map};
+    ghost use Rattle.fixed_filter.specs.inside.Kept.{KeptState, filter_map};
+
+    ghost Value = { KeptState };
+
+    ghost view = { λ r. record {
+      signed = T.SIGNED;
+      bits = T.BITS;
+      shape = r.bank.shape;
+      channels = map (filter_map T.value) r.bank.channels;
+      counts = r.counts.items;
+      begun = r.begun;
+    } };
+
+    ghost invariant = { λ r. length r.bank.channels ≤ length r.counts.items };
+}
+
+/// Prints the reply to a channel's sample, by the sample's number.
+fn append_reply<T: Word>(
+    output: &mut Output,
+    channel: usize,
+    number: u64,
+    reply: Reply<T>,
+) -> Result<(), AllocError>
+    ensures { OnOk result (output.new
+        ≡ output.old ++ reply_text channel number (reply_map T.value reply)) }
+{
+    match reply {
+        Reply::Value(value) => {
+            output.append_word(value)?;
+            output.append(b"\n")
+        }
+        Reply::Overflow(tap) => append_overflow(output, channel, number, tap),
+    }
+}
+
+/// Prints an overflow: the channel, the number of its sample, and the tap.
+fn append_overflow(
+    output: &mut Output,
+    channel: usize,
+    number: u64,
+    tap: usize,
+) -> Result<(), AllocError>
+    ensures { OnOk result (output.new ≡ output.old ++ reply_text channel number (Overflow tap)) }
+{
+    output.append(b"overflow ")?;
+    output.append_natural(channel as u64)?;
+    output.append(b" ")?;
+    output.append_natural(number)?;
+    output.append(b" ")?;
+    output.append_natural(tap as u64)?;
+    output.append(b"\n")
+}
+
+impl<T: Word> FilterRun<T> {
+    /// Adds a channel of these taps.
+    fn add_channel(&mut self, taps: &[T]) -> Result<(), AllocError>
+        requires { 0 < length taps.now }
+        ensures { OnOk result (self.new ≡ kept_taps (map T.value taps.now) self.old) }
+    {
+        self.counts.push(0)?;
+        self.bank.add_channel(taps)?;
+        Ok(())
+    }
+
+    /// Adds the channel whose taps the tokens are.
+    fn take_taps(&mut self, tokens: Tokens<'_>) -> Result<(), Refusal>
+        ensures { StepTells (kept_read self.old (taps_of (wholes_in tokens.entry))) result self.new
+            [] [] }
+    {
+        if tokens.is_empty() || self.begun {
+            return Err(Refusal::Unformed);
+        }
+        match read_words::<T>(self.alloc, tokens) {
+            Ok(taps) => match self.add_channel(&taps) {
+                Ok(()) => Ok(()),
+                Err(_) => Err(Refusal::Wanting),
+            },
+            Err(refusal) => Err(refusal),
+        }
+    }
+
+    /// The channel of a number, if there is one.
+    fn place(&self, channel: u128) -> Option<usize>
+        ensures word { (self.now.signed ≡ T.SIGNED) × (self.now.bits ≡ T.BITS) }
+        ensures within { IfSome result (λ i. i < length self.now.channels) }
+        ensures place { (n : ℕ) → channel ≡ cap n
+            → result ≡ (if nat_lt n (length self.now.channels) then Some n else None) }
+    {
+        let count = self.bank.channels() as u128;
+        if channel < count {
+            Some(channel as usize)
+        } else {
+            None
+        }
+    }
+
+    /// The number of a channel's sample, and the reply to it. A channel has fewer samples than a script has
+    /// bytes, so their count never comes to its end.
+    fn push(&mut self, channel: usize, sample: T) -> (u64, Reply<T>)
+        requires { channel < length self.old.channels }
+        ensures state { self.new ≡ kept_sample channel (T.value sample) self.old }
+        ensures number { result.0 ≡ slice_index_or self.old.counts channel 0 }
+        ensures reply { reply_map T.value result.1 ≡ kept_reply self.old
+            (lane_at (change_at channel (with_sample (T.value sample)) self.old.channels) channel) }
+    {
+        let number = self.counts[channel];
+        self.begun = true;
+        self.counts[channel] = number.wrapping_add(1);
+        let reply = self.bank.push(channel, sample);
+        (number, reply)
+    }
+
+    /// Answers for the sample of a channel.
+    fn answer(&mut self, channel: usize, sample: T, output: &mut Output) -> Result<(), Refusal>
+        requires { channel < length self.old.channels }
+        ensures { StepTells (Read (
+          kept_sample channel (T.value sample) self.old,
+          kept_text self.old channel (T.value sample),
+        )) result self.new output.old output.new }
+    {
+        let (number, reply) = self.push(channel, sample);
+        match append_reply(output, channel, number, reply) {
+            Ok(()) => Ok(()),
+            Err(_) => Err(Refusal::Wanting),
+        }
+    }
+
+    /// Answers for the sample that the tokens are.
+    fn take_sample(
+        &mut self,
+        channel: u128,
+        tokens: Tokens<'_>,
+        output: &mut Output,
+    ) -> Result<(), Refusal>
+        ensures { (j : ℕ) → channel ≡ cap j → StepTells
+            (kept_read self.old (sample_of (Some j) (only_number tokens.entry))) result
+            self.new output.old output.new }
+    {
+        let Some(number) = read_only_number(tokens) else {
+            return Err(Refusal::Unformed);
+        };
+        let Some(place) = self.place(channel) else {
+            return Err(Refusal::Unfit);
+        };
+        match fitting(&number) {
+            Ok(sample) => self.answer(place, sample, output),
+            Err(refusal) => Err(refusal),
+        }
+    }
+}
+
+impl<T: Word> Run for FilterRun<T> {
+    ghost line = { kept_line };
+
+    fn step(&mut self, bytes: &[u8], output: &mut Output) -> Result<(), Refusal> {
+        let mut tokens = Tokens::new(bytes);
+        let Some(name) = tokens.take() else {
+            return Err(Refusal::Unformed);
+        };
+        if name == b"taps".as_slice() {
+            self.take_taps(tokens)
+        } else {
+            match read_numbered(b'c', name) {
+                Some(channel) => self.take_sample(channel, tokens, output),
+                None => Err(Refusal::Unformed),
+            }
+        }
+    }
+}
+
+/// The fault of a script of filters.
+fn fault_of(fault: RunFault) -> FilterFault
+    ensures { (ending : Ending) → EndsBy ending fault → FilterTells ending (Err result) }
+{
+    match fault {
+        RunFault::Syntax(number) => FilterFault::Syntax(number),
+        RunFault::OutOfRange(number) => FilterFault::OutOfRange(number),
+        RunFault::Memory => FilterFault::Memory,
+    }
+}
+
+/// The lines after the header, at a word and a shape.
+fn run_shape<T: Word>(alloc: Global, shape: Shape, lines: &[u8]) -> Result<Output, RunFault>
+    requires { IsShape T.BITS shape }
+    ensures { RunTells (lines_from filter_line (start T.SIGNED T.BITS shape) 2 (pieces lines.now))
+        result }
+{
+    let run = FilterRun::<T> {
+        alloc,
+        begun: false,
+        bank: Bank::new(alloc, shape),
+        counts: Vec::new(alloc),
+    };
+    run_lines(alloc, run, lines)
+}
+
+/// The lines after the header, at a word.
+fn run_at<T: Word>(alloc: Global, header: Header, lines: &[u8]) -> Result<Output, FilterFault>
+    ensures { FilterTells (then_by 1 (started T.SIGNED T.BITS (record
+        { out_frac = header.out; coef_frac = header.coef; sample_frac = header.sample }))
+        (λ state. lines_from filter_line state 2 (pieces lines.now))) result }
+{
+    let most = u128::from(T::BITS);
+    if header.out > most || header.coef > most || header.sample > most {
+        return Err(FilterFault::OutOfRange(1));
+    }
+    let shape = Shape {
+        out_frac: header.out as u32,
+        coef_frac: header.coef as u32,
+        sample_frac: header.sample as u32,
+    };
+    match run_shape::<T>(alloc, shape, lines) {
+        Ok(output) => Ok(output),
+        Err(fault) => Err(fault_of(fault)),
+    }
+}
+
+/// The lines after the header, at the word of its name.
+fn run_word(alloc: Global, header: Header, lines: &[u8]) -> Result<Output, FilterFault>
+    ensures { FilterTells (then_by 1 (started (is_signed header.word) (width header.word) (record
+        { out_frac = header.out; coef_frac = header.coef; sample_frac = header.sample }))
+        (λ state. lines_from filter_line state 2 (pieces lines.now))) result }
+{
+    match header.word {
+        WordName::I8 => run_at::<i8>(alloc, header, lines),
+        WordName::I16 => run_at::<i16>(alloc, header, lines),
+        WordName::I32 => run_at::<i32>(alloc, header, lines),
+        WordName::I64 => run_at::<i64>(alloc, header, lines),
+        WordName::U8 => run_at::<u8>(alloc, header, lines),
+        WordName::U16 => run_at::<u16>(alloc, header, lines),
+        WordName::U32 => run_at::<u32>(alloc, header, lines),
+        WordName::U64 => run_at::<u64>(alloc, header, lines),
+    }
+}
+
+/// What a script of filters prints. Its first line is `filter W F G H`, a word and the fractions of outputs, taps
+/// and samples; then lines `taps N N ..`, at least one number, each add a channel, and lines `cJ N` give channel J
+/// a sample and print the bits of its output, or `overflow J I T` with the number of this channel's sample and
+/// the tap, both from 0. Otherwise the first cause, with the number of its piece: `Syntax` where the piece lacks
+/// the form, also `taps` after a sample, and `OutOfRange` where a number is out of range or no such channel is
+/// there. Want of memory may come in the place of either, and nothing is handed out then.
+pub fn filter_run(alloc: Global, script: &[u8]) -> Result<Output, FilterFault>
+    ensures { FilterTells (filter_output script.now) result }
+{
+    let Some((piece, lines)) = open(script) else {
+        return Err(FilterFault::Syntax(1));
+    };
+    match read_header(piece) {
+        Some(header) => run_word(alloc, header, lines),
+        None => Err(FilterFault::Syntax(1)),
+    }
+}
