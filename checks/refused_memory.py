@@ -3,8 +3,9 @@
     python3 checks/refused_memory.py
 
 Each run gives the status and the output of the run in which nothing is refused, or ends with 6 and has written a
-prefix of that output. Prints a line a run, and ends with 1 where one does neither. The program runs by `rt try`, without
-a proof, in about 20 seconds a run; the kit's `rt try` takes one number at a time, and fails requests for memory alone.
+prefix of that output. Prints a line a run, and ends with 1 where one does neither. The program runs by `rt try`,
+without a proof, in about 20 seconds a run; the kit's `rt try` takes one number at a time, and fails requests for
+memory alone.
 """
 import subprocess
 import sys

@@ -3,7 +3,8 @@
 
     python3 checks/typed_calls.py
 
-Silent with status 0 where both are the same; otherwise it names each call that stands in one place alone and ends with 1.
+Silent with status 0 where both are the same; otherwise it names each call that stands in one place alone and ends
+with 1.
 """
 import re
 import sys
