@@ -9,6 +9,7 @@
 #![allow(
     clippy::manual_map,
     clippy::manual_range_contains,
+    clippy::match_like_matches_macro,
     clippy::question_mark,
     clippy::single_match,
     clippy::while_let_on_iterator

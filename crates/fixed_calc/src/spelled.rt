@@ -125,7 +125,7 @@ pub fn explicit(alloc: Global, script: &[u8]) -> Result<Script, ExplicitFault>
     let Some(_header) = header_of_piece(&script[..end]) else {
         return Err(ExplicitFault::Syntax(1));
     };
-    // A line of 13 bytes or more grows by 5.
+    // A line of 19 bytes or more grows by 5.
     let Ok(mut bytes) = Vec::with_capacity(alloc, script.len() + script.len() / 2) else {
         return Err(ExplicitFault::Memory);
     };

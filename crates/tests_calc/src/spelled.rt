@@ -69,6 +69,10 @@ fn spelled_scripts(rt: HostRuntime) -> Result<(), Fail> {
             }
         }
     }
+    assert_eq!(rt;
+        format!(in alloc; "{}", ExplicitFault::Memory)?,
+        "out of memory"
+    );
     Ok(())
 }
 
