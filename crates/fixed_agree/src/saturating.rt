@@ -58,6 +58,7 @@ pub fn unary_unsigned<T: UnsignedWord, const F: u32>(op: Op, a: Fixed<T, F>) -> 
 }
 
 /// An operation on two numbers. Condition: the row is defined.
+#[tactic(auto, unfolding(fixed_calc::specs::Rows::exact, fixed_calc::specs::Offered::is_offered), using(crate::proofs::Rows::saturating_row))]
 pub fn binary<T: Word, const F: u32>(op: Op, a: Fixed<T, F>, b: Fixed<T, F>) -> Answer
     requires fraction { F ≤ T.BITS }
     requires shape { IsBinary op }

@@ -1,0 +1,8 @@
+use Rattle.std.proofs.Common.{refl}
+use Rattle.fixed_calc.specs.Rows.{exact}
+use Rattle.fixed_agree.proofs.Policies.{by_strict}
+use Rattle.fixed_agree.proofs.strict.unary_unsigned.Goals as goal
+
+pub returns-in-NextPowerOfTwo : goal.returns-in-NextPowerOfTwo
+unfolding exact
+returns-in-NextPowerOfTwo g c = rw c.in-NextPowerOfTwo.is (by_strict g.T.RawWord.SIGNED g.T.Valued.BITS _ _ _ _ _ refl c.bits_of.ensures c.strict_next_power_of_two.ensures)

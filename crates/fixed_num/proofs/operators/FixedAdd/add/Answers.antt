@@ -1,0 +1,4 @@
+use Rattle.fixed_num.proofs.operators.FixedAdd.add.Goals as goal
+
+pub returns : goal.returns
+returns g c = c.exact_number.ensures _ c.add_of.ensures c.requires

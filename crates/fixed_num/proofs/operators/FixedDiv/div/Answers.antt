@@ -1,0 +1,4 @@
+use Rattle.fixed_num.proofs.operators.FixedDiv.div.Goals as goal
+
+pub returns : goal.returns
+returns g c = c.exact_number.ensures _ c.div_of.ensures c.requires.2

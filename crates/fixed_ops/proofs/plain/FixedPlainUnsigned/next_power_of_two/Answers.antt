@@ -1,0 +1,4 @@
+use Rattle.fixed_ops.proofs.plain.FixedPlainUnsigned.next_power_of_two.Goals as goal
+
+pub returns : goal.returns
+returns g c = c.exact_number.ensures _ c.next_power_of_two_of.ensures c.requires

@@ -1,0 +1,4 @@
+use Rattle.fixed_ops.proofs.plain_products.FixedPlainProducts.add_prod.Goals as goal
+
+pub returns : goal.returns
+returns g c = c.exact_number.ensures _ c.add_prod_of.ensures c.requires.fits

@@ -1,0 +1,4 @@
+use Rattle.fixed_strict.proofs.strict.FixedStrictUnsigned.strict_add_signed.Goals as goal
+
+pub returns : goal.returns
+returns g c = c.exact_number.ensures _ c.mixed_add_of.ensures c.requires
