@@ -1,16 +1,15 @@
 -- Numbers that fit a word.
 use Rattle.std.proofs.Common.{◌≡◌, ◌+◌, ◌-◌, ◌*◌, ◌/◌, ◌%◌, ◌^◌, ◌<◌, ◌≤◌, ◌+ℤ◌, ◌-ℤ◌, ◌*ℤ◌, ◌<ℤ◌, ◌≤ℤ◌, ℕ, ℤ, suc, Bool, true, false, pos, negsuc, neg_ℤ, nat_abs, min, refl, ap, sym, ◌∙◌, arith, inl, inr}
-use Rattle.std.specs.Prelude.{◌↔◌, IsTrue}
 use Rattle.std.proofs.lemmas.Int.{ints}
 use Rattle.std.proofs.lemmas.Bool.{cases_lt}
 use Rattle.std.proofs.lemmas.Nat.{pow_pos, pow-add, one_shl}
-use Rattle.std.proofs.Math.Nat.{pow-le-pow_right, div-eq_of_lt, mul_assoc}
+use Rattle.std.proofs.Math.Nat.{pow-le-pow_right, pow-suc, div-le_self, div-eq_of_lt, mul_assoc}
 use Rattle.fixed_word.specs.Format.{IsWidth, InRange, lowest, highest, wrap, with_sign, modulo}
 use Rattle.fixed_word.specs.Quotient.{floor_quotient}
-use Rattle.fixed_word.proofs.Wraps.{magnitude_fits, neg-times, range_len, width_pos, wrap_alike, wrap_in_range, wrap_same}
+use Rattle.fixed_word.proofs.Wraps.{double, magnitude_fits, neg-times, range_len, width_pos, wrap_alike, wrap_in_range, wrap_same}
 use Rattle.fixed_word.proofs.Sides.{lowest_sign, highest_sign}
 use Rattle.fixed_bits.specs.Digits.{bit_list, lowest_digits}
-use Rattle.fixed_bits.proofs.Words.{modulo_wrap, at_most_64, sign_is, left_is, right_below, right_above}
+use Rattle.fixed_bits.proofs.Words.{modulo_wrap, at_most_64}
 
 ends_64 : (s : Bool) (n : ℕ) → IsWidth n → (highest s n <ℤ pos (2 ^ 64)) × (neg_ℤ (pos (2 ^ 64)) <ℤ lowest s n)
 ends_64 true n w =
@@ -57,18 +56,35 @@ half_between : (l h x : ℤ) → (l +ℤ l) ≤ℤ x → x ≤ℤ (h +ℤ h) →
 half_between l h (pos a) b c = (omega (arith, ints), omega (arith, ints))
 half_between l h (negsuc a) b c = (omega (arith, ints), omega (arith, ints))
 
-pub mean_is : (s : Bool) (n : ℕ) (ab bb cb : Bool) (am bm cm : ℕ) (a b r : ℤ) → IsWidth n → InRange s n a → InRange s n b
-    → (IsTrue ab ↔ (a <ℤ pos 0)) → am ≡ nat_abs a → (IsTrue bb ↔ (b <ℤ pos 0)) → bm ≡ nat_abs b
-    → with_sign cb cm ≡ floor_quotient (with_sign ab am +ℤ with_sign bb bm) 2 → r ≡ wrap s n (with_sign cb cm) → r ≡ floor_quotient (a +ℤ b) 2
-mean_is s n ab bb cb am bm cm a b r w i j ga ea gb eb e f =
-    let da = sign_is ab am a ga ea in
-    let db = sign_is bb bm b gb eb in
+pub mean_is : (s : Bool) (n : ℕ) (a b r : ℤ) → IsWidth n → InRange s n a → InRange s n b → r ≡ wrap s n (floor_quotient (a +ℤ b) 2) → r ≡ floor_quotient (a +ℤ b) 2
+mean_is s n a b r w i j e =
     let a0 = i.0 in
     let a1 = i.1 in
     let b0 = j.0 in
     let b1 = j.1 in
-    let q : with_sign cb cm ≡ floor_quotient (a +ℤ b) 2 = rw (da, db) e in
-    f ∙ ap (wrap s n) q ∙ wrap_same s n (floor_quotient (a +ℤ b) 2) (width_pos n w) (half_between (lowest s n) (highest s n) (a +ℤ b) (omega (arith, ints)) (omega (arith, ints)))
+    e ∙ wrap_same s n (floor_quotient (a +ℤ b) 2) (width_pos n w) (half_between (lowest s n) (highest s n) (a +ℤ b) (omega (arith, ints)) (omega (arith, ints)))
+
+-- a sum of two words fits an integer of twice the width
+pub sum_in : (s t : Bool) (n m : ℕ) (a b : ℤ) → t ≡ s → IsWidth n → m ≡ 2 * n → InRange s n a → InRange s n b → InRange t m (a +ℤ b)
+sum_in true t n m a b e w d i j = rw e (
+    let h = width_pos n w in
+    let twice = double n h in
+    let more : 2 ^ n ≤ 2 ^ (m - 1) = pow-le-pow_right {n = 2} (omega arith) {i = n} {j = m - 1} (omega arith) in
+    let a0 = i.0 in
+    let a1 = i.1 in
+    let b0 = j.0 in
+    let b1 = j.1 in
+    (omega (arith, ints), omega (arith, ints)))
+sum_in false t n m a b e w d i j = rw e (
+    let h = width_pos n w in
+    let next = pow-suc 2 n in
+    let more : 2 ^ suc n ≤ 2 ^ m = pow-le-pow_right {n = 2} (omega arith) {i = suc n} {j = m} (omega arith) in
+    let some = pow_pos n in
+    let a0 = i.0 in
+    let a1 = i.1 in
+    let b0 = j.0 in
+    let b1 = j.1 in
+    (omega (arith, ints), omega (arith, ints)))
 
 -- ---- shifts past the width
 
@@ -89,10 +105,6 @@ all_shifted_out s n k m v r w d h e =
         let p : 2 ^ k ≡ 2 ^ (k - n) * 2 ^ n = ap (λ (x : ℕ). 2 ^ x) (sym e) ∙ pow-add 2 (k - n) n in
         rw p (omega (arith, ints, times_product v (2 ^ (k - n)) (2 ^ n)))
 
-pub left_within : (s : Bool) (n k m : ℕ) (b : Bool) (x : ℕ) (v r : ℤ) → IsWidth n → m ≡ n → k < m → InRange s n v → (IsTrue b ↔ (v <ℤ pos 0)) → x ≡ nat_abs v
-    → r ≡ wrap s n (with_sign b ((x * 2 ^ k) % 2 ^ 128)) → r ≡ wrap s n (v *ℤ pos (2 ^ k))
-left_within s n k m b x v r w d h i g e f = left_is s n k b x v r w (omega arith) i g e f
-
 size_below : (s : Bool) (n m : ℕ) (v : ℤ) → IsWidth n → InRange s n v → m ≡ nat_abs v → m < 2 ^ n
 size_below s n m v w i e =
     let f = magnitude_fits s n v (width_pos n w) i in
@@ -111,19 +123,26 @@ past_width n k x h = elim (cases_lt k n) [
       rw (e, div-eq_of_lt h, div-eq_of_lt c) refl
 ]
 
-pub down_below : (s : Bool) (n k m by : ℕ) (b : Bool) (x : ℕ) (v r : ℤ) → IsWidth n → m ≡ n → by ≡ min k m → InRange s n v → (IsTrue b ↔ (v <ℤ pos 0)) → b ≡ true → x ≡ nat_abs v
-    → r ≡ wrap s n (with_sign true ((x - 1) / 2 ^ by + 1)) → r ≡ floor_quotient v (2 ^ k)
-down_below s n k m by b x v r w d c i g t e f =
-    let l = size_below s n x v w i e in
-    let q : (x - 1) / 2 ^ by ≡ (x - 1) / 2 ^ k = rw (c, d) (past_width n k (x - 1) (omega arith)) in
-    right_below s n k b x v r w i g t e (rw q at f)
+past_places : (s : Bool) (n k : ℕ) (v : ℤ) → IsWidth n → InRange s n v → floor_quotient v (2 ^ min k n) ≡ floor_quotient v (2 ^ k)
+past_places s n k (pos a) w i = ap pos (past_width n k a (size_below s n a (pos a) w i refl))
+past_places s n k (negsuc a) w i = let l = size_below s n (suc a) (negsuc a) w i refl in ap negsuc (past_width n k a (omega arith))
 
-pub down_above : (s : Bool) (n k m by : ℕ) (b : Bool) (x : ℕ) (v r : ℤ) → IsWidth n → m ≡ n → by ≡ min k m → InRange s n v → (IsTrue b ↔ (v <ℤ pos 0)) → b ≡ false → x ≡ nat_abs v
-    → r ≡ wrap s n (with_sign false (x / 2 ^ by)) → r ≡ floor_quotient v (2 ^ k)
-down_above s n k m by b x v r w d c i g t e f =
-    let l = size_below s n x v w i e in
-    let q : x / 2 ^ by ≡ x / 2 ^ k = rw (c, d) (past_width n k x l) in
-    right_above s n k b x v r w i g t e (rw q at f)
+floor_in : (s : Bool) (n d : ℕ) (v : ℤ) → InRange s n v → InRange s n (floor_quotient v d)
+floor_in s n d (pos a) i =
+    let l = lowest_sign s n in
+    let u = i.1 in
+    let b = div-le_self a d in
+    (omega (arith, ints), omega (arith, ints))
+floor_in s n d (negsuc a) i =
+    let h = highest_sign s n in
+    let u = i.0 in
+    let b = div-le_self a d in
+    (omega (arith, ints), omega (arith, ints))
+
+pub down_is : (s : Bool) (n k m by : ℕ) (v r : ℤ) → IsWidth n → m ≡ n → by ≡ min k m → InRange s n v → r ≡ wrap s n (floor_quotient v (2 ^ by)) → r ≡ floor_quotient v (2 ^ k)
+down_is s n k m by v r w d c i e =
+    let q : floor_quotient v (2 ^ by) ≡ floor_quotient v (2 ^ k) = rw (c, d) (past_places s n k v w i) in
+    e ∙ wrap_same s n (floor_quotient v (2 ^ by)) (width_pos n w) (floor_in s n (2 ^ by) v i) ∙ q
 
 pub from_zero : (s : Bool) (n : ℕ) (v : ℤ) → s ≡ false → InRange s n v → pos 0 ≤ℤ v
 from_zero s n v e r = let i : InRange false n v = rw e at r in i.0

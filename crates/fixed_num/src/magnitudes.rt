@@ -6,9 +6,9 @@ ghost use Rattle.fixed_word.specs.Quotient.{floor_quotient, truncated_quotient};
 ghost use Rattle.fixed_num.specs.Sizes.{HasSignedSize, HasSize, IsHighestOne, IsLeast, IsPower, mean_of};
 
 use crate::format::Fixed;
-use crate::sides::{bit_length, distance, half_sum, highest_power};
+use crate::sides::{bit_length, distance, highest_power};
 use fixed_kernel::round_to_zero_of;
-use fixed_word::{RawWord, SignedWord, UnsignedWord, Word};
+use fixed_word::{Arithmetic, Integer, RawWord, SignedWord, UnsignedWord, Word};
 
 impl<T: Word, const F: u32> Fixed<T, F> {
     /// The magnitude of the difference, which always fits the unsigned number.
@@ -25,14 +25,9 @@ impl<T: Word, const F: u32> Fixed<T, F> {
     pub fn mean(self, other: Self) -> Self
         ensures { T.value result.bits ≡ mean_of (T.value self.bits) (T.value other.bits) }
     {
-        let (below_zero, magnitude) = half_sum(
-            self.bits.is_below_zero(),
-            self.bits.magnitude(),
-            other.bits.is_below_zero(),
-            other.bits.magnitude(),
-        );
+        let sum = self.bits.whole().plus(other.bits.whole());
         Fixed {
-            bits: T::residue(below_zero, magnitude),
+            bits: T::cut(sum.floored(1)),
         }
     }
 
@@ -43,9 +38,8 @@ impl<T: Word, const F: u32> Fixed<T, F> {
         if rhs >= T::BITS {
             return Fixed { bits: T::ZERO };
         }
-        let magnitude = (self.bits.magnitude() as u128) << rhs;
         Fixed {
-            bits: T::residue(self.bits.is_below_zero(), magnitude),
+            bits: T::cut(self.bits.whole().scaled(rhs)),
         }
     }
 
@@ -54,15 +48,8 @@ impl<T: Word, const F: u32> Fixed<T, F> {
         ensures { T.value result.bits ≡ floor_quotient (T.value self.bits) (2 ^ rhs) }
     {
         let by = rhs.min(T::BITS);
-        let magnitude = self.bits.magnitude() as u128;
-        if self.bits.is_below_zero() {
-            Fixed {
-                bits: T::residue(true, ((magnitude - 1) >> by) + 1),
-            }
-        } else {
-            Fixed {
-                bits: T::residue(false, magnitude >> by),
-            }
+        Fixed {
+            bits: T::cut(self.bits.whole().floored(by)),
         }
     }
 

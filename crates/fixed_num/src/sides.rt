@@ -1,8 +1,7 @@
 //! Small computations by sign and magnitude, and by magnitude alone.
 
-ghost use Rattle.std.specs.Prelude.{◌≡◌, ◌+◌, ◌<◌, ◌≤◌, ◌*◌, ◌^◌, ◌+ℤ◌, ◌-ℤ◌, unsigned_abs, pos};
-ghost use Rattle.fixed_word.specs.Format.{InRange, with_sign};
-ghost use Rattle.fixed_word.specs.Quotient.{floor_quotient};
+ghost use Rattle.std.specs.Prelude.{◌≡◌, ◌+◌, ◌<◌, ◌≤◌, ◌*◌, ◌^◌, ◌-ℤ◌, unsigned_abs};
+ghost use Rattle.fixed_word.specs.Format.{InRange};
 ghost use Rattle.fixed_num.specs.Sizes.{IsHighestPower};
 
 use fixed_word::RawWord;
@@ -17,36 +16,6 @@ pub(crate) fn distance<T: RawWord>(a: T, b: T) -> u64
         a.magnitude().abs_diff(b.magnitude())
     } else {
         a.magnitude() + b.magnitude()
-    }
-}
-
-/// The sum of two numbers by sign and magnitude, halved and rounded down.
-pub(crate) fn half_sum(a_below_zero: bool, a: u64, b_below_zero: bool, b: u64) -> (bool, u128)
-    ensures { with_sign result.0 result.1
-        ≡ floor_quotient (with_sign a_below_zero a +ℤ with_sign b_below_zero b) 2 }
-{
-    let (below_zero, sum) = sum_of(a_below_zero, a as u128, b_below_zero, b as u128);
-    if below_zero {
-        (true, (sum + 1) / 2)
-    } else {
-        (false, sum / 2)
-    }
-}
-
-/// The sum of two numbers by sign and magnitude.
-fn sum_of(a_below_zero: bool, a: u128, b_below_zero: bool, b: u128) -> (bool, u128)
-    requires a { a < 2 ^ 64 }
-    requires b { b < 2 ^ 64 }
-    ensures value { with_sign result.0 result.1
-        ≡ with_sign a_below_zero a +ℤ with_sign b_below_zero b }
-    ensures small { result.1 < 2 ^ 65 }
-{
-    if a_below_zero == b_below_zero {
-        (a_below_zero, a + b)
-    } else if b <= a {
-        (a_below_zero, a - b)
-    } else {
-        (b_below_zero, b - a)
     }
 }
 
