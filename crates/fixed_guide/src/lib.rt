@@ -1,4 +1,4 @@
-//! The examples of the guide for users: a filter, a controller, a ledger and an invoice, each in a few
+//! The examples of the guide for users: a filter, a controller, a ledger, an invoice and a sine, each in a few
 //! lines over the typed calls and the operators, with the property that it was written for as its contract.
 //! This project's own.
 #![tactic(auto)]
@@ -7,3 +7,4 @@ pub mod controller;
 pub mod filter;
 pub mod invoice;
 pub mod ledger;
+pub mod sine;

@@ -5,4 +5,6 @@
 mod filter;
 #[cfg(test)]
 mod poly;
+#[cfg(test)]
+mod sine;
 pub mod whole;

@@ -1,0 +1,43 @@
+//! The sine of a quarter turn, with a bound on its rounding.
+
+ghost use Rattle.std.specs.Prelude.{◌≡◌, ◌-◌, ◌*◌, ◌^◌, ◌≤ℤ◌, map, pos};
+ghost use Rattle.fixed_poly.specs.Exact.{shortfall};
+ghost use Rattle.fixed_guide.specs.Sine.{sine_coefficients};
+
+use fixed_num::FixedI32;
+use fixed_poly::{PolyReply, horner};
+
+/// A part of a quarter turn, or the sine of one, in units of `2^-29`.
+pub type Part = FixedI32<29>;
+
+/// The coefficients of a polynomial that lies within 0.0000007 of the sine: in the odd places those of x,
+/// x^3, x^5 and x^7.
+fn coefficients() -> [Part; 8]
+    ensures { map (λ c. c.bits) result ≡ sine_coefficients }
+{
+    [
+        Part { bits: 0 },
+        Part { bits: 843312475 },
+        Part { bits: 0 },
+        Part { bits: -346764231 },
+        Part { bits: 0 },
+        Part { bits: 42651708 },
+        Part { bits: 0 },
+        Part { bits: -2329391 },
+    ]
+}
+
+/// The sine of that part of a quarter turn, by a polynomial of degree 7. Condition: the part is from 0 to 1.
+/// The answer lies at or below the polynomial's exact value, and by less than 7 units.
+pub fn sine(part: Part) -> Part
+    requires from_zero { pos 0 ≤ℤ part.bits }
+    requires to_one { part.bits ≤ℤ pos (2 ^ 29) }
+    ensures below { pos 0 ≤ℤ shortfall part.bits 29 sine_coefficients result.bits }
+    ensures at_most { shortfall part.bits 29 sine_coefficients result.bits
+        ≤ℤ pos (7 * (2 ^ 29 - 1) * 2 ^ (29 * 6)) }
+{
+    match horner(&coefficients(), part) {
+        PolyReply::Value(sine) => sine,
+        PolyReply::Overflow(_) => unreachable!(),
+    }
+}
