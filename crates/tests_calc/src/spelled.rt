@@ -69,10 +69,8 @@ fn spelled_scripts(rt: HostRuntime) -> Result<(), Fail> {
             }
         }
     }
-    assert_eq!(rt;
-        format!(in alloc; "{}", ExplicitFault::Memory)?,
-        "out of memory"
-    );
+    let text = format!(in alloc; "{}", ExplicitFault::Memory)?;
+    assert_eq!(rt; text.as_str(), "out of memory");
     Ok(())
 }
 
