@@ -5,7 +5,8 @@
 The sine is computed here by Horner's rule in whole numbers, as `fixed_guide::sine` defines it; the tests of
 `tests_runs` compare the proved function with these numbers at five points. Prints the greatest difference
 over 100,001 points of a quarter turn, and how far values lie below the polynomial's exact one. With FIGURE
-it writes a drawing (SVG): the difference, and the two lines between which it is proved to lie.
+it writes a drawing (SVG): the difference from the sine, and that from the exact value with the two ends
+between which it is proved to lie.
 """
 import math
 import sys
@@ -33,33 +34,37 @@ def sine(part):
     return math.sin(math.pi / 2 * part / UNIT) * UNIT
 
 
-def polyline(points, color):
-    path = " ".join(f"{x:.1f},{y:.1f}" for x, y in points)
-    return f'<polyline fill="none" stroke="{color}" points="{path}"/>'
+WIDTH, HEIGHT, LEFT, STEPS = 700, 220, 60, 700
+
+
+def panel(top, title, most, least, every, curves):
+    """Curves over a quarter turn, between two ends."""
+    lines = [f'<text x="{LEFT}" y="{top - 8}">{title}</text>']
+    place = lambda y: top + HEIGHT * (most - y) / (most - least)
+    for y in range(least, most + 1, every):
+        lines.append(f'<line x1="{LEFT}" y1="{place(y):.1f}" x2="{LEFT + WIDTH}" y2="{place(y):.1f}" stroke="#ddd"/>')
+        lines.append(f'<text x="{LEFT - 8}" y="{place(y) + 4:.1f}" text-anchor="end">{y}</text>')
+    for degrees in range(0, 91, 15):
+        x = LEFT + WIDTH * degrees / 90
+        lines.append(f'<text x="{x:.1f}" y="{top + HEIGHT + 18}" text-anchor="middle">{degrees}°</text>')
+    for ys, color in curves:
+        path = " ".join(f"{LEFT + WIDTH * i / STEPS:.0f},{place(y):.1f}" for i, y in enumerate(ys))
+        lines.append(f'<polyline fill="none" stroke="{color}" points="{path}"/>')
+    return lines
 
 
 def figure(name):
-    """The difference from the sine in units of 2^-29, over a quarter turn."""
-    steps, width, height, left, top = 700, 700, 300, 60, 20
-    parts = [UNIT * i // steps for i in range(steps + 1)]
-    upper = [float(exact(part) - Fraction(sine(part))) for part in parts]
-    lower = [difference - UNITS for difference in upper]
-    found = [by_horner(part) - sine(part) for part in parts]
-    most, least = 400, -400
-    at = lambda i, y: (left + width * i / steps, top + height * (most - y) / (most - least))
-    lines = [f'<svg xmlns="http://www.w3.org/2000/svg" width="{left + width + 20}" height="{top + height + 50}"'
+    """How far values lie from the sine, and how far from the polynomial's exact value."""
+    parts = [UNIT * i // STEPS for i in range(STEPS + 1)]
+    found = [by_horner(part) for part in parts]
+    from_sine = [value - sine(part) for value, part in zip(found, parts)]
+    from_exact = [float(value - exact(part)) for value, part in zip(found, parts)]
+    ends = [([0] * (STEPS + 1), "#c33"), ([-UNITS] * (STEPS + 1), "#c33")]
+    lines = [f'<svg xmlns="http://www.w3.org/2000/svg" width="{LEFT + WIDTH + 20}" height="{2 * HEIGHT + 130}"'
              ' font-family="sans-serif" font-size="12">']
-    for y in range(least, most + 1, 200):
-        x, height_of = at(0, y)
-        lines.append(f'<line x1="{left}" y1="{height_of}" x2="{left + width}" y2="{height_of}" stroke="#ddd"/>')
-        lines.append(f'<text x="{left - 8}" y="{height_of + 4}" text-anchor="end">{y}</text>')
-    for degrees in range(0, 91, 15):
-        x = left + width * degrees / 90
-        lines.append(f'<text x="{x}" y="{top + height + 18}" text-anchor="middle">{degrees}°</text>')
-    lines.append(f'<text x="{left}" y="{top + height + 40}">difference from the sine in units of 2^-29: found'
-                 " (black), and the proved ends (blue, red)</text>")
-    for ys, color in [(upper, "#c33"), (lower, "#36c"), (found, "black")]:
-        lines.append(polyline([at(i, y) for i, y in enumerate(ys)], color))
+    lines += panel(30, "above the sine, in units of 2^-29", 400, -400, 200, [(from_sine, "black")])
+    lines += panel(HEIGHT + 95, "above the polynomial's exact value, and the two ends that are proved (red)",
+                   1, -8, 1, ends + [(from_exact, "black")])
     lines.append("</svg>")
     with open(name, "w") as out:
         out.write("\n".join(lines) + "\n")
