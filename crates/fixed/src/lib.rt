@@ -1,0 +1,30 @@
+//! Fixed-point numbers of 8, 16, 32 and 64 bits, signed and unsigned, whose every call is proved: one name
+//! for the whole library.
+//!
+//! Nothing is made here. The number types and the traits of their calls are offered again, what an
+//! operation at run time answers, the laws, and under `Rattle.fixed.specs` the definitions that contracts
+//! of users cite, such as `Policies.checked` and `Rows.exact_mul`. So a user lists this crate alone.
+#![tactic(auto)]
+
+pub mod kernel;
+pub mod laws;
+pub mod logarithms;
+pub mod roots;
+
+pub use fixed_bits::BitWord;
+pub use fixed_num::{
+    Constants, Fixed, FixedI8, FixedI16, FixedI32, FixedI64, FixedU8, FixedU16, FixedU32, FixedU64,
+    Held, Number,
+};
+pub use fixed_ops::{Plain, PlainMulAdd, PlainProducts, PlainSigned, PlainUnsigned, product, sum};
+pub use fixed_policy::{
+    Checked, CheckedMulAdd, CheckedProducts, CheckedSigned, CheckedUnsigned, Overflowing,
+    OverflowingMulAdd, OverflowingProducts, OverflowingSigned, OverflowingUnsigned, Wrapping,
+    WrappingMulAdd, WrappingProducts, WrappingSigned, WrappingUnsigned,
+};
+pub use fixed_strict::{
+    Saturating, SaturatingMulAdd, SaturatingProducts, SaturatingSigned, SaturatingUnsigned, Strict,
+    StrictMulAdd, StrictProducts, StrictSigned, StrictUnsigned, Unwrapped, UnwrappedMulAdd,
+    UnwrappedProducts, UnwrappedSigned, UnwrappedUnsigned,
+};
+pub use fixed_word::{Narrow, RawWord, SignedWord, UnsignedWord, Valued, Word};
