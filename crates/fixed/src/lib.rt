@@ -1,11 +1,12 @@
 //! Fixed-point numbers of 8, 16, 32 and 64 bits, signed and unsigned, whose every call is proved: one name
 //! for the whole library.
 //!
-//! Nothing is made here. The number types and the traits of their calls are offered again, what an
+//! Nothing is made here but an example. The number types and the traits of their calls are offered again, what an
 //! operation at run time answers, the laws, and under `Rattle.fixed.specs` the definitions that contracts
 //! of users cite, such as `Policies.checked` and `Rows.exact_mul`. So a user lists this crate alone.
 #![tactic(auto)]
 
+pub mod example;
 pub mod kernel;
 pub mod laws;
 pub mod logarithms;

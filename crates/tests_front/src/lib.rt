@@ -1,18 +1,17 @@
 //! A user who lists `fixed` alone: calls, generic code, and contracts that cite its definitions.
 #![tactic(auto)]
 
-ghost use Rattle.std.specs.Prelude.{◌≡◌, Some, option_map, true};
-ghost use Rattle.fixed.specs.Policies.{checked};
-ghost use Rattle.fixed.specs.Rows.{exact_mul};
+ghost use Rattle.std.specs.Prelude.{◌≡◌, Some, true};
+ghost use Rattle.fixed.specs.Policies.{saturating};
+ghost use Rattle.fixed.specs.Rows.{exact_add};
 
-use fixed::{Checked, FixedI32};
+use fixed::{Checked, FixedI32, Saturating};
 
-/// A sample times a gain, where that fits.
-pub fn scaled(sample: FixedI32<16>, gain: FixedI32<16>) -> Option<FixedI32<16>>
-    ensures { option_map (λ x. x.bits) result
-        ≡ checked true 32 (Some (exact_mul sample.bits gain.bits 16)) }
+/// A level and a step, held at the ends of the format.
+pub fn moved(level: FixedI32<16>, step: FixedI32<16>) -> FixedI32<16>
+    ensures { Some result.bits ≡ saturating true 32 (Some (exact_add level.bits step.bits)) }
 {
-    sample.checked_mul(gain)
+    level.saturating_add(step)
 }
 
 /// Three times a number, where that fits, in whatever format.
@@ -23,7 +22,8 @@ pub fn thrice<N: Checked>(number: N) -> Option<N> {
 
 #[cfg(test)]
 mod calls {
-    use super::{scaled, thrice};
+    use super::{moved, thrice};
+    use fixed::example::scaled;
     use fixed::kernel::{Rounding, checked_of, div_int_round_of};
     use fixed::{Checked, Fixed, FixedI32, Saturating};
 
@@ -34,7 +34,7 @@ mod calls {
         assert_eq!(rt; thrice(sample), Some(FixedI32 { bits: 294912 }));
         let most = Fixed::<i32, 16> { bits: i32::MAX };
         assert_eq!(rt; scaled(most, sample), None);
-        assert_eq!(rt; most.saturating_add(sample), most);
+        assert_eq!(rt; moved(most, sample), most);
         assert_eq!(rt;
             checked_of(div_int_round_of(7_i8, 2, Rounding::Even)),
             Some(4)
