@@ -16,6 +16,9 @@ const LIBRARY: [&str; 9] = [
 /// The crates of the calculator, which take memory.
 const PROGRAM: [&str; 3] = ["text", "script", "calc"];
 
+/// The crates of the runs over text, which take memory too, for benches and the example.
+const RUNS: [&str; 3] = ["text", "poly", "filter"];
+
 /// The crates of tests for the library, by their folders, and the crate that serves as an example there.
 const TESTS: [&str; 3] = ["tests_kernel", "tests_num", "tests_policy"];
 const EXAMPLE: &str = "guide";
@@ -33,7 +36,8 @@ fn write_all() -> Result<(), String> {
     write("library.rs", &library(top.clone())?)?;
     write("tests.rs", &tests(top.clone())?)?;
     if env::var_os("CARGO_FEATURE_PROGRAM").is_some() {
-        write("program.rs", &program(top)?)?;
+        write("program.rs", &program(top.clone())?)?;
+        write("runs.rs", &over_library(top, &RUNS)?.1)?;
     }
     Ok(())
 }
@@ -71,16 +75,22 @@ fn tests(top: PathBuf) -> Result<String, String> {
 
 /// The calculator over the library, and its adapters.
 fn program(top: PathBuf) -> Result<String, String> {
-    let mut names = names(&LIBRARY, "zugyelmas");
-    names.extend(self::names(&PROGRAM, "crate"));
     let adapters = top.join("fixed_prog/src/adapters.rt");
-    let mut writing = Writing::new(top, names);
-    let mut text = String::new();
-    for name in PROGRAM {
-        text.push_str(&writing.library_crate(name, Reading::Program)?);
-    }
+    let (mut writing, mut text) = over_library(top, &PROGRAM)?;
     text.push_str(&writing.file("adapters", &adapters, &adapters, Reading::Program)?);
     Ok(text)
+}
+
+/// Crates that take memory, over the library, and what wrote them.
+fn over_library(top: PathBuf, crates: &[&str]) -> Result<(Writing, String), String> {
+    let mut names = names(&LIBRARY, "zugyelmas");
+    names.extend(self::names(crates, "crate"));
+    let mut writing = Writing::new(top, names);
+    let mut text = String::new();
+    for name in crates {
+        text.push_str(&writing.library_crate(name, Reading::Program)?);
+    }
+    Ok((writing, text))
 }
 
 /// The crates by the modules that stand for them.

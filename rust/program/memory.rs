@@ -11,6 +11,11 @@ pub struct Global;
 #[derive(Clone, Copy, Debug, PartialEq, Eq)]
 pub struct AllocError;
 
+/// What the proved language asks of a type that may be dropped, and Rust of none.
+pub trait Drop {}
+
+impl<T> Drop for T {}
+
 /// A vector that says where there is no memory.
 #[derive(Debug, PartialEq, Eq)]
 pub struct Vec<T> {
@@ -32,6 +37,15 @@ impl<T> Vec<T> {
         Ok(made)
     }
 
+    pub fn from_slice(alloc: Global, items: &[T]) -> Result<Vec<T>, AllocError>
+    where
+        T: Copy,
+    {
+        let mut made = Vec::new(alloc);
+        made.extend_from_slice(items)?;
+        Ok(made)
+    }
+
     pub fn push(&mut self, item: T) -> Result<(), AllocError> {
         self.held.try_reserve(1).map_err(|_| AllocError)?;
         self.held.push(item);
@@ -49,6 +63,16 @@ impl<T> Vec<T> {
     {
         self.held.try_reserve(items.len()).map_err(|_| AllocError)?;
         self.held.extend_from_slice(items);
+        Ok(())
+    }
+
+    pub fn resize(&mut self, length: usize, item: T) -> Result<(), AllocError>
+    where
+        T: Copy,
+    {
+        let more = length.saturating_sub(self.held.len());
+        self.held.try_reserve(more).map_err(|_| AllocError)?;
+        self.held.resize(length, item);
         Ok(())
     }
 

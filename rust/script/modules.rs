@@ -88,7 +88,7 @@ impl Writing {
             for_tests = reading == Reading::Tests || line == "#[cfg(test)]";
         }
         if reading == Reading::Program {
-            out.push_str("use crate::memory::Vec;\n");
+            out.push_str("use crate::memory::{Drop, Vec};\n");
         }
         out.push_str("}\n");
         Ok(out)

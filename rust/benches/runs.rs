@@ -1,0 +1,161 @@
+//! Nanoseconds a tap of a filter's `push`, a sample of `filter_run`, and a step of `horner`. `bench/runs.py` runs
+//! this beside the same loops in C, and compares.
+//!
+//!     cargo bench --bench runs -- push|run|horner
+
+// The modules of the runs, which are the proved sources' own.
+#![allow(dead_code, unused, drop_bounds, clippy::style, clippy::complexity)]
+
+#[path = "../program/memory.rs"]
+mod memory;
+
+include!(concat!(env!("OUT_DIR"), "/runs.rs"));
+
+use filter::{Bank, Reply, Shape, filter_run};
+use memory::Global;
+use poly::{PolyReply, horner};
+use std::fmt::Write;
+use std::hint::black_box;
+use std::time::Instant;
+use zugyelmas::{Fixed, Word};
+
+const PASSES: usize = 2001;
+const SAMPLES: usize = 256;
+const POINTS: usize = 4096;
+const LINES: usize = 1_000_000;
+
+/// The fractions of outputs, taps and samples.
+const SHAPE: Shape = Shape {
+    out_frac: 16,
+    coef_frac: 30,
+    sample_frac: 16,
+};
+
+/// Numbers of 64 bits, one after the other.
+struct Draws(u64);
+
+impl Draws {
+    fn next(&mut self) -> u64 {
+        self.0 = self
+            .0
+            .wrapping_mul(6364136223846793005)
+            .wrapping_add(1442695040888963407);
+        self.0 ^ (self.0 >> 29)
+    }
+
+    /// A number of 24 bits, of either sign.
+    fn sample(&mut self) -> i32 {
+        (self.next() >> 40) as i32 - (1 << 23)
+    }
+}
+
+/// The least nanoseconds that a pass takes.
+fn least(passes: usize, mut pass: impl FnMut()) -> f64 {
+    let mut least = f64::MAX;
+    for _ in 0..passes {
+        let start = Instant::now();
+        pass();
+        least = least.min(start.elapsed().as_nanos() as f64);
+    }
+    least
+}
+
+#[inline(never)]
+fn push(bank: &mut Bank<i32>, sample: i32) -> Reply<i32> {
+    bank.push(0, sample)
+}
+
+fn measure_push(count: usize) {
+    let mut draws = Draws(42);
+    let taps: std::vec::Vec<i32> = (0..count).map(|_| draws.sample()).collect();
+    let samples: [i32; SAMPLES] = std::array::from_fn(|_| draws.sample());
+    let mut bank = Bank::new(Global, SHAPE);
+    bank.add_channel(&taps).expect("memory");
+    let mut check = 0u64;
+    let taken = least(PASSES, || {
+        for sample in samples {
+            check = check.wrapping_add(match push(&mut bank, sample) {
+                Reply::Value(output) => output as u64,
+                Reply::Overflow(tap) => tap as u64,
+            });
+        }
+    });
+    println!(
+        "push {count} {:.4} {check}",
+        taken / (SAMPLES * count) as f64
+    );
+}
+
+/// Measures `horner` at a word and a fraction, of so many coefficients.
+macro_rules! measure_horner {
+    ($name:ident, $word:ident, $places:literal, $count:literal) => {{
+        type Number = Fixed<$word, $places>;
+
+        #[inline(never)]
+        fn value(coefs: &[Number], x: Number) -> PolyReply<Number> {
+            horner(coefs, x)
+        }
+
+        let mut draws = Draws(42);
+        let mut next = || (draws.next() >> (64 - $places)) as $word;
+        let coefs: [Number; $count] = std::array::from_fn(|_| Fixed {
+            bits: next() / $count,
+        });
+        let points: [Number; POINTS] = std::array::from_fn(|_| Fixed { bits: next() });
+        let mut check = 0u64;
+        let taken = least(PASSES, || {
+            for x in black_box(&points) {
+                check = check.wrapping_add(match value(&coefs, *x) {
+                    PolyReply::Value(value) => value.bits as u64,
+                    PolyReply::Overflow(step) => step as u64,
+                });
+            }
+        });
+        let steps = (POINTS * $count) as f64;
+        println!(
+            "{} {} {:.4} {check}",
+            stringify!($name),
+            $count,
+            taken / steps
+        );
+    }};
+}
+
+fn measure_run(count: usize) {
+    let mut draws = Draws(42);
+    let mut script = String::from("filter i32 16 30 16\ntaps");
+    for _ in 0..count {
+        write!(script, " {}", draws.sample()).expect("memory");
+    }
+    script.push('\n');
+    for _ in 0..LINES {
+        writeln!(script, "c0 {}", draws.sample()).expect("memory");
+    }
+    let mut check = 0u64;
+    let mut taken = f64::MAX;
+    for _ in 0..7 {
+        let mut output = None;
+        taken = taken.min(least(1, || {
+            output = Some(filter_run(Global, black_box(script.as_bytes())));
+        }));
+        let output = output.expect("a run").expect("no cause");
+        let step = |check: u64, byte: &u8| check.wrapping_mul(31).wrapping_add(u64::from(*byte));
+        check = output.as_bytes().iter().fold(0, step);
+    }
+    println!("run {count} {:.4} {check}", taken / LINES as f64);
+}
+
+fn main() {
+    let words: std::vec::Vec<String> = std::env::args().skip(1).collect();
+    let wanted = |word: &str| words.iter().any(|w| w == word);
+    if wanted("push") {
+        [16, 64, 256].map(measure_push);
+    }
+    if wanted("run") {
+        measure_run(64);
+    }
+    if wanted("horner") {
+        measure_horner!(horner_i32, i32, 30, 8);
+        measure_horner!(horner_i64, i64, 60, 8);
+    }
+}
