@@ -13,6 +13,9 @@ const INSIDE: [&str; 3] = [
     "fixed_logs/src/exact.rt",
 ];
 
+/// An example that stands on a crate which takes memory, and so beside the library.
+const LEFT_OUT: &str = "fixed_guide/src/sine.rt";
+
 /// What is written over several crates: the folder of all crates, what each name at the front of a path becomes,
 /// and the clauses of the traits so far.
 pub struct Writing {
@@ -69,6 +72,9 @@ impl Writing {
                 Some((public, inner)) => {
                     let below = folder.join(inner);
                     let file = below.with_extension("rt");
+                    if file.ends_with(LEFT_OUT) {
+                        continue;
+                    }
                     let is_inside = INSIDE.iter().any(|inside| file.ends_with(inside));
                     let reading = if for_tests {
                         Reading::Tests
