@@ -15,6 +15,7 @@ pub(crate) struct Header {
     pub(crate) count: u128,
 }
 
+/// The word, the fraction and the number of registers that the tokens are.
 #[tactic(auto, unfolding(crate::specs::Parser::format_at))]
 fn format_of(mut tokens: Tokens<'_>) -> Option<Header>
     ensures { result ≡ option_map capped_header (format_at tokens.entry) }

@@ -1,9 +1,11 @@
-//! Intervals of fixed-point numbers, whose ends are rounded outward.
+//! Intervals of fixed-point numbers, whose ends are rounded outward and are as near as the format allows.
 //!
-//! An [`Interval`] is seen by the words of its ends. Each call answers the interval of the
-//! ends that its operation has, or None: where it has none, and where one of them does not fit the word.
-//! What the operation makes of any two numbers in the operands lies in the answer. Only [`interval_run`], the run of a
-//! script, takes memory.
+//! An [`Interval`] is seen by the words of its ends. Each of the five calls answers the interval of the ends that its
+//! operation has, and None exactly where it has none or one of them does not fit the word. What the operation makes
+//! of any rationals in the operands lies in the answer; [`laws::inclusion_law`](laws::inclusion_law) says that
+//! narrower operands give a narrower answer, and [`laws::tightness_law`](laws::tightness_law) that no interval of
+//! the format with all of that in it is narrower. Only [`interval_run`], the run of a script, takes memory. All
+//! items are this project's own.
 #![tactic(auto)]
 
 mod fault;

@@ -23,6 +23,7 @@ pub(crate) struct Line {
     pub(crate) request: Request,
 }
 
+/// Two stated ends.
 #[tactic(auto, unfolding(crate::specs::Parser::set_at))]
 fn set_of(mut tokens: Tokens<'_>) -> Option<Request>
     ensures { result ≡ option_map capped_request (set_at tokens.entry) }
@@ -36,6 +37,7 @@ fn set_of(mut tokens: Tokens<'_>) -> Option<Request>
     }
 }
 
+/// An operation, with the registers that the tokens are.
 #[tactic(auto, unfolding(crate::specs::Parser::two_at))]
 fn two_of(op: Op, mut tokens: Tokens<'_>) -> Option<Request>
     ensures { result ≡ option_map capped_request (two_at op tokens.entry) }
@@ -49,6 +51,7 @@ fn two_of(op: Op, mut tokens: Tokens<'_>) -> Option<Request>
     }
 }
 
+/// A root, with the register that the token is.
 #[tactic(auto, unfolding(crate::specs::Parser::root_at))]
 fn root_of(mut tokens: Tokens<'_>) -> Option<Request>
     ensures { result ≡ option_map capped_request (root_at tokens.entry) }
@@ -61,6 +64,7 @@ fn root_of(mut tokens: Tokens<'_>) -> Option<Request>
     }
 }
 
+/// What the tokens after the destination ask for.
 #[tactic(auto, unfolding(crate::specs::Parser::request_at))]
 fn request_of(mut tokens: Tokens<'_>) -> Option<Request>
     ensures { result ≡ option_map capped_request (request_at tokens.entry) }

@@ -12,8 +12,9 @@ use fixed_kernel::sqrt_of;
 use fixed_root::root;
 use fixed_word::{Outcome, RawWord, Silent, Steps, Word, outcome_of};
 
-/// The roots of the numbers in `a`, with `frac` fractional bits. None exactly where `a` begins below 0 or an
-/// end does not fit.
+/// The roots of the numbers in `a`, each bits over `2^frac`: from the root of the low end, rounded down, to that of
+/// the high end, rounded up. Condition: `frac` is at most the width. None exactly where the low end is below 0, or
+/// an end does not fit the word.
 pub fn sqrt_in<T: Word>(a: &Interval<T>, frac: u32) -> Option<Interval<T>>
     requires { frac ≤ T.BITS }
     ensures ends { option_map (ends_of T.value) result ≡ fitting T.SIGNED T.BITS (root_ends (ends_of T.value a.now) frac) }

@@ -54,6 +54,7 @@ impl<T: Word> Model for IntervalRun<T> {
     ghost invariant = { λ r. r.frac ≤ T.BITS };
 }
 
+/// Prints an interval: both ends, parted by one space, and a newline.
 fn append_ends<T: Word>(output: &mut Output, interval: &Interval<T>) -> Result<(), AllocError>
     ensures { OnOk result (output.new ≡ output.old ++ ends_text (ends_of T.value interval.now)) }
 {
@@ -63,6 +64,7 @@ fn append_ends<T: Word>(output: &mut Output, interval: &Interval<T>) -> Result<(
     output.append(b"\n")
 }
 
+/// That many copies of an interval.
 fn copies<T: Word>(
     alloc: Global,
     count: usize,
@@ -207,6 +209,7 @@ impl<T: Word> Run for IntervalRun<T> {
     }
 }
 
+/// The fault of a script of intervals.
 fn fault_of(fault: RunFault) -> IntervalFault
     ensures { (ending : Ending) → EndsBy ending fault → IntervalTells ending (Err result) }
 {
@@ -244,6 +247,7 @@ fn run_at<T: Word>(
     }
 }
 
+/// The lines after the header, at the word of that name.
 fn run_word(alloc: Global, header: Header, lines: &[u8]) -> Result<Output, IntervalFault>
     ensures { IntervalTells (then_by 1
         (started (is_signed header.word) (width header.word) header.frac header.count)
@@ -262,8 +266,13 @@ fn run_word(alloc: Global, header: Header, lines: &[u8]) -> Result<Output, Inter
     }
 }
 
-/// What a script of intervals prints, or its first cause; want of memory may come in the place of either,
-/// and nothing is handed out then.
+/// What a script of intervals prints. Its first line is `interval W F R`, a word, a fraction and how many registers,
+/// each from 0 to 0 at first. Then `iD set LO HI` gives register D two ends in bits, and `iD add iA iB`, `iD sub iA iB`,
+/// `iD mul iA iB`, `iD div iA iB` and `iD sqrt iA` give it what the operation makes of registers, which are read
+/// first. A line prints the ends, or `none` where there are none that fit, and then the register stays. Otherwise
+/// the first cause, with the number of its piece: `Syntax` where the piece lacks the form, and `OutOfRange` where a
+/// number is out of range, also at no register or above 1,000,000 and at ends out of order. Want of memory may come in
+/// the place of either, and nothing is handed out then.
 pub fn interval_run(alloc: Global, script: &[u8]) -> Result<Output, IntervalFault>
     ensures { IntervalTells (interval_output script.now) result }
 {

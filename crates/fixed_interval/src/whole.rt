@@ -4,20 +4,27 @@ ghost use Rattle.std.specs.Prelude.{◌≡◌, ◌+◌, ◌*◌, ◌^◌, ◌<�
 ghost use Rattle.std.specs.Int.{int_max, int_min};
 ghost use Rattle.fixed_word.specs.Standing.{StandsFor};
 ghost use Rattle.fixed_interval.specs.Ends.{ceiling_over, floor_over};
-ghost use Rattle.fixed_interval.specs.inside.WholeValue.{value_of};
+ghost use Rattle.fixed_interval.specs.inside.WholeValue.{rounded_over, value_of};
 
 use fixed_word::{Outcome, Word, outcome_of};
 
 /// `magnitude`, or minus it where `below_zero`.
 #[derive(Clone, Copy)]
-pub struct Whole {
-    pub below_zero: bool,
-    pub magnitude: u128,
+pub(crate) struct Whole {
+    pub(crate) below_zero: bool,
+    pub(crate) magnitude: u128,
+}
+
+/// How an end is rounded outward: the low one down, the high one up.
+#[derive(Clone, Copy)]
+pub(crate) enum Outward {
+    Down,
+    Up,
 }
 
 impl Whole {
     /// The number of a word.
-    pub fn of<T: Word>(word: T) -> Whole
+    pub(crate) fn of<T: Word>(word: T) -> Whole
         ensures value { value_of result ≡ T.value word }
         ensures small { result.magnitude < 2 ^ 64 }
     {
@@ -28,7 +35,7 @@ impl Whole {
     }
 
     /// `2^by`
-    pub fn power(by: u32) -> Whole
+    pub(crate) fn power(by: u32) -> Whole
         requires { by < 128 }
         ensures value { value_of result ≡ pos (2 ^ by) }
         ensures some { 0 < result.magnitude }
@@ -40,7 +47,7 @@ impl Whole {
     }
 
     /// The number with the other sign.
-    pub fn negated(self) -> Whole
+    fn negated(self) -> Whole
         ensures value { value_of result ≡ neg_ℤ (value_of self) }
         ensures size { result.magnitude ≡ self.magnitude }
     {
@@ -51,7 +58,7 @@ impl Whole {
     }
 
     /// The product. Condition: it has at most 128 bits.
-    pub fn times(self, other: Whole) -> Whole
+    pub(crate) fn times(self, other: Whole) -> Whole
         requires { self.magnitude * other.magnitude < 2 ^ 128 }
         ensures { value_of result ≡ value_of self *ℤ value_of other }
     {
@@ -62,7 +69,7 @@ impl Whole {
     }
 
     /// The number times `2^by`. Condition: that has at most 128 bits.
-    pub fn scaled(self, by: u32) -> Whole
+    pub(crate) fn scaled(self, by: u32) -> Whole
         requires room { self.magnitude * 2 ^ by < 2 ^ 128 }
         requires shift { by < 128 }
         ensures { value_of result ≡ value_of self *ℤ pos (2 ^ by) }
@@ -74,7 +81,7 @@ impl Whole {
     }
 
     /// The quotient, rounded down.
-    pub fn floor_over(self, divisor: Whole) -> Whole
+    fn floor_over(self, divisor: Whole) -> Whole
         requires { 0 < divisor.magnitude }
         ensures { value_of result ≡ floor_over (value_of self) (value_of divisor) }
     {
@@ -92,11 +99,22 @@ impl Whole {
     }
 
     /// The quotient, rounded up.
-    pub fn ceiling_over(self, divisor: Whole) -> Whole
+    fn ceiling_over(self, divisor: Whole) -> Whole
         requires { 0 < divisor.magnitude }
         ensures { value_of result ≡ ceiling_over (value_of self) (value_of divisor) }
     {
         self.negated().floor_over(divisor).negated()
+    }
+
+    /// The quotient, rounded that way.
+    pub(crate) fn over(self, divisor: Whole, way: Outward) -> Whole
+        requires { 0 < divisor.magnitude }
+        ensures { value_of result ≡ rounded_over way (value_of self) (value_of divisor) }
+    {
+        match way {
+            Outward::Down => self.floor_over(divisor),
+            Outward::Up => self.ceiling_over(divisor),
+        }
     }
 
     /// Whether the number is at most another.
@@ -117,21 +135,21 @@ impl Whole {
     }
 
     /// The less of two numbers.
-    pub fn least(self, other: Whole) -> Whole
+    pub(crate) fn least(self, other: Whole) -> Whole
         ensures { value_of result ≡ int_min (value_of self) (value_of other) }
     {
         if self.is_at_most(other) { self } else { other }
     }
 
     /// The greater of two numbers.
-    pub fn greatest(self, other: Whole) -> Whole
+    pub(crate) fn greatest(self, other: Whole) -> Whole
         ensures { value_of result ≡ int_max (value_of self) (value_of other) }
     {
         if self.is_at_most(other) { other } else { self }
     }
 
     /// The outcome of the number in a word.
-    pub fn outcome<T: Word>(self) -> Outcome<T>
+    pub(crate) fn outcome<T: Word>(self) -> Outcome<T>
         ensures { StandsFor T.value T.SIGNED T.BITS (value_of self) result }
     {
         outcome_of(self.below_zero, self.magnitude)
