@@ -2,5 +2,7 @@
 #![tactic(auto)]
 
 #[cfg(test)]
+mod interval;
+#[cfg(test)]
 mod poly;
 pub mod whole;
