@@ -192,8 +192,8 @@ fn intervals(alloc: Global) -> Result<Vec<Interval<i8>>, AllocError> {
     Ok(all)
 }
 
-/// Whether the ends are those of the corners, each a number and a divisor above 0: at most each of them and at
-/// least each, and nearer by one no longer so.
+/// Whether the ends are those of the corners, each a number and a divisor above 0: every corner lies between the
+/// ends, and with either end nearer by one, some corner would not.
 fn has_ends(interval: &Interval<i8>, corners: &[(i64, i64); 4]) -> bool {
     let low = interval.lo() as i64;
     let high = interval.hi() as i64;
