@@ -4,6 +4,8 @@
 #[cfg(test)]
 mod filter;
 #[cfg(test)]
+mod interval;
+#[cfg(test)]
 mod poly;
 #[cfg(test)]
 mod sine;

@@ -1,0 +1,45 @@
+//! The first piece of a script.
+
+ghost use Rattle.std.specs.Prelude.{◌≡◌};
+ghost use Rattle.std.specs.Option.{option_map};
+ghost use Rattle.fixed_interval.specs.inside.Capped.{capped_header};
+ghost use Rattle.fixed_interval.specs.Parser.{format_at, header_of};
+
+use fixed_text::{Tokens, WordName, read_natural, word_of};
+
+/// A word, a fraction, and how many registers. A number of `2^64` or more is held as `2^64`.
+#[derive(Clone, Copy)]
+pub(crate) struct Header {
+    pub(crate) word: WordName,
+    pub(crate) frac: u128,
+    pub(crate) count: u128,
+}
+
+/// The word, the fraction and the number of registers that the tokens are.
+#[tactic(auto, unfolding(crate::specs::Parser::format_at))]
+fn format_of(mut tokens: Tokens<'_>) -> Option<Header>
+    ensures { result ≡ option_map capped_header (format_at tokens.entry) }
+{
+    let word = word_of(tokens.take()?)?;
+    let frac = read_natural(tokens.take()?)?;
+    let count = read_natural(tokens.take()?)?;
+    if tokens.is_empty() {
+        Some(Header { word, frac, count })
+    } else {
+        None
+    }
+}
+
+/// The header whose text the piece is.
+#[tactic(auto, unfolding(crate::specs::Parser::header_at))]
+pub(crate) fn read_header(piece: &[u8]) -> Option<Header>
+    ensures { result ≡ option_map capped_header (header_of piece.now) }
+{
+    let mut tokens = Tokens::new(piece);
+    let name = tokens.take()?;
+    if name == b"interval".as_slice() {
+        format_of(tokens)
+    } else {
+        None
+    }
+}

@@ -1,0 +1,51 @@
+//! Laws of the ends. These functions do nothing: each contract is the law.
+
+ghost use Rattle.std.specs.Prelude.{◌≡◌, ◌↔◌, ◌≤ℤ◌, ◌<ℤ◌, ◌*ℤ◌, ℕ, ℤ, pos};
+ghost use Rattle.fixed_text.specs.Texts.{IsReader};
+ghost use Rattle.fixed_interval.specs.Ends.{ceiling_over, ceiling_root, difference_ends, floor_over, product_ends, quotient_ends, root_ends, sum_ends};
+ghost use Rattle.fixed_interval.specs.Containment.{HoldsDifferences, HoldsProducts, HoldsQuotients, HoldsRoots, HoldsSums, IsCeilingRoot, IsMonotone, IsMonotoneOfOne, IsTight, IsTightOfOne};
+ghost use Rattle.fixed_interval.specs.Parser.{header_of, line_of};
+ghost use Rattle.fixed_interval.specs.Text.{header_text, line_text};
+
+/// What it is to be at most a quotient that is rounded down, and at least one that is rounded up: at a
+/// divisor above 0, and at one below 0, where the order turns.
+pub fn rounding_law()
+    ensures floor_above { (q x d : ℤ) → pos 0 <ℤ d → (q ≤ℤ floor_over x d) ↔ ((q *ℤ d) ≤ℤ x) }
+    ensures floor_below { (q x d : ℤ) → d <ℤ pos 0 → (q ≤ℤ floor_over x d) ↔ (x ≤ℤ (q *ℤ d)) }
+    ensures ceiling_above { (q x d : ℤ) → pos 0 <ℤ d
+        → (ceiling_over x d ≤ℤ q) ↔ (x ≤ℤ (q *ℤ d)) }
+    ensures ceiling_below { (q x d : ℤ) → d <ℤ pos 0
+        → (ceiling_over x d ≤ℤ q) ↔ ((q *ℤ d) ≤ℤ x) }
+{}
+
+/// The root that is rounded up is the least whose square is at least the number. There is no other.
+pub fn root_law()
+    ensures is { (a : ℤ) (f : ℕ) → pos 0 ≤ℤ a → IsCeilingRoot a f (ceiling_root a f) }
+    ensures unique { (a r s : ℤ) (f : ℕ) → IsCeilingRoot a f r → IsCeilingRoot a f s → r ≡ s }
+{}
+
+/// Where each operand is replaced by an interval that lies in it, the ends stay defined, fit, and lie in
+/// those of the old operands.
+pub fn inclusion_law()
+    ensures sum { IsMonotone sum_ends }
+    ensures difference { IsMonotone difference_ends }
+    ensures product { (f : ℕ) → IsMonotone (λ a b. product_ends a b f) }
+    ensures quotient { (f : ℕ) → IsMonotone (λ a b. quotient_ends a b f) }
+    ensures root { (f : ℕ) → IsMonotoneOfOne (λ a. root_ends a f) }
+{}
+
+/// No interval is narrower that has all that an operation makes of the numbers in two: each that has it has
+/// the operation's ends.
+pub fn tightness_law()
+    ensures sum { IsTight sum_ends HoldsSums }
+    ensures difference { IsTight difference_ends HoldsDifferences }
+    ensures product { (f : ℕ) → IsTight (λ a b. product_ends a b f) (λ a b r. HoldsProducts a b f r) }
+    ensures quotient { (f : ℕ) → IsTight (λ a b. quotient_ends a b f) (λ a b r. HoldsQuotients a b f r) }
+    ensures root { (f : ℕ) → IsTightOfOne (λ a. root_ends a f) (λ a r. HoldsRoots a f r) }
+{}
+
+/// A piece is a header, or a line, exactly where it is the text of one, and is read as that.
+pub fn text_law()
+    ensures headers { IsReader header_text header_of }
+    ensures lines { IsReader line_text line_of }
+{}

@@ -1,0 +1,92 @@
+//! The lines of a script.
+
+ghost use Rattle.std.specs.Prelude.{◌≡◌};
+ghost use Rattle.std.specs.Option.{option_map};
+ghost use Rattle.fixed_interval.specs.inside.Capped.{capped_line, capped_request};
+ghost use Rattle.fixed_interval.specs.Parser.{line_of, request_at, root_at, set_at, two_at};
+
+use crate::op::{Op, op_of};
+use fixed_text::{Decimal, Tokens, read_decimal, read_numbered};
+
+/// What a destination gets. A register of `2^64` or more is held as `2^64`.
+#[derive(Clone, Copy)]
+pub(crate) enum Request {
+    Set(Decimal, Decimal),
+    Two(Op, u128, u128),
+    Root(u128),
+}
+
+/// A line after the header.
+#[derive(Clone, Copy)]
+pub(crate) struct Line {
+    pub(crate) dest: u128,
+    pub(crate) request: Request,
+}
+
+/// Two stated ends.
+#[tactic(auto, unfolding(crate::specs::Parser::set_at))]
+fn set_of(mut tokens: Tokens<'_>) -> Option<Request>
+    ensures { result ≡ option_map capped_request (set_at tokens.entry) }
+{
+    let low = read_decimal(tokens.take()?)?;
+    let high = read_decimal(tokens.take()?)?;
+    if tokens.is_empty() {
+        Some(Request::Set(low, high))
+    } else {
+        None
+    }
+}
+
+/// An operation, with the registers that the tokens are.
+#[tactic(auto, unfolding(crate::specs::Parser::two_at))]
+fn two_of(op: Op, mut tokens: Tokens<'_>) -> Option<Request>
+    ensures { result ≡ option_map capped_request (two_at op tokens.entry) }
+{
+    let a = read_numbered(b'i', tokens.take()?)?;
+    let b = read_numbered(b'i', tokens.take()?)?;
+    if tokens.is_empty() {
+        Some(Request::Two(op, a, b))
+    } else {
+        None
+    }
+}
+
+/// A root, with the register that the token is.
+#[tactic(auto, unfolding(crate::specs::Parser::root_at))]
+fn root_of(mut tokens: Tokens<'_>) -> Option<Request>
+    ensures { result ≡ option_map capped_request (root_at tokens.entry) }
+{
+    let a = read_numbered(b'i', tokens.take()?)?;
+    if tokens.is_empty() {
+        Some(Request::Root(a))
+    } else {
+        None
+    }
+}
+
+/// What the tokens after the destination ask for.
+#[tactic(auto, unfolding(crate::specs::Parser::request_at))]
+fn request_of(mut tokens: Tokens<'_>) -> Option<Request>
+    ensures { result ≡ option_map capped_request (request_at tokens.entry) }
+{
+    let name = tokens.take()?;
+    if name == b"set".as_slice() {
+        set_of(tokens)
+    } else if name == b"sqrt".as_slice() {
+        root_of(tokens)
+    } else {
+        let op = op_of(name)?;
+        two_of(op, tokens)
+    }
+}
+
+/// The line whose text the piece is.
+#[tactic(auto, unfolding(crate::specs::Parser::line_at))]
+pub(crate) fn read_line(piece: &[u8]) -> Option<Line>
+    ensures { result ≡ option_map capped_line (line_of piece.now) }
+{
+    let mut tokens = Tokens::new(piece);
+    let dest = read_numbered(b'i', tokens.take()?)?;
+    let request = request_of(tokens)?;
+    Some(Line { dest, request })
+}

@@ -1,0 +1,72 @@
+//! Quotients of intervals.
+
+ghost use Rattle.std.specs.Prelude.{◌≡◌, ◌≢◌, ◌≤◌, ◌^◌, ◌*ℤ◌, IfSome, pos};
+ghost use Rattle.std.specs.Option.{option_map};
+ghost use Rattle.fixed_interval.specs.Ends.{ends_of, fitting, has_zero, quotient_ends, quotient_of};
+ghost use Rattle.fixed_interval.specs.Containment.{HoldsQuotients, IsOffZero};
+ghost use Rattle.fixed_interval.specs.inside.WholeValue.{rounded_over, value_of};
+
+use crate::interval::{Interval, between};
+use crate::whole::{Outward, Whole};
+use fixed_word::{RawWord, Word};
+
+/// The quotients of a number in `a` by one in `b`, each bits over `2^frac`: from the least quotient of two ends,
+/// rounded down, to the greatest, rounded up. Condition: `frac` is at most the width. None exactly where 0 lies in
+/// `b`, or an end does not fit the word.
+pub fn div_in<T: Word>(a: &Interval<T>, b: &Interval<T>, frac: u32) -> Option<Interval<T>>
+    requires { frac ≤ T.BITS }
+    ensures ends { option_map (ends_of T.value) result ≡ fitting T.SIGNED T.BITS (quotient_ends (ends_of T.value a.now) (ends_of T.value b.now) frac) }
+    ensures holds { IfSome result (λ i. HoldsQuotients (ends_of T.value a.now) (ends_of T.value b.now) frac (ends_of T.value i)) }
+{
+    if holds_zero(b) {
+        return None;
+    }
+    between(
+        least_quotient(a, b, frac).outcome(),
+        greatest_quotient(a, b, frac).outcome(),
+    )
+}
+
+/// Whether 0 lies in `b`.
+fn holds_zero<T: Word>(b: &Interval<T>) -> bool
+    ensures { result ≡ has_zero (ends_of T.value b.now) }
+{
+    b.lo() <= T::ZERO && T::ZERO <= b.hi()
+}
+
+/// The least of the four corners, rounded down.
+fn least_quotient<T: Word>(a: &Interval<T>, b: &Interval<T>, frac: u32) -> Whole
+    requires frac { frac ≤ T.BITS }
+    requires divisor { IsOffZero (ends_of T.value b.now) }
+    ensures { value_of result ≡ (quotient_of (ends_of T.value a.now) (ends_of T.value b.now) frac).low }
+{
+    let low_low = corner(a.lo(), b.lo(), frac, Outward::Down);
+    let low_high = corner(a.lo(), b.hi(), frac, Outward::Down);
+    let high_low = corner(a.hi(), b.lo(), frac, Outward::Down);
+    let high_high = corner(a.hi(), b.hi(), frac, Outward::Down);
+    low_low.least(low_high).least(high_low.least(high_high))
+}
+
+/// The greatest of the four corners, rounded up.
+fn greatest_quotient<T: Word>(a: &Interval<T>, b: &Interval<T>, frac: u32) -> Whole
+    requires frac { frac ≤ T.BITS }
+    requires divisor { IsOffZero (ends_of T.value b.now) }
+    ensures { value_of result ≡ (quotient_of (ends_of T.value a.now) (ends_of T.value b.now) frac).high }
+{
+    let low_low = corner(a.lo(), b.lo(), frac, Outward::Up);
+    let low_high = corner(a.lo(), b.hi(), frac, Outward::Up);
+    let high_low = corner(a.hi(), b.lo(), frac, Outward::Up);
+    let high_high = corner(a.hi(), b.hi(), frac, Outward::Up);
+    low_low
+        .greatest(low_high)
+        .greatest(high_low.greatest(high_high))
+}
+
+/// The corner of two ends: `x 2^frac / y`, rounded that way.
+fn corner<T: Word>(x: T, y: T, frac: u32, way: Outward) -> Whole
+    requires frac { frac ≤ T.BITS }
+    requires divisor { T.value y ≢ pos 0 }
+    ensures { value_of result ≡ rounded_over way (T.value x *ℤ pos (2 ^ frac)) (T.value y) }
+{
+    Whole::of(x).scaled(frac).over(Whole::of(y), way)
+}

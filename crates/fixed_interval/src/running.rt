@@ -1,0 +1,286 @@
+//! The run of a script.
+
+ghost use Rattle.std.specs.Prelude.{◌≡◌, ◌++◌, ◌<◌, ◌≤◌, Err, IfOk, IfSome, None, OnOk, Some, if◌then◌else◌, length, map, nat_lt, replicate, ℕ, ℤ};
+ghost use Rattle.std.specs.Option.{option_map};
+ghost use Rattle.fixed_word.specs.Pieces.{pieces};
+ghost use Rattle.fixed_text.specs.Decimals.{decimal_of};
+ghost use Rattle.fixed_text.specs.Numerals.{cap};
+ghost use Rattle.fixed_text.specs.Runs.{Ending, lines_from, then_by};
+ghost use Rattle.fixed_text.specs.Tells.{EndsBy, StepTells};
+ghost use Rattle.fixed_text.specs.Words.{is_signed, width};
+ghost use Rattle.fixed_interval.specs.inside.Capped.{capped_request};
+ghost use Rattle.fixed_interval.specs.Ends.{ends_of};
+ghost use Rattle.fixed_interval.specs.Runs.{IntervalTells, answered, ends_text, interval_line, interval_output, made_by_root, made_of_two, request_read, set_ends, started, zero_ends};
+ghost use Rattle.fixed_interval.specs.Text.{IntervalRequest};
+
+use crate::fault::IntervalFault;
+use crate::header::{Header, read_header};
+use crate::interval::Interval;
+use crate::line::{Request, read_line};
+use crate::op::Op;
+use crate::products::mul_in;
+use crate::quotients::div_in;
+use crate::roots::sqrt_in;
+use crate::sums::{add_in, sub_in};
+use fixed_text::{Decimal, Output, Refusal, Run, RunFault, WordName, open, run_lines, value_in};
+use fixed_word::{Valued, Word};
+use std::alloc::{AllocError, Global};
+use std::marker::Model;
+
+/// The most registers of a run.
+const MOST_REGISTERS: u128 = 1_000_000;
+
+/// The registers of a run.
+#[derive(Drop)]
+struct IntervalRun<T: Word> {
+    frac: u32,
+    registers: Vec<Interval<T>>,
+}
+
+impl<T: Word> Model for IntervalRun<T> {
+    ghost use Rattle.std.specs.Prelude.{◌≤◌, map};
+    ghost use Rattle.fixed_interval.specs.Ends.{ends_of};
+    ghost use Rattle.fixed_interval.specs.Runs.{IntervalState};
+
+    ghost Value = { IntervalState };
+
+    ghost view = { λ r. record {
+      signed = T.SIGNED;
+      bits = T.BITS;
+      frac = r.frac;
+      registers = map (ends_of T.value) r.registers.items;
+    } };
+
+    ghost invariant = { λ r. r.frac ≤ T.BITS };
+}
+
+/// Prints an interval: both ends, parted by one space, and a newline.
+fn append_ends<T: Word>(output: &mut Output, interval: &Interval<T>) -> Result<(), AllocError>
+    ensures { OnOk result (output.new ≡ output.old ++ ends_text (ends_of T.value interval.now)) }
+{
+    output.append_word(interval.lo())?;
+    output.append(b" ")?;
+    output.append_word(interval.hi())?;
+    output.append(b"\n")
+}
+
+/// That many copies of an interval.
+fn copies<T: Word>(
+    alloc: Global,
+    count: usize,
+    interval: Interval<T>,
+) -> Result<Vec<Interval<T>>, AllocError>
+    ensures { IfOk result (λ all. all.items ≡ replicate count interval) }
+{
+    let mut all = Vec::new(alloc);
+    all.resize(count, interval)?;
+    Ok(all)
+}
+
+/// Registers from 0 to 0.
+fn zeros<T: Word>(alloc: Global, count: usize) -> Result<Vec<Interval<T>>, AllocError>
+    ensures { IfOk result
+        (λ registers. map (ends_of T.value) registers.items ≡ replicate count zero_ends) }
+{
+    let registers = copies(alloc, count, Interval::zero())?;
+    Ok(registers)
+}
+
+impl<T: Word> IntervalRun<T> {
+    /// The place of a register, if it is one of this run.
+    fn place(&self, register: u128) -> Option<usize>
+        ensures within { IfSome result (λ i. i < length self.now.registers) }
+        ensures place { (n : ℕ) → register ≡ cap n
+            → result ≡ (if nat_lt n (length self.now.registers) then Some n else None) }
+    {
+        let count = self.registers.len() as u128;
+        if register < count {
+            Some(register as usize)
+        } else {
+            None
+        }
+    }
+
+    /// Puts an interval into a register, and prints it; or prints that there is none.
+    fn answer(
+        &mut self,
+        dest: usize,
+        made: Option<Interval<T>>,
+        output: &mut Output,
+    ) -> Result<(), Refusal>
+        requires { dest < length self.old.registers }
+        ensures { StepTells (answered self.old dest (option_map (ends_of T.value) made)) result
+            self.new output.old output.new }
+    {
+        match made {
+            Some(interval) => match append_ends(output, &interval) {
+                Ok(()) => {
+                    self.registers[dest] = interval;
+                    Ok(())
+                }
+                Err(_) => Err(Refusal::Wanting),
+            },
+            None => match output.append(b"none\n") {
+                Ok(()) => Ok(()),
+                Err(_) => Err(Refusal::Wanting),
+            },
+        }
+    }
+
+    /// What an operation makes of two registers.
+    fn of_two(&self, op: Op, a: usize, b: usize) -> Option<Interval<T>>
+        requires a { a < length self.now.registers }
+        requires b { b < length self.now.registers }
+        ensures { option_map (ends_of T.value) result ≡ made_of_two self.now op a b }
+    {
+        let x = &self.registers[a];
+        let y = &self.registers[b];
+        match op {
+            Op::Add => add_in(x, y),
+            Op::Sub => sub_in(x, y),
+            Op::Mul => mul_in(x, y, self.frac),
+            Op::Div => div_in(x, y, self.frac),
+        }
+    }
+
+    /// The root of a register.
+    fn root(&self, a: usize) -> Option<Interval<T>>
+        requires { a < length self.now.registers }
+        ensures { option_map (ends_of T.value) result ≡ made_by_root self.now a }
+    {
+        let x = &self.registers[a];
+        sqrt_in(x, self.frac)
+    }
+
+    /// The interval of two stated ends.
+    fn stated(&self, low: &Decimal, high: &Decimal) -> Option<Interval<T>>
+        ensures { (l h : ℤ) → low.now ≡ decimal_of l → high.now ≡ decimal_of h
+            → option_map (ends_of T.value) result ≡ set_ends self.now.signed self.now.bits l h }
+    {
+        let _ = &self.frac;
+        let low = value_in(low)?;
+        let high = value_in(high)?;
+        Interval::new(low, high)
+    }
+
+    /// Follows a request.
+    fn follow(&mut self, dest: usize, request: Request, output: &mut Output) -> Result<(), Refusal>
+        requires { dest < length self.old.registers }
+        ensures { (q : IntervalRequest) → request ≡ capped_request q
+            → StepTells (request_read self.old dest q) result self.new output.old output.new }
+    {
+        match request {
+            Request::Set(low, high) => match self.stated(&low, &high) {
+                Some(interval) => self.answer(dest, Some(interval), output),
+                None => Err(Refusal::Unfit),
+            },
+            Request::Two(op, a, b) => {
+                let Some(a) = self.place(a) else {
+                    return Err(Refusal::Unfit);
+                };
+                let Some(b) = self.place(b) else {
+                    return Err(Refusal::Unfit);
+                };
+                let made = self.of_two(op, a, b);
+                self.answer(dest, made, output)
+            }
+            Request::Root(a) => {
+                let Some(a) = self.place(a) else {
+                    return Err(Refusal::Unfit);
+                };
+                let made = self.root(a);
+                self.answer(dest, made, output)
+            }
+        }
+    }
+}
+
+impl<T: Word> Run for IntervalRun<T> {
+    ghost line = { interval_line };
+
+    fn step(&mut self, bytes: &[u8], output: &mut Output) -> Result<(), Refusal> {
+        let Some(line) = read_line(bytes) else {
+            return Err(Refusal::Unformed);
+        };
+        match self.place(line.dest) {
+            Some(dest) => self.follow(dest, line.request, output),
+            None => Err(Refusal::Unfit),
+        }
+    }
+}
+
+/// The fault of a script of intervals.
+fn fault_of(fault: RunFault) -> IntervalFault
+    ensures { (ending : Ending) → EndsBy ending fault → IntervalTells ending (Err result) }
+{
+    match fault {
+        RunFault::Syntax(number) => IntervalFault::Syntax(number),
+        RunFault::OutOfRange(number) => IntervalFault::OutOfRange(number),
+        RunFault::Memory => IntervalFault::Memory,
+    }
+}
+
+/// The lines after the header, at a word.
+fn run_at<T: Word>(
+    alloc: Global,
+    frac: u128,
+    count: u128,
+    lines: &[u8],
+) -> Result<Output, IntervalFault>
+    ensures { IntervalTells (then_by 1 (started T.SIGNED T.BITS frac count)
+        (λ state. lines_from interval_line state 2 (pieces lines.now))) result }
+{
+    if frac > u128::from(T::BITS) || count < 1 || count > MOST_REGISTERS {
+        return Err(IntervalFault::OutOfRange(1));
+    }
+    let registers = match zeros(alloc, count as usize) {
+        Ok(registers) => registers,
+        Err(_) => return Err(IntervalFault::Memory),
+    };
+    let run = IntervalRun::<T> {
+        frac: frac as u32,
+        registers,
+    };
+    match run_lines(alloc, run, lines) {
+        Ok(output) => Ok(output),
+        Err(fault) => Err(fault_of(fault)),
+    }
+}
+
+/// The lines after the header, at the word of that name.
+fn run_word(alloc: Global, header: Header, lines: &[u8]) -> Result<Output, IntervalFault>
+    ensures { IntervalTells (then_by 1
+        (started (is_signed header.word) (width header.word) header.frac header.count)
+        (λ state. lines_from interval_line state 2 (pieces lines.now))) result }
+{
+    let Header { word, frac, count } = header;
+    match word {
+        WordName::I8 => run_at::<i8>(alloc, frac, count, lines),
+        WordName::I16 => run_at::<i16>(alloc, frac, count, lines),
+        WordName::I32 => run_at::<i32>(alloc, frac, count, lines),
+        WordName::I64 => run_at::<i64>(alloc, frac, count, lines),
+        WordName::U8 => run_at::<u8>(alloc, frac, count, lines),
+        WordName::U16 => run_at::<u16>(alloc, frac, count, lines),
+        WordName::U32 => run_at::<u32>(alloc, frac, count, lines),
+        WordName::U64 => run_at::<u64>(alloc, frac, count, lines),
+    }
+}
+
+/// What a script of intervals prints. Its first line is `interval W F R`, a word, a fraction and how many registers,
+/// each from 0 to 0 at first. Then `iD set LO HI` gives register D two ends in bits, and `iD add iA iB`, `iD sub iA iB`,
+/// `iD mul iA iB`, `iD div iA iB` and `iD sqrt iA` give it what the operation makes of registers, which are read
+/// first. A line prints the ends, or `none` where there are none that fit, and then the register stays. Otherwise
+/// the first cause, with the number of its piece: `Syntax` where the piece lacks the form, and `OutOfRange` where a
+/// number is out of range, also at no register or above 1,000,000 and at ends out of order. Want of memory may come in
+/// the place of either, and nothing is handed out then.
+pub fn interval_run(alloc: Global, script: &[u8]) -> Result<Output, IntervalFault>
+    ensures { IntervalTells (interval_output script.now) result }
+{
+    let Some((piece, lines)) = open(script) else {
+        return Err(IntervalFault::Syntax(1));
+    };
+    match read_header(piece) {
+        Some(header) => run_word(alloc, header, lines),
+        None => Err(IntervalFault::Syntax(1)),
+    }
+}

@@ -1,0 +1,157 @@
+//! Whole numbers of up to 128 bits and a sign, in which ends are computed and compared.
+
+ghost use Rattle.std.specs.Prelude.{◌≡◌, ◌+◌, ◌*◌, ◌^◌, ◌<◌, ◌≤◌, ◌↔◌, ◌≤ℤ◌, ◌*ℤ◌, IsTrue, neg_ℤ, pos};
+ghost use Rattle.std.specs.Int.{int_max, int_min};
+ghost use Rattle.fixed_word.specs.Standing.{StandsFor};
+ghost use Rattle.fixed_interval.specs.Ends.{ceiling_over, floor_over};
+ghost use Rattle.fixed_interval.specs.inside.WholeValue.{rounded_over, value_of};
+
+use fixed_word::{Outcome, Word, outcome_of};
+
+/// `magnitude`, or minus it where `below_zero`.
+#[derive(Clone, Copy)]
+pub(crate) struct Whole {
+    pub(crate) below_zero: bool,
+    pub(crate) magnitude: u128,
+}
+
+/// How an end is rounded outward: the low one down, the high one up.
+#[derive(Clone, Copy)]
+pub(crate) enum Outward {
+    Down,
+    Up,
+}
+
+impl Whole {
+    /// The number of a word.
+    pub(crate) fn of<T: Word>(word: T) -> Whole
+        ensures value { value_of result ≡ T.value word }
+        ensures small { result.magnitude < 2 ^ 64 }
+    {
+        Whole {
+            below_zero: word.is_below_zero(),
+            magnitude: word.magnitude() as u128,
+        }
+    }
+
+    /// `2^by`
+    pub(crate) fn power(by: u32) -> Whole
+        requires { by < 128 }
+        ensures value { value_of result ≡ pos (2 ^ by) }
+        ensures some { 0 < result.magnitude }
+    {
+        Whole {
+            below_zero: false,
+            magnitude: 1 << by,
+        }
+    }
+
+    /// The number with the other sign.
+    fn negated(self) -> Whole
+        ensures value { value_of result ≡ neg_ℤ (value_of self) }
+        ensures size { result.magnitude ≡ self.magnitude }
+    {
+        Whole {
+            below_zero: !self.below_zero,
+            magnitude: self.magnitude,
+        }
+    }
+
+    /// The product. Condition: it has at most 128 bits.
+    pub(crate) fn times(self, other: Whole) -> Whole
+        requires { self.magnitude * other.magnitude < 2 ^ 128 }
+        ensures { value_of result ≡ value_of self *ℤ value_of other }
+    {
+        Whole {
+            below_zero: self.below_zero != other.below_zero,
+            magnitude: self.magnitude * other.magnitude,
+        }
+    }
+
+    /// The number times `2^by`. Condition: that has at most 128 bits.
+    pub(crate) fn scaled(self, by: u32) -> Whole
+        requires room { self.magnitude * 2 ^ by < 2 ^ 128 }
+        requires shift { by < 128 }
+        ensures { value_of result ≡ value_of self *ℤ pos (2 ^ by) }
+    {
+        Whole {
+            below_zero: self.below_zero,
+            magnitude: self.magnitude << by,
+        }
+    }
+
+    /// The quotient, rounded down.
+    fn floor_over(self, divisor: Whole) -> Whole
+        requires { 0 < divisor.magnitude }
+        ensures { value_of result ≡ floor_over (value_of self) (value_of divisor) }
+    {
+        if self.below_zero != divisor.below_zero && self.magnitude > 0 {
+            Whole {
+                below_zero: true,
+                magnitude: (self.magnitude - 1) / divisor.magnitude + 1,
+            }
+        } else {
+            Whole {
+                below_zero: false,
+                magnitude: self.magnitude / divisor.magnitude,
+            }
+        }
+    }
+
+    /// The quotient, rounded up.
+    fn ceiling_over(self, divisor: Whole) -> Whole
+        requires { 0 < divisor.magnitude }
+        ensures { value_of result ≡ ceiling_over (value_of self) (value_of divisor) }
+    {
+        self.negated().floor_over(divisor).negated()
+    }
+
+    /// The quotient, rounded that way.
+    pub(crate) fn over(self, divisor: Whole, way: Outward) -> Whole
+        requires { 0 < divisor.magnitude }
+        ensures { value_of result ≡ rounded_over way (value_of self) (value_of divisor) }
+    {
+        match way {
+            Outward::Down => self.floor_over(divisor),
+            Outward::Up => self.ceiling_over(divisor),
+        }
+    }
+
+    /// Whether the number is at most another.
+    fn is_at_most(self, other: Whole) -> bool
+        ensures { IsTrue result ↔ (value_of self ≤ℤ value_of other) }
+    {
+        if self.below_zero {
+            if other.below_zero {
+                other.magnitude <= self.magnitude
+            } else {
+                true
+            }
+        } else if other.below_zero {
+            self.magnitude == 0 && other.magnitude == 0
+        } else {
+            self.magnitude <= other.magnitude
+        }
+    }
+
+    /// The less of two numbers.
+    pub(crate) fn least(self, other: Whole) -> Whole
+        ensures { value_of result ≡ int_min (value_of self) (value_of other) }
+    {
+        if self.is_at_most(other) { self } else { other }
+    }
+
+    /// The greater of two numbers.
+    pub(crate) fn greatest(self, other: Whole) -> Whole
+        ensures { value_of result ≡ int_max (value_of self) (value_of other) }
+    {
+        if self.is_at_most(other) { other } else { self }
+    }
+
+    /// The outcome of the number in a word.
+    pub(crate) fn outcome<T: Word>(self) -> Outcome<T>
+        ensures { StandsFor T.value T.SIGNED T.BITS (value_of self) result }
+    {
+        outcome_of(self.below_zero, self.magnitude)
+    }
+}
