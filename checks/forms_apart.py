@@ -12,13 +12,13 @@ import sys
 from pathlib import Path
 
 TOP = Path(__file__).resolve().parent.parent
-CRATES = "word bits root logs kernel num policy strict ops text script calc prog".split()
+CRATES = "word bits root logs kernel num policy strict ops text script calc prog poly filter".split()
 FORMS = {
     "sizes and layouts of values": r"size_of|align_of|transmute|offset_of",
-    "a drop of one's own, and patterns that take self apart": r"impl.* Drop for|let (Self|[A-Z]\w*)\b.*= self",
+    "a drop of one's own, and patterns that take self apart": r"impl.* Drop for|let (Self|[A-Z]\w*)\b.*= self\b(?!\.)",
     "items that are clones": r"\.clone\(\)|\.cloned\(\)",
     "text that is written, and its errors": r"\b(write|writeln|format|print|println|eprint|eprintln)!|fmt::|anyhow",
-    "threads and channels": r"thread|channel|\bspawn\b|try_send|try_recv",
+    "threads and channels": r"thread|mpsc|\bchannel(::<.*>)?\(\)|\bspawn\b|try_send|try_recv",
     "ranges with no end": r"\(\w+\.\.\)|\bin \w+\.\. *\{",
     "iterators and errors that are one type": r"iter::|\.into_iter\(\)|try_from|try_into",
     "impls picked by a bound or by what is borrowed": r"impl<(\w+)[^>]*> \w+ for &?\1\b|::Output>|W<&Self>",
