@@ -1,16 +1,23 @@
 -- The partial sums of a filter.
-use Rattle.std.proofs.Common.{◌≡◌, ◌+◌, ◌<◌, ℕ, zero, suc, ℤ, pos, true, false, List, Bool, Option, Some, None, length, get_or, take, refl, sym, ap, ◌∙◌, arith, add-one, inl, inr}
+use Rattle.std.proofs.Common.{◌≡◌, ◌+◌, ◌-◌, ◌-ℤ◌, ◌<◌, ◌≤◌, ℕ, zero, suc, ℤ, pos, true, false, List, Bool, Option, Some, None, length, get_or, take, refl, sym, ap, ◌∙◌, arith, add-one, inl, inr}
 use Rattle.std.specs.Prelude.{if◌then◌else◌, not}
 use Rattle.std.specs.Option.{option_or}
 use Rattle.std.proofs.lemmas.Bool.{cases_lt}
+use Rattle.std.proofs.lemmas.Int.{ints}
 use Rattle.std.proofs.lemmas.List.Sums.{fold_more}
 use Rattle.fixed_word.specs.Format.{fits}
 use Rattle.fixed_word.specs.Policies.{checked}
-use Rattle.fixed_kernel.specs.Rows.{exact_add_prod}
+use Rattle.fixed_kernel.specs.Rows.{exact_add_prod, exact_add_prod_at, exact_mul_add}
 use Rattle.fixed_policy.specs.DotProduct.{dot, places, pairs, with_product}
 use Rattle.fixed_policy.proofs.Parts.{pairs_length, pair_at}
 use Rattle.fixed_filter.specs.declared.reply.Reply.TheVariants.{Value, Overflow}
 use Rattle.fixed_filter.specs.Replies.{accumulator, misses, least_below, overflow_or, filter_reply}
+
+-- where a product moves down it is that of a sum of products in one fraction
+pub moved_down : (c a b : ℤ) (f g h : ℕ) → f ≤ (g + h) → exact_mul_add a b c ((g + h) - f) ≡ exact_add_prod c a b f g h
+moved_down c a b f g h l =
+    let places : pos ((g + h) - f) ≡ (pos (g + h) -ℤ pos f) = omega (arith, ints) in
+    ap (exact_add_prod_at c a b) places
 
 -- what checked answers tells whether the number fits
 checked_some : (s : Bool) (n : ℕ) (y z : ℤ) → Some z ≡ checked s n (Some y) → (z ≡ y) × (not (fits s n y) ≡ false)

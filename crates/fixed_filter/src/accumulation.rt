@@ -10,24 +10,31 @@ ghost use Rattle.fixed_filter.specs.Banks.{IsShape, places_of};
 
 use crate::reply::Reply;
 use crate::shape::Shape;
-use fixed_kernel::add_prod_of;
+use fixed_kernel::{add_prod_of, mul_add_of};
 use fixed_word::{RawWord, Word, checked_of};
 
-/// The sum plus the product of a tap and a sample; None exactly where that does not fit.
+/// The sum plus the product of a tap and a sample; None exactly where that does not fit. Products that move down by at
+/// most the width, as they mostly do, move in one shift.
+#[tactic(auto, using(crate::proofs::Sums::moved_down))]
 fn checked_add_prod<T: Word>(sum: T, tap: T, sample: T, shape: &Shape) -> Option<T>
     requires { IsShape T.BITS shape.now }
     ensures { option_map T.value result ≡ checked T.SIGNED T.BITS
         (Some (exact_add_prod (T.value sum) (T.value tap) (T.value sample)
         shape.now.out_frac shape.now.coef_frac shape.now.sample_frac)) }
 {
-    checked_of(add_prod_of(
-        sum,
-        tap,
-        sample,
-        shape.out_frac,
-        shape.coef_frac,
-        shape.sample_frac,
-    ))
+    let down = shape.coef_frac + shape.sample_frac;
+    if shape.out_frac <= down && down - shape.out_frac <= T::BITS {
+        checked_of(mul_add_of(tap, sample, sum, down - shape.out_frac))
+    } else {
+        checked_of(add_prod_of(
+            sum,
+            tap,
+            sample,
+            shape.out_frac,
+            shape.coef_frac,
+            shape.sample_frac,
+        ))
+    }
 }
 
 /// What a channel with these taps answers, after these samples, the newest first.
@@ -37,6 +44,8 @@ pub(crate) fn filtered<T: Word>(shape: &Shape, taps: &[T], past: &[T]) -> Reply<
     ensures { reply_map T.value result ≡ filter_reply T.SIGNED T.BITS
         (places_of shape.now) (pairs T.value T.value taps.now past.now) }
 {
+    // (one test of the length in front, and none at each tap)
+    let past = &past[..taps.len()];
     let mut sum = T::ZERO;
     for i in 0..taps.len() {
         match checked_add_prod(sum, taps[i], past[i], shape) {
