@@ -141,6 +141,11 @@ macro_rules! measure_horner {
     }};
 }
 
+/// One number of both ends.
+fn low_and_high(low: u64, high: u64) -> u64 {
+    low.wrapping_mul(3).wrapping_add(high)
+}
+
 /// Measures a call on pairs of intervals at a word and a fraction. A first end has some `64 - $down` bits.
 macro_rules! measure_interval {
     ($name:ident, $call:ident, $word:ident, $places:literal, $down:literal) => {{
@@ -163,7 +168,7 @@ macro_rules! measure_interval {
         let taken = least(PAIR_PASSES, || {
             for (a, b) in black_box(&pairs) {
                 check = check.wrapping_add(match made(a, b) {
-                    Some(ends) => (ends.lo() as u64).wrapping_mul(3).wrapping_add(ends.hi() as u64),
+                    Some(ends) => low_and_high(ends.lo() as u64, ends.hi() as u64),
                     None => 1,
                 });
             }

@@ -73,10 +73,7 @@ const LINES: [(&str, &str); 8] = [
         "-24 40\n3 8\n-12 20\n",
     ),
     // A third, of which no end is exact.
-    (
-        "i0 set 1 1\ni1 set 3 3\ni0 div i0 i1\n",
-        "1 1\n3 3\n5 6\n",
-    ),
+    ("i0 set 1 1\ni1 set 3 3\ni0 div i0 i1\n", "1 1\n3 3\n5 6\n"),
     // 5 * 16 / -1 is -80, and 0 over anything is 0.
     (
         "i0 set 0 5\ni1 set -3 -1\ni0 div i0 i1\n",
