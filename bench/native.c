@@ -1,4 +1,4 @@
-/* The loops of bench/runs.py by hand: filters and polynomials on plain integers. gcc -O2. */
+/* The loops of bench/runs.py by hand: filters, polynomials and intervals on plain integers. gcc -O2. */
 #include <stdint.h>
 #include <stdio.h>
 #include <stdlib.h>
@@ -9,6 +9,8 @@
 #define SAMPLES 256
 #define POINTS 4096
 #define LINES 1000000
+#define PAIRS 1024
+#define PAIR_PASSES 501
 
 static uint64_t state;
 
@@ -108,6 +110,75 @@ static void measure_push(size_t taps) {
 HORNER(horner_i32, int32_t, int64_t, 30)
 HORNER(horner_i64, int64_t, __int128, 60)
 
+/* Intervals by their four corners in the double word, and None where 0 is returned. */
+#define INTERVALS(WORD, WIDE, NAME, PLACES, DOWN)                                                        \
+  struct NAME {                                                                                          \
+    WORD lo, hi;                                                                                         \
+  };                                                                                                     \
+  static WIDE least_##NAME(WIDE p, WIDE q) { return p < q ? p : q; }                                     \
+  static WIDE greatest_##NAME(WIDE p, WIDE q) { return p < q ? q : p; }                                  \
+  static int put_##NAME(WIDE low, WIDE high, struct NAME *made) {                                        \
+    made->lo = (WORD)low, made->hi = (WORD)high;                                                         \
+    return low == made->lo && high == made->hi;                                                          \
+  }                                                                                                      \
+  __attribute__((noinline)) static int mul_in_##NAME(struct NAME a, struct NAME b, struct NAME *made) {  \
+    WIDE p = (WIDE)a.lo * b.lo, q = (WIDE)a.lo * b.hi, r = (WIDE)a.hi * b.lo, s = (WIDE)a.hi * b.hi;     \
+    WIDE low = least_##NAME(least_##NAME(p, q), least_##NAME(r, s));                                     \
+    WIDE high = greatest_##NAME(greatest_##NAME(p, q), greatest_##NAME(r, s));                           \
+    return put_##NAME(low >> PLACES, -(-high >> PLACES), made);                                          \
+  }                                                                                                      \
+  /* x over y, rounded down, and 1 in up where it is not exact. */                                       \
+  static WIDE over_##NAME(WORD x, WORD y, WIDE *up) {                                                    \
+    WIDE number = (WIDE)x * ((WIDE)1 << PLACES), quotient = number / y, rest = number - quotient * y;    \
+    *up = rest != 0;                                                                                     \
+    return quotient - (rest != 0 && (rest < 0) != (y < 0));                                              \
+  }                                                                                                      \
+  __attribute__((noinline)) static int div_in_##NAME(struct NAME a, struct NAME b, struct NAME *made) {  \
+    if (b.lo <= 0 && 0 <= b.hi) return 0;                                                                \
+    WIDE i, j, k, l, p = over_##NAME(a.lo, b.lo, &i), q = over_##NAME(a.lo, b.hi, &j);                   \
+    WIDE r = over_##NAME(a.hi, b.lo, &k), s = over_##NAME(a.hi, b.hi, &l);                               \
+    WIDE low = least_##NAME(least_##NAME(p, q), least_##NAME(r, s));                                     \
+    WIDE high = greatest_##NAME(greatest_##NAME(p + i, q + j), greatest_##NAME(r + k, s + l));           \
+    return put_##NAME(low, high, made);                                                                  \
+  }                                                                                                      \
+  static struct NAME factor_##NAME(void) {                                                               \
+    int64_t low = (int64_t)(draw() >> DOWN) - ((int64_t)1 << (63 - DOWN));                               \
+    int64_t high = low + (int64_t)(draw() >> (DOWN + 4));                                                \
+    return (struct NAME){(WORD)low, (WORD)high};                                                         \
+  }                                                                                                      \
+  static struct NAME divisor_##NAME(void) {                                                              \
+    int64_t low = ((int64_t)1 << PLACES) + (int64_t)(draw() >> (DOWN + 3));                              \
+    int64_t high = low + (int64_t)(draw() >> (DOWN + 4));                                                \
+    return draw() >> 63 ? (struct NAME){(WORD)-high, (WORD)-low} : (struct NAME){(WORD)low, (WORD)high}; \
+  }
+
+#define MEASURE_INTERVALS(CALL, NAME, PLACES)                                                      \
+  static void measure_##CALL##_##NAME(void) {                                                      \
+    static struct NAME pairs[PAIRS][2];                                                            \
+    uint64_t check = 0;                                                                            \
+    double least = 1e18;                                                                           \
+    state = 42;                                                                                    \
+    for (int i = 0; i < PAIRS; i++) pairs[i][0] = factor_##NAME(), pairs[i][1] = divisor_##NAME(); \
+    for (int pass = 0; pass < PAIR_PASSES; pass++) {                                               \
+      double start = now();                                                                        \
+      for (int i = 0; i < PAIRS; i++) {                                                            \
+        struct NAME made;                                                                          \
+        int fits = CALL##_##NAME(pairs[i][0], pairs[i][1], &made);                                 \
+        check += fits ? (uint64_t)made.lo * 3 + (uint64_t)made.hi : 1;                             \
+      }                                                                                            \
+      double taken = now() - start;                                                                \
+      if (taken < least) least = taken;                                                            \
+    }                                                                                              \
+    printf(#CALL "_" #NAME " %d %.4f %llu\n", PLACES, least / PAIRS, (unsigned long long)check);   \
+  }
+
+INTERVALS(int32_t, int64_t, i32, 16, 40)
+INTERVALS(int64_t, __int128, i64, 32, 17)
+MEASURE_INTERVALS(mul_in, i32, 16)
+MEASURE_INTERVALS(mul_in, i64, 32)
+MEASURE_INTERVALS(div_in, i32, 16)
+MEASURE_INTERVALS(div_in, i64, 32)
+
 /* The texts of outputs for a script of one channel, whose first two lines are read already. */
 __attribute__((noinline)) static size_t run(const char *at, const char *end, struct channel *c, char *out) {
   char *to = out;
@@ -157,4 +228,8 @@ int main(int count, char **words) {
     for (size_t taps = 16; taps <= 256; taps *= 4) measure_push(taps);
   if (!strcmp(word, "run")) measure_run(64);
   if (!strcmp(word, "horner")) measure_horner_i32(8), measure_horner_i64(8);
+  if (!strcmp(word, "interval")) {
+    measure_mul_in_i32(), measure_mul_in_i64();
+    measure_div_in_i32(), measure_div_in_i64();
+  }
 }

@@ -1,9 +1,9 @@
-"""Measures filters and polynomials, compiled by rustc, beside the same loops in C (bench/native.c, gcc -O2).
+"""Measures filters, polynomials and intervals, compiled by rustc, beside the same loops in C (bench/native.c, gcc -O2).
 
-    python3 bench/runs.py push|run|horner [ROUNDS]
+    python3 bench/runs.py push|run|horner|interval [ROUNDS]
 
-Nanoseconds a tap of `push`, a sample of `filter_run`, or a step of `horner`. Both sides run in turn, and the least
-counts; that they answer alike is seen by a checksum.
+Nanoseconds a tap of `push`, a sample of `filter_run`, a step of `horner`, or a call of `mul_in` and `div_in`. Both
+sides run in turn, and the least counts; that they answer alike is seen by a checksum.
 """
 import subprocess
 import sys

@@ -1,23 +1,27 @@
-"""Compares the runs of filters and polynomials with a plain model on random scripts.
+"""Compares the runs of filters, polynomials and intervals with a plain model on random scripts.
 
     python3 checks/random_runs.py SEED COUNT
 
 The model is written from docs/DEFINITIONS.md and shares nothing with the crates; the runs are those of the example of
 the Cargo package. In every third script one line is spoilt.
 """
+import math
 import os
 import random
 import re
 import subprocess
 import sys
+from fractions import Fraction
 from pathlib import Path
 
 from model import DECIMAL, WORDS, ends
 
 TOP = Path(__file__).resolve().parent.parent
 WHOLE = rf"(?:{DECIMAL}|-[1-9][0-9]*)"
-HEADS = {"filter": rf"filter (\w+)((?: {DECIMAL}){{3}})", "poly": rf"poly (\w+)( {DECIMAL})"}
+HEADS = {name: rf"{name} (\w+)((?: {DECIMAL}){{{count}}})" for name, count in
+         [("filter", 3), ("poly", 1), ("interval", 2)]}
 LISTS = {"filter": "taps", "poly": "coefs"}
+MOST_REGISTERS = 1_000_000
 ENDINGS = ["", " ", " 0", " -0", " 01", "x", " 99999999999999999999", "\t"]
 
 
@@ -32,7 +36,9 @@ def floored(x, places):
 class Filters:
     """A bank: the samples of each channel, the newest first."""
 
-    def __init__(self, fractions):
+    def __init__(self, fractions, width):
+        if max(fractions) > width:
+            raise Fault("OutOfRange")
         out, coef, sample = fractions
         self.places = coef + sample - out
         self.taps, self.samples = [], []
@@ -62,8 +68,10 @@ class Filters:
 class Polynomials:
     """The coefficients that came last."""
 
-    def __init__(self, fractions):
+    def __init__(self, fractions, width):
         self.places, = fractions
+        if self.places > width:
+            raise Fault("OutOfRange")
         self.coefs = None
 
     def take_list(self, numbers):
@@ -86,8 +94,69 @@ class Polynomials:
         return f"{value}\n"
 
 
+def outward(numbers):
+    return math.floor(min(numbers)), math.ceil(max(numbers))
+
+
+class Intervals:
+    """Registers, each a pair of ends."""
+
+    LINE = re.compile(rf"i({DECIMAL}) (?:set ({WHOLE}) ({WHOLE})|(add|sub|mul|div) i({DECIMAL}) i({DECIMAL})"
+                      rf"|sqrt i({DECIMAL}))")
+
+    def __init__(self, numbers, width):
+        self.places, count = numbers
+        if self.places > width or not 1 <= count <= MOST_REGISTERS:
+            raise Fault("OutOfRange")
+        self.registers = [(0, 0)] * count
+
+    def read(self, register):
+        if int(register) >= len(self.registers):
+            raise Fault("OutOfRange")
+        return self.registers[int(register)]
+
+    def made(self, op, a, b):
+        """The ends, or None where there are none."""
+        if op == "add":
+            return a[0] + b[0], a[1] + b[1]
+        if op == "sub":
+            return a[0] - b[1], a[1] - b[0]
+        if op == "mul":
+            return outward([Fraction(x * y, 2 ** self.places) for x in a for y in b])
+        if b[0] <= 0 <= b[1]:
+            return None
+        return outward([Fraction(x * 2 ** self.places, y) for x in a for y in b])
+
+    def root(self, a):
+        if a[0] < 0:
+            return None
+        low, high = (number << self.places for number in a)
+        root = math.isqrt(high)
+        return math.isqrt(low), root if root * root == high else root + 1
+
+    def take(self, line, low, high):
+        found = self.LINE.fullmatch(line)
+        if not found:
+            raise Fault("Syntax")
+        dest, first, second, op, a, b, radicand = found.groups()
+        self.read(dest)
+        if first:
+            made = int(first), int(second)
+            if not low <= made[0] <= made[1] <= high:
+                raise Fault("OutOfRange")
+        else:
+            made = self.made(op, self.read(a), self.read(b)) if op else self.root(self.read(radicand))
+        if made is None or made[0] < low or high < made[1]:
+            return "none\n"
+        self.registers[int(dest)] = made
+        return f"{made[0]} {made[1]}\n"
+
+
+MODELS = {"filter": Filters, "poly": Polynomials, "interval": Intervals}
+
+
 def line_of(state, name, line, low, high):
-    if re.fullmatch(rf"{LISTS[name]}(?: {WHOLE})+", line):
+    if name in LISTS and re.fullmatch(rf"{LISTS[name]}(?: {WHOLE})+", line):
         numbers = [int(token) for token in line.split(" ")[1:]]
         keep = state.take_list(numbers)
         if not all(low <= number <= high for number in numbers):
@@ -106,10 +175,7 @@ def model(name, script):
             raise Fault("Syntax")
         signed, width = WORDS[found[1]]
         low, high = ends(signed, width)
-        fractions = [int(fraction) for fraction in found[2].split()]
-        if max(fractions) > width:
-            raise Fault("OutOfRange")
-        state = {"filter": Filters, "poly": Polynomials}[name](fractions)
+        state = MODELS[name]([int(number) for number in found[2].split()], width)
         for at, line in enumerate(pieces[1:-1], 2):
             out.append(line_of(state, name, line, low, high))
         if pieces[-1]:
@@ -128,26 +194,66 @@ def number(rnd, low, high, width):
     return min(max(rnd.getrandbits(size) * (-1 if low and rnd.random() < 0.5 else 1), low), high)
 
 
+def fraction(rnd, width):
+    return rnd.choice([0, 1, width // 2, width - 1, width, rnd.randint(0, width)] * 30 + [width + 1])
+
+
+def listed(rnd, low, high, width):
+    size = rnd.choice([4, width])
+    return " ".join(str(number(rnd, low, high, size)) for _ in range(rnd.randint(1, 9)))
+
+
+def filters(rnd, low, high, width):
+    """The numbers of a header, the lines after it, and lines that may take the place of one."""
+    count = rnd.randint(1, 4)
+    lines = ["taps " + listed(rnd, low, high, width) for _ in range(count)]
+    lines += [f"c{rnd.randrange(count)} {number(rnd, low, high, width)}" for _ in range(30)]
+    return [fraction(rnd, width) for _ in range(3)], lines, [f"c{count} 0", lines[0]]
+
+
+def polynomials(rnd, low, high, width):
+    lines = ["coefs " + listed(rnd, low, high, width)]
+    for _ in range(30):
+        lines.append(f"at {number(rnd, low, high, width)}")
+        if rnd.random() < 0.2:
+            lines.append("coefs " + listed(rnd, low, high, width))
+    return [fraction(rnd, width)], lines, ["at 1", "at", "coefs"]
+
+
+def interval_line(rnd, registers, low, high, width):
+    dest, a, b = (rnd.choice(registers) for _ in range(3))
+    kind = rnd.random()
+    if kind < 0.4:
+        first = number(rnd, low, high, width)
+        second = rnd.choice([first, number(rnd, low, high, width), min(first + rnd.getrandbits(width // 4), high)])
+        return f"{dest} set {min(first, second)} {max(first, second)}"
+    if kind < 0.5:
+        return f"{dest} sqrt {a}"
+    return f"{dest} {rnd.choice(['add', 'sub', 'mul', 'div'])} {a} {b}"
+
+
+def intervals(rnd, low, high, width):
+    registers = [f"i{register}" for register in range(rnd.randint(1, 6))]
+    past = f"i{len(registers)}"
+    lines = [interval_line(rnd, registers, low, high, width) for _ in range(40)]
+    count = rnd.choice([len(registers)] * 60 + [0, MOST_REGISTERS, MOST_REGISTERS + 1])
+    spoilt = [f"{past} sqrt i0", f"i0 sqrt {past}", f"i0 mul i0 {past}", f"i0 add {past} i0", f"{past} set 1 x",
+              "i0 set 1 0", f"i0 set {low - 1} {high}", f"i0 set {low} {high + 1}", "i0 neg i0", "i0 sqrt i0 i0"]
+    return [fraction(rnd, width), count], lines, spoilt
+
+
+MAKERS = {"filter": filters, "poly": polynomials, "interval": intervals}
+
+
 def script_of(rnd, name):
     word = rnd.choice(list(WORDS))
     signed, width = WORDS[word]
-    low, high = ends(signed, width)
-    fractions = [rnd.choice([0, 1, width // 2, width - 1, width, rnd.randint(0, width)]) for _ in range(3)]
-    listed = [str(number(rnd, low, high, rnd.choice([4, width]))) for _ in range(rnd.randint(1, 9))]
-    lines = [f"{LISTS[name]} " + " ".join(listed)]
-    if name == "filter":
-        lines = [f"taps {' '.join(rnd.sample(listed, rnd.randint(1, len(listed))))}" for _ in range(rnd.randint(1, 4))]
-    count = len(lines)
-    for _ in range(30):
-        x = number(rnd, low, high, width)
-        lines.append(f"c{rnd.randrange(count)} {x}" if name == "filter" else f"at {x}")
-        if name == "poly" and rnd.random() < 0.2:
-            lines.append("coefs " + " ".join(rnd.sample(listed, rnd.randint(1, len(listed)))))
-    head = " ".join([name, word, *map(str, fractions[:3 if name == "filter" else 1])])
-    lines = [head, *lines]
+    numbers, lines, spoilt = MAKERS[name](rnd, *ends(signed, width), width)
+    lines.insert(0, " ".join([name, word, *map(str, numbers)]))
     if rnd.random() < 1 / 3:
         place = rnd.randrange(len(lines))
-        lines[place] = rnd.choice([lines[place] + rnd.choice(ENDINGS), lines[-1], lines[1], f"c{count} 0", "at 1", ""])
+        ended = lines[place] + rnd.choice(ENDINGS)
+        lines[place] = rnd.choice([ended, lines[-1], lines[1], "", rnd.choice(spoilt)])
     return "\n".join(lines) + rnd.choice(["\n"] * 20 + [""])
 
 

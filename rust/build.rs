@@ -17,7 +17,7 @@ const LIBRARY: [&str; 9] = [
 const PROGRAM: [&str; 3] = ["text", "script", "calc"];
 
 /// The crates of the runs over text, which take memory too, for benches and the example.
-const RUNS: [&str; 3] = ["text", "poly", "filter"];
+const RUNS: [&str; 4] = ["text", "poly", "filter", "interval"];
 
 /// The crates of tests for the library, by their folders, and the crate that serves as an example there.
 const TESTS: [&str; 3] = ["tests_kernel", "tests_num", "tests_policy"];

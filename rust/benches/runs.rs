@@ -1,7 +1,7 @@
-//! Nanoseconds a tap of a filter's `push`, a sample of `filter_run`, and a step of `horner`. `bench/runs.py` runs
-//! this beside the same loops in C, and compares.
+//! Nanoseconds a tap of a filter's `push`, a sample of `filter_run`, a step of `horner`, and a call of `mul_in` and
+//! `div_in`. `bench/runs.py` runs this beside the same loops in C, and compares.
 //!
-//!     cargo bench --bench runs -- push|run|horner
+//!     cargo bench --bench runs -- push|run|horner|interval
 
 // The modules of the runs, which are the proved sources' own.
 #![allow(dead_code, unused, drop_bounds, clippy::style, clippy::complexity)]
@@ -12,6 +12,7 @@ mod memory;
 include!(concat!(env!("OUT_DIR"), "/runs.rs"));
 
 use filter::{Bank, Reply, Shape, filter_run};
+use interval::{Interval, div_in, mul_in};
 use memory::Global;
 use poly::{PolyReply, horner};
 use std::fmt::Write;
@@ -23,6 +24,8 @@ const PASSES: usize = 2001;
 const SAMPLES: usize = 256;
 const POINTS: usize = 4096;
 const LINES: usize = 1_000_000;
+const PAIRS: usize = 1024;
+const PAIR_PASSES: usize = 501;
 
 /// The fractions of outputs, taps and samples.
 const SHAPE: Shape = Shape {
@@ -46,6 +49,23 @@ impl Draws {
     /// A number of 24 bits, of either sign.
     fn sample(&mut self) -> i32 {
         (self.next() >> 40) as i32 - (1 << 23)
+    }
+
+    /// The ends of an interval about 0, each of some `64 - down` bits.
+    fn factor(&mut self, down: u32) -> (i64, i64) {
+        let low = (self.next() >> down) as i64 - (1 << (63 - down));
+        (low, low + (self.next() >> (down + 4)) as i64)
+    }
+
+    /// The ends of an interval of either sign, which are at least `2^places` in magnitude.
+    fn divisor(&mut self, down: u32, places: u32) -> (i64, i64) {
+        let low = (1 << places) + (self.next() >> (down + 3)) as i64;
+        let high = low + (self.next() >> (down + 4)) as i64;
+        if self.next() >> 63 == 0 {
+            (low, high)
+        } else {
+            (-high, -low)
+        }
     }
 }
 
@@ -121,6 +141,47 @@ macro_rules! measure_horner {
     }};
 }
 
+/// One number of both ends.
+fn low_and_high(low: u64, high: u64) -> u64 {
+    low.wrapping_mul(3).wrapping_add(high)
+}
+
+/// Measures a call on pairs of intervals at a word and a fraction. A first end has some `64 - $down` bits.
+macro_rules! measure_interval {
+    ($name:ident, $call:ident, $word:ident, $places:literal, $down:literal) => {{
+        type Operand = Interval<$word>;
+
+        #[inline(never)]
+        fn made(a: &Operand, b: &Operand) -> Option<Operand> {
+            $call(a, b, $places)
+        }
+
+        let mut draws = Draws(42);
+        let interval = |(low, high): (i64, i64)| {
+            Operand::new(low as $word, high as $word).expect("ends in order")
+        };
+        let pairs: [(Operand, Operand); PAIRS] = std::array::from_fn(|_| {
+            let a = interval(draws.factor($down));
+            (a, interval(draws.divisor($down, $places)))
+        });
+        let mut check = 0u64;
+        let taken = least(PAIR_PASSES, || {
+            for (a, b) in black_box(&pairs) {
+                check = check.wrapping_add(match made(a, b) {
+                    Some(ends) => low_and_high(ends.lo() as u64, ends.hi() as u64),
+                    None => 1,
+                });
+            }
+        });
+        println!(
+            "{} {} {:.4} {check}",
+            stringify!($name),
+            $places,
+            taken / PAIRS as f64
+        );
+    }};
+}
+
 fn measure_run(count: usize) {
     let mut draws = Draws(42);
     let mut script = String::from("filter i32 16 30 16\ntaps");
@@ -157,5 +218,11 @@ fn main() {
     if wanted("horner") {
         measure_horner!(horner_i32, i32, 30, 8);
         measure_horner!(horner_i64, i64, 60, 8);
+    }
+    if wanted("interval") {
+        measure_interval!(mul_in_i32, mul_in, i32, 16, 40);
+        measure_interval!(mul_in_i64, mul_in, i64, 32, 17);
+        measure_interval!(div_in_i32, div_in, i32, 16, 40);
+        measure_interval!(div_in_i64, div_in, i64, 32, 17);
     }
 }

@@ -1,6 +1,6 @@
-//! The runs over text: a script of filters or of polynomials, from standard input to standard output.
+//! The runs over text: a script of filters, polynomials or intervals, from standard input to standard output.
 //!
-//!     cargo run --release --example runs -- filter|poly <SCRIPT
+//!     cargo run --release --example runs -- filter|poly|interval <SCRIPT
 //!
 //! It ends with 0; with 1 where the script has a cause, which standard error names; with 2 for other words.
 
@@ -21,6 +21,9 @@ fn ran(name: &str, script: &[u8]) -> Option<Result<text::Output, String>> {
     match name {
         "filter" => Some(filter::filter_run(Global, script).map_err(|fault| format!("{fault:?}"))),
         "poly" => Some(poly::poly_run(Global, script).map_err(|fault| format!("{fault:?}"))),
+        "interval" => {
+            Some(interval::interval_run(Global, script).map_err(|fault| format!("{fault:?}")))
+        }
         _ => None,
     }
 }
@@ -39,7 +42,7 @@ fn main() -> io::Result<ExitCode> {
             Ok(ExitCode::from(1))
         }
         None => {
-            eprintln!("usage: runs filter|poly <SCRIPT");
+            eprintln!("usage: runs filter|poly|interval <SCRIPT");
             Ok(ExitCode::from(2))
         }
     }

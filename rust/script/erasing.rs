@@ -135,7 +135,8 @@ impl Erasing<'_> {
         }
     }
 
-    /// Reads the head of an `impl` or a `trait`.
+    /// Reads the head of an `impl` or a `trait`. Leaves out an `impl` that is not Rust's: of `Model`, and of `Clone`,
+    /// which may fail in the proved language.
     fn block(&mut self) {
         let head: Vec<&str> = self.pieces[self.at..]
             .iter()
@@ -144,7 +145,8 @@ impl Erasing<'_> {
             .collect();
         self.of_trait = trait_of(&head.concat());
         self.members.clear();
-        if self.pieces[self.at] == "impl" && self.of_trait.as_deref() == Some("Model") {
+        let is_dropped = matches!(self.of_trait.as_deref(), Some("Model" | "Clone"));
+        if self.pieces[self.at] == "impl" && is_dropped {
             return self.skip(after_group);
         }
         for _ in head {
@@ -152,14 +154,17 @@ impl Erasing<'_> {
         }
     }
 
-    /// Leaves out the derives that Rust does not have.
+    /// Leaves out the derives that Rust does not have, and adds a `Clone` where `Copy` stands without one.
     fn derive(&mut self) {
         let end = after_group(&self.pieces, self.at);
         let names = self.pieces[self.at + 4..end - 2].concat();
-        let kept: Vec<&str> = names
+        let mut kept: Vec<&str> = names
             .split(", ")
             .filter(|name| !DROPPED_DERIVES.contains(name))
             .collect();
+        if kept.contains(&"Copy") && !kept.contains(&"Clone") {
+            kept.push("Clone");
+        }
         if kept.is_empty() {
             return self.skip(after_group);
         }

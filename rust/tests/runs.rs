@@ -9,14 +9,23 @@ mod memory;
 include!(concat!(env!("OUT_DIR"), "/runs.rs"));
 
 use filter::{FilterFault, filter_run};
+use interval::{IntervalFault, interval_run};
 use memory::Global;
 use poly::{PolyFault, poly_run};
 
 #[test]
-fn the_example_answers_as_stated() {
+fn the_filter_answers_as_stated() {
     let script = include_str!("../../examples/runs/smooth.txt");
     let answers = include_str!("../../examples/runs/smooth.answers");
     let output = filter_run(Global, script.as_bytes()).expect("no cause");
+    assert_eq!(output.as_bytes(), answers.as_bytes());
+}
+
+#[test]
+fn the_plate_answers_as_stated() {
+    let script = include_str!("../../examples/runs/plate.txt");
+    let answers = include_str!("../../examples/runs/plate.answers");
+    let output = interval_run(Global, script.as_bytes()).expect("no cause");
     assert_eq!(output.as_bytes(), answers.as_bytes());
 }
 
@@ -48,5 +57,77 @@ fn polynomials() {
         let done = poly_run(Global, script.as_bytes());
         let done = done.as_ref().map(|output| output.as_bytes());
         assert_eq!(done, answer.as_ref().map(|text| text.as_bytes()));
+    }
+}
+
+/// Lines after the header `interval i8 4 2`, and what they print.
+const LINES: [(&str, &str); 8] = [
+    // 16 * 16 / 48 is 5 and a third, and 24 * 16 / 32 is 12.
+    (
+        "i0 set 16 24\ni1 set 32 48\ni0 div i0 i1\n",
+        "16 24\n32 48\n5 12\n",
+    ),
+    // The corners are -24 * 3, -24 * 8, 40 * 3 and 40 * 8 over 16, of which -12 is the least and 20 the greatest.
+    (
+        "i0 set -24 40\ni1 set 3 8\ni0 mul i0 i1\n",
+        "-24 40\n3 8\n-12 20\n",
+    ),
+    // A third, of which no end is exact.
+    ("i0 set 1 1\ni1 set 3 3\ni0 div i0 i1\n", "1 1\n3 3\n5 6\n"),
+    // 5 * 16 / -1 is -80, and 0 over anything is 0.
+    (
+        "i0 set 0 5\ni1 set -3 -1\ni0 div i0 i1\n",
+        "0 5\n-3 -1\n-80 0\n",
+    ),
+    // A divisor that holds 0 leaves the register as it is.
+    (
+        "i1 set -1 0\ni0 div i0 i1\ni1 add i1 i1\ni1 sub i0 i1\n",
+        "-1 0\nnone\n-2 0\n0 2\n",
+    ),
+    // 5^2 <= 2 * 16 < 6^2, and 22^2 < 32 * 16 <= 23^2.
+    ("i0 set 2 32\ni0 sqrt i0\n", "2 32\n5 23\n"),
+    ("i0 set -1 32\ni0 sqrt i0\n", "-1 32\nnone\n"),
+    // 127 + 1 does not fit.
+    (
+        "i0 set 1 1\ni1 set -128 127\ni0 add i0 i1\ni1 sub i0 i0\n",
+        "1 1\n-128 127\nnone\n0 0\n",
+    ),
+];
+
+#[test]
+fn intervals() {
+    for (lines, answer) in LINES {
+        let script = format!("interval i8 4 2\n{lines}");
+        let output = interval_run(Global, script.as_bytes()).expect("no cause");
+        assert_eq!(output.as_bytes(), answer.as_bytes(), "{lines}");
+    }
+}
+
+#[test]
+fn faults_of_intervals() {
+    for (script, fault) in [
+        ("interval i8 4\n", IntervalFault::Syntax(1)),
+        ("interval i8 9 1\n", IntervalFault::OutOfRange(1)),
+        ("interval i8 4 0\n", IntervalFault::OutOfRange(1)),
+        ("interval i8 4 1\ni0 neg i0\n", IntervalFault::Syntax(2)),
+        (
+            "interval i8 4 1\ni0 set 2 1\n",
+            IntervalFault::OutOfRange(2),
+        ),
+        (
+            "interval u8 4 1\ni0 set 0 256\n",
+            IntervalFault::OutOfRange(2),
+        ),
+        (
+            "interval i8 4 1\ni0 set 1 1\ni0 add i0 i1\n",
+            IntervalFault::OutOfRange(3),
+        ),
+        (
+            "interval i8 4 1\ni0 set 1 1\ni0 sqrt i0",
+            IntervalFault::Syntax(3),
+        ),
+    ] {
+        let found = interval_run(Global, script.as_bytes()).err();
+        assert_eq!(found, Some(fault), "{script}");
     }
 }

@@ -104,6 +104,38 @@ impl Model for S {
 }
 
 #[test]
+fn a_clone_by_hand() {
+    let source = "#[derive(Copy, Debug)]
+pub struct P<T: Word> {
+    at: T,
+}
+
+impl<T: Word> Clone for P<T> {
+    ghost is_infallible = { λ _. Unit {0} };
+
+    fn clone(&self) -> Result<Self, AllocError> {
+        Ok(*self)
+    }
+}
+
+#[derive(Copy, Clone)]
+struct Q;
+";
+    assert_eq!(
+        read(source),
+        "#[derive(Copy, Debug, Clone)]
+pub struct P<T: Word> {
+    at: T,
+}
+
+
+#[derive(Copy, Clone)]
+struct Q;
+"
+    );
+}
+
+#[test]
 fn what_the_prover_reads() {
     let source = "//! A crate.
 #![tactic(auto)]
