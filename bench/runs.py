@@ -39,8 +39,8 @@ def main():
             for name, (taken, check) in ours.items():
                 if theirs[name][1] != check:
                     sys.exit(f"{name}: the answers differ")
-                before = least.get(name, (taken, taken))
-                least[name] = min(before[0], taken), min(before[1], theirs[name][0])
+                pair = taken, theirs[name][0]
+                least[name] = tuple(map(min, least.get(name, pair), pair))
     print(f"{'':<16} {'here':>8} {'in C':>8} {'ratio':>6}")
     for name, (taken, native) in least.items():
         print(f"{name:<16} {taken:8.2f} {native:8.2f} {taken / native:6.2f}")

@@ -5,6 +5,9 @@
 //! Each call runs over arrays of 4,096 numbers with half of their bits behind the point, and so does what a programmer
 //! would write by hand for it. Both answers are compared first. The least of many short samples counts, taken in turn.
 
+mod draws;
+
+use draws::Draws;
 use std::hint::black_box;
 use std::time::{Duration, Instant};
 use zugyelmas::Held;
@@ -171,19 +174,6 @@ fn measured_slices<N: Held<Bits = T> + Answer<Bits = T>, T: Word, R: Answer>(
         ours = ours.min(sample(pass));
     }
     (ours, theirs)
-}
-
-/// Numbers of 64 bits, one after the other.
-struct Draws(u64);
-
-impl Draws {
-    fn next(&mut self) -> u64 {
-        self.0 = self
-            .0
-            .wrapping_mul(6364136223846793005)
-            .wrapping_add(1442695040888963407);
-        self.0 ^ (self.0 >> 29)
-    }
 }
 
 /// The module of a word: its operands, the exact numbers and their projections by hand, and its rows.

@@ -6,11 +6,13 @@
 // The modules of the runs, which are the proved sources' own.
 #![allow(dead_code, unused, drop_bounds, clippy::style, clippy::complexity)]
 
+mod draws;
 #[path = "../program/memory.rs"]
 mod memory;
 
 include!(concat!(env!("OUT_DIR"), "/runs.rs"));
 
+use draws::Draws;
 use filter::{Bank, Reply, Shape, filter_run};
 use interval::{Interval, div_in, mul_in};
 use memory::Global;
@@ -34,18 +36,7 @@ const SHAPE: Shape = Shape {
     sample_frac: 16,
 };
 
-/// Numbers of 64 bits, one after the other.
-struct Draws(u64);
-
 impl Draws {
-    fn next(&mut self) -> u64 {
-        self.0 = self
-            .0
-            .wrapping_mul(6364136223846793005)
-            .wrapping_add(1442695040888963407);
-        self.0 ^ (self.0 >> 29)
-    }
-
     /// A number of 24 bits, of either sign.
     fn sample(&mut self) -> i32 {
         (self.next() >> 40) as i32 - (1 << 23)

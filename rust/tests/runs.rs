@@ -14,18 +14,14 @@ use memory::Global;
 use poly::{PolyFault, poly_run};
 
 #[test]
-fn the_filter_answers_as_stated() {
-    let script = include_str!("../../examples/runs/smooth.txt");
+fn the_examples_answer_as_stated() {
+    let smooth = include_str!("../../examples/runs/smooth.txt");
+    let output = filter_run(Global, smooth.as_bytes()).expect("no cause");
     let answers = include_str!("../../examples/runs/smooth.answers");
-    let output = filter_run(Global, script.as_bytes()).expect("no cause");
     assert_eq!(output.as_bytes(), answers.as_bytes());
-}
-
-#[test]
-fn the_plate_answers_as_stated() {
-    let script = include_str!("../../examples/runs/plate.txt");
+    let plate = include_str!("../../examples/runs/plate.txt");
+    let output = interval_run(Global, plate.as_bytes()).expect("no cause");
     let answers = include_str!("../../examples/runs/plate.answers");
-    let output = interval_run(Global, script.as_bytes()).expect("no cause");
     assert_eq!(output.as_bytes(), answers.as_bytes());
 }
 

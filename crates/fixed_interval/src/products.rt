@@ -1,14 +1,14 @@
 //! Products of intervals.
 
 ghost use Rattle.std.specs.Prelude.{◌≡◌, ◌≤◌, ◌^◌, ◌*ℤ◌, IfSome, pos};
+ghost use Rattle.std.specs.Int.{int_max, int_min};
 ghost use Rattle.std.specs.Option.{option_map};
-ghost use Rattle.fixed_interval.specs.Ends.{ends_of, fitting, product_ends, product_of};
+ghost use Rattle.fixed_kernel.specs.inside.Size.{IsProduct};
+ghost use Rattle.fixed_interval.specs.Ends.{ceiling_over, ends_of, fitting, greatest_corner, least_corner, product_ends};
 ghost use Rattle.fixed_interval.specs.Containment.{HoldsProducts};
-ghost use Rattle.fixed_interval.specs.inside.WholeValue.{rounded_over, value_of};
 
 use crate::interval::{Interval, between};
-use crate::whole::{Outward, Whole};
-use fixed_word::Word;
+use fixed_word::{Arithmetic, Integer, RawWord, Word, outcome_of_whole};
 
 /// The products of a number in `a` and one in `b`, each bits over `2^frac`: from the least product of two ends,
 /// rounded down, to the greatest, rounded up. Condition: `frac` is at most the width. None exactly where an end
@@ -18,43 +18,71 @@ pub fn mul_in<T: Word>(a: &Interval<T>, b: &Interval<T>, frac: u32) -> Option<In
     ensures ends { option_map (ends_of T.value) result ≡ fitting T.SIGNED T.BITS (product_ends (ends_of T.value a.now) (ends_of T.value b.now) frac) }
     ensures holds { IfSome result (λ i. HoldsProducts (ends_of T.value a.now) (ends_of T.value b.now) frac (ends_of T.value i)) }
 {
-    between(
-        least_product(a, b, frac).outcome(),
-        greatest_product(a, b, frac).outcome(),
+    let low = least_product(a, b).floored(frac);
+    let high = ceiled::<T>(greatest_product(a, b), frac);
+    between(outcome_of_whole(low), outcome_of_whole(high))
+}
+
+/// The least of the four corners.
+#[inline]
+fn least_product<T: Word>(a: &Interval<T>, b: &Interval<T>) -> T::Whole
+    ensures value { T.Whole.value result ≡ least_corner (λ x y. x *ℤ y) (ends_of T.value a.now) (ends_of T.value b.now) }
+    ensures size { IsProduct T.SIGNED T.BITS (T.Whole.value result) }
+{
+    least(
+        least(corner(a.lo(), b.lo()), corner(a.lo(), b.hi())),
+        least(corner(a.hi(), b.lo()), corner(a.hi(), b.hi())),
     )
 }
 
-/// The least of the four corners, rounded down.
-fn least_product<T: Word>(a: &Interval<T>, b: &Interval<T>, frac: u32) -> Whole
-    requires { frac ≤ T.BITS }
-    ensures { value_of result ≡ (product_of (ends_of T.value a.now) (ends_of T.value b.now) frac).low }
+/// The greatest of the four corners.
+#[inline]
+fn greatest_product<T: Word>(a: &Interval<T>, b: &Interval<T>) -> T::Whole
+    ensures value { T.Whole.value result ≡ greatest_corner (λ x y. x *ℤ y) (ends_of T.value a.now) (ends_of T.value b.now) }
+    ensures size { IsProduct T.SIGNED T.BITS (T.Whole.value result) }
 {
-    let low_low = corner(a.lo(), b.lo(), frac, Outward::Down);
-    let low_high = corner(a.lo(), b.hi(), frac, Outward::Down);
-    let high_low = corner(a.hi(), b.lo(), frac, Outward::Down);
-    let high_high = corner(a.hi(), b.hi(), frac, Outward::Down);
-    low_low.least(low_high).least(high_low.least(high_high))
+    greatest(
+        greatest(corner(a.lo(), b.lo()), corner(a.lo(), b.hi())),
+        greatest(corner(a.hi(), b.lo()), corner(a.hi(), b.hi())),
+    )
 }
 
-/// The greatest of the four corners, rounded up.
-fn greatest_product<T: Word>(a: &Interval<T>, b: &Interval<T>, frac: u32) -> Whole
-    requires { frac ≤ T.BITS }
-    ensures { value_of result ≡ (product_of (ends_of T.value a.now) (ends_of T.value b.now) frac).high }
+/// The corner of two ends: their product.
+#[inline]
+fn corner<T: Word>(x: T, y: T) -> T::Whole
+    ensures value { T.Whole.value result ≡ T.value x *ℤ T.value y }
+    ensures size { IsProduct T.SIGNED T.BITS (T.Whole.value result) }
 {
-    let low_low = corner(a.lo(), b.lo(), frac, Outward::Up);
-    let low_high = corner(a.lo(), b.hi(), frac, Outward::Up);
-    let high_low = corner(a.hi(), b.lo(), frac, Outward::Up);
-    let high_high = corner(a.hi(), b.hi(), frac, Outward::Up);
-    low_low
-        .greatest(low_high)
-        .greatest(high_low.greatest(high_high))
+    x.whole().times(y.whole())
 }
 
-/// The corner of two ends: `x y / 2^frac`, rounded that way.
-fn corner<T: Word>(x: T, y: T, frac: u32, way: Outward) -> Whole
-    requires { frac ≤ T.BITS }
-    ensures { value_of result ≡ rounded_over way (T.value x *ℤ T.value y) (pos (2 ^ frac)) }
+/// The less of two integers.
+#[inline]
+fn least<W: Integer>(x: W, y: W) -> W
+    ensures { W.value result ≡ int_min (W.value x) (W.value y) }
 {
-    let product = Whole::of(x).times(Whole::of(y));
-    product.over(Whole::power(frac), way)
+    if y < x { y } else { x }
+}
+
+/// The greater of two integers.
+#[inline]
+fn greatest<W: Integer>(x: W, y: W) -> W
+    ensures { W.value result ≡ int_max (W.value x) (W.value y) }
+{
+    if x < y { y } else { x }
+}
+
+/// A product over `2^frac`, rounded up.
+#[inline]
+fn ceiled<T: Word>(product: T::Whole, frac: u32) -> T::Whole
+    requires frac { frac ≤ T.BITS }
+    requires size { IsProduct T.SIGNED T.BITS (T.Whole.value product) }
+    ensures { T.Whole.value result ≡ ceiling_over (T.Whole.value product) (pos (2 ^ frac)) }
+{
+    let floor = product.floored(frac);
+    if floor.scaled(frac) == product {
+        floor
+    } else {
+        floor.plus(T::ONE.whole())
+    }
 }

@@ -1,6 +1,6 @@
 //! Quotients of intervals.
 
-ghost use Rattle.std.specs.Prelude.{◌≡◌, ◌≢◌, ◌≤◌, ◌^◌, ◌*ℤ◌, IfSome, pos};
+ghost use Rattle.std.specs.Prelude.{◌≡◌, ◌≢◌, ◌≤◌, ◌^◌, ◌*ℤ◌, IfSome, if◌then◌else◌, pos};
 ghost use Rattle.std.specs.Option.{option_map};
 ghost use Rattle.fixed_interval.specs.Ends.{ends_of, fitting, has_zero, quotient_ends, quotient_of};
 ghost use Rattle.fixed_interval.specs.Containment.{HoldsQuotients, IsOffZero};
@@ -34,32 +34,34 @@ fn holds_zero<T: Word>(b: &Interval<T>) -> bool
     b.lo() <= T::ZERO && T::ZERO <= b.hi()
 }
 
-/// The least of the four corners, rounded down.
+/// The least corner, rounded down.
 fn least_quotient<T: Word>(a: &Interval<T>, b: &Interval<T>, frac: u32) -> Whole
     requires frac { frac ≤ T.BITS }
     requires divisor { IsOffZero (ends_of T.value b.now) }
     ensures { value_of result ≡ (quotient_of (ends_of T.value a.now) (ends_of T.value b.now) frac).low }
 {
-    let low_low = corner(a.lo(), b.lo(), frac, Outward::Down);
-    let low_high = corner(a.lo(), b.hi(), frac, Outward::Down);
-    let high_low = corner(a.hi(), b.lo(), frac, Outward::Down);
-    let high_high = corner(a.hi(), b.hi(), frac, Outward::Down);
-    low_low.least(low_high).least(high_low.least(high_high))
+    let x = either(b.lo().is_below_zero(), a.hi(), a.lo());
+    let y = either(x.is_below_zero(), b.lo(), b.hi());
+    corner(x, y, frac, Outward::Down)
 }
 
-/// The greatest of the four corners, rounded up.
+/// The greatest corner, rounded up.
 fn greatest_quotient<T: Word>(a: &Interval<T>, b: &Interval<T>, frac: u32) -> Whole
     requires frac { frac ≤ T.BITS }
     requires divisor { IsOffZero (ends_of T.value b.now) }
     ensures { value_of result ≡ (quotient_of (ends_of T.value a.now) (ends_of T.value b.now) frac).high }
 {
-    let low_low = corner(a.lo(), b.lo(), frac, Outward::Up);
-    let low_high = corner(a.lo(), b.hi(), frac, Outward::Up);
-    let high_low = corner(a.hi(), b.lo(), frac, Outward::Up);
-    let high_high = corner(a.hi(), b.hi(), frac, Outward::Up);
-    low_low
-        .greatest(low_high)
-        .greatest(high_low.greatest(high_high))
+    let x = either(b.lo().is_below_zero(), a.lo(), a.hi());
+    let y = either(x.is_below_zero(), b.hi(), b.lo());
+    corner(x, y, frac, Outward::Up)
+}
+
+/// The first end where `first`, and else the second.
+#[inline]
+fn either<T: Word>(first: bool, x: T, y: T) -> T
+    ensures { result ≡ (if first then x else y) }
+{
+    if first { x } else { y }
 }
 
 /// The corner of two ends: `x 2^frac / y`, rounded that way.

@@ -1,4 +1,4 @@
-//! Whole numbers of up to 128 bits and a sign, in which ends are computed and compared.
+//! Whole numbers of up to 128 bits and a sign, in which quotients are rounded to either side.
 
 ghost use Rattle.std.specs.Prelude.{◌≡◌, ◌+◌, ◌*◌, ◌^◌, ◌<◌, ◌≤◌, ◌↔◌, ◌≤ℤ◌, ◌*ℤ◌, IsTrue, neg_ℤ, pos};
 ghost use Rattle.std.specs.Int.{int_max, int_min};
@@ -34,18 +34,6 @@ impl Whole {
         }
     }
 
-    /// `2^by`
-    pub(crate) fn power(by: u32) -> Whole
-        requires { by < 128 }
-        ensures value { value_of result ≡ pos (2 ^ by) }
-        ensures some { 0 < result.magnitude }
-    {
-        Whole {
-            below_zero: false,
-            magnitude: 1 << by,
-        }
-    }
-
     /// The number with the other sign.
     fn negated(self) -> Whole
         ensures value { value_of result ≡ neg_ℤ (value_of self) }
@@ -54,17 +42,6 @@ impl Whole {
         Whole {
             below_zero: !self.below_zero,
             magnitude: self.magnitude,
-        }
-    }
-
-    /// The product. Condition: it has at most 128 bits.
-    pub(crate) fn times(self, other: Whole) -> Whole
-        requires { self.magnitude * other.magnitude < 2 ^ 128 }
-        ensures { value_of result ≡ value_of self *ℤ value_of other }
-    {
-        Whole {
-            below_zero: self.below_zero != other.below_zero,
-            magnitude: self.magnitude * other.magnitude,
         }
     }
 
@@ -115,37 +92,6 @@ impl Whole {
             Outward::Down => self.floor_over(divisor),
             Outward::Up => self.ceiling_over(divisor),
         }
-    }
-
-    /// Whether the number is at most another.
-    fn is_at_most(self, other: Whole) -> bool
-        ensures { IsTrue result ↔ (value_of self ≤ℤ value_of other) }
-    {
-        if self.below_zero {
-            if other.below_zero {
-                other.magnitude <= self.magnitude
-            } else {
-                true
-            }
-        } else if other.below_zero {
-            self.magnitude == 0 && other.magnitude == 0
-        } else {
-            self.magnitude <= other.magnitude
-        }
-    }
-
-    /// The less of two numbers.
-    pub(crate) fn least(self, other: Whole) -> Whole
-        ensures { value_of result ≡ int_min (value_of self) (value_of other) }
-    {
-        if self.is_at_most(other) { self } else { other }
-    }
-
-    /// The greater of two numbers.
-    pub(crate) fn greatest(self, other: Whole) -> Whole
-        ensures { value_of result ≡ int_max (value_of self) (value_of other) }
-    {
-        if self.is_at_most(other) { other } else { self }
     }
 
     /// The outcome of the number in a word.

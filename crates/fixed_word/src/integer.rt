@@ -1,14 +1,15 @@
 //! Integers in which products and quotients of words have room.
 
-ghost use Rattle.std.specs.Prelude.{◌≡◌, ◌≢◌, ◌↔◌, ◌<◌, ◌^◌, ◌+ℤ◌, ◌-ℤ◌, ◌*ℤ◌, ◌<ℤ◌, ℕ, ℤ, Bool, true, false, IsTrue, pos};
+ghost use Rattle.std.specs.Prelude.{◌≡◌, ◌≢◌, ◌↔◌, ◌<◌, ◌^◌, ◌+ℤ◌, ◌-ℤ◌, ◌*ℤ◌, ◌<ℤ◌, ℕ, ℤ, Bool, true, false, IsTrue, Some, pos};
+ghost use Rattle.std.specs.Ordering.{int_cmp};
 ghost use Rattle.fixed_word.specs.Format.{InRange, wrap};
 ghost use Rattle.fixed_word.specs.Quotient.{euclidean_quotient, euclidean_remainder, floor_quotient, truncated_quotient};
-ghost use Rattle.fixed_word.specs.inside.WordLaws.{signed_eq, unsigned_eq};
+ghost use Rattle.fixed_word.specs.inside.WordLaws.{signed_eq, signed_partial_order, unsigned_eq, unsigned_partial_order};
 
 use crate::word::Valued;
 
 /// An integer of n bits, in which words are multiplied and divided (this project's own).
-pub trait Integer: Valued + Eq {
+pub trait Integer: Valued + Eq + PartialOrd {
     ghost SIGNED: { Bool };
 
     /// Whether the value is below 0.
@@ -63,6 +64,9 @@ pub trait Integer: Valued + Eq {
         ensures { Self.value result ≡ euclidean_remainder (Self.value self) (Self.value divisor) };
 
     ghost eq_law: { (x y : Self) → IsTrue (Self.eq x y) ↔ (Self.value x ≡ Self.value y) };
+
+    ghost partial_order_law: { (x y : Self) → Self.partial_cmp x y
+        ≡ Some (int_cmp (Self.value x) (Self.value y)) };
 }
 
 impl Integer for u16 {
@@ -114,6 +118,8 @@ impl Integer for u16 {
     }
 
     ghost eq_law = { unsigned_eq };
+
+    ghost partial_order_law = { unsigned_partial_order };
 }
 
 impl Integer for i16 {
@@ -165,6 +171,8 @@ impl Integer for i16 {
     }
 
     ghost eq_law = { signed_eq };
+
+    ghost partial_order_law = { signed_partial_order };
 }
 
 impl Integer for u32 {
@@ -216,6 +224,8 @@ impl Integer for u32 {
     }
 
     ghost eq_law = { unsigned_eq };
+
+    ghost partial_order_law = { unsigned_partial_order };
 }
 
 impl Integer for i32 {
@@ -267,6 +277,8 @@ impl Integer for i32 {
     }
 
     ghost eq_law = { signed_eq };
+
+    ghost partial_order_law = { signed_partial_order };
 }
 
 impl Integer for u64 {
@@ -318,6 +330,8 @@ impl Integer for u64 {
     }
 
     ghost eq_law = { unsigned_eq };
+
+    ghost partial_order_law = { unsigned_partial_order };
 }
 
 impl Integer for i64 {
@@ -369,6 +383,8 @@ impl Integer for i64 {
     }
 
     ghost eq_law = { signed_eq };
+
+    ghost partial_order_law = { signed_partial_order };
 }
 
 impl Valued for u128 {
@@ -428,6 +444,8 @@ impl Integer for u128 {
     }
 
     ghost eq_law = { unsigned_eq };
+
+    ghost partial_order_law = { unsigned_partial_order };
 }
 
 impl Valued for i128 {
@@ -487,4 +505,6 @@ impl Integer for i128 {
     }
 
     ghost eq_law = { signed_eq };
+
+    ghost partial_order_law = { signed_partial_order };
 }
