@@ -5,7 +5,8 @@ use Rattle.std.specs.Option.{option_map}
 use Rattle.std.proofs.lemmas.Int.{ints}
 use Rattle.fixed_word.specs.Format.{InRange, fits}
 use Rattle.fixed_interval.specs.Ends.{Bounds, Ends, ends_of, fitting, has_zero, quotient_ends, quotient_of, root_ends, root_of_ends}
-use Rattle.fixed_interval.specs.Containment.{FitsWithin, HoldsQuotients, HoldsRoots, IsOffZero, IsWithin}
+use Rattle.fixed_interval.specs.Containment.{FitsWithin, HoldsQuotients, HoldsRoots, IsWithin}
+use Rattle.fixed_interval.specs.inside.OffZero.{IsOffZero}
 use Rattle.fixed_interval.proofs.QuotientEnds.{holds_quotients}
 use Rattle.fixed_interval.proofs.RootEnds.{holds_roots}
 

@@ -2,7 +2,8 @@
 use Rattle.std.proofs.Common.{ℕ, arith, inl, inr}
 use Rattle.std.proofs.lemmas.Int.{ints}
 use Rattle.fixed_interval.specs.Ends.{Ends, difference_of, difference_ends, product_of, product_ends, quotient_of, quotient_ends, root_ends, root_of_ends, sum_of, sum_ends}
-use Rattle.fixed_interval.specs.Containment.{IsMonotone, IsMonotoneOfOne, IsOffZero, IsWithin}
+use Rattle.fixed_interval.specs.Containment.{IsMonotone, IsMonotoneOfOne, IsWithin}
+use Rattle.fixed_interval.specs.inside.OffZero.{IsOffZero}
 use Rattle.fixed_interval.proofs.Fitting.{fitting_defined, narrower, quotient_defined, quotient_is, root_defined, root_is}
 use Rattle.fixed_interval.proofs.ProductEnds.{product_within}
 use Rattle.fixed_interval.proofs.QuotientEnds.{quotient_within}

@@ -1,5 +1,5 @@
 -- At which corners the least and the greatest quotient lie, by the signs of the ends.
-use Rattle.std.proofs.Common.{◌≡◌, ◌⊎◌, ◌∙◌, ◌*◌, ◌/◌, ◌^◌, ◌<◌, ◌≤◌, ◌≤ℤ◌, ◌<ℤ◌, ◌*ℤ◌, ℕ, ℤ, zero, suc, Bool, true, false, pos, negsuc, neg_ℤ, refl, ap, sym, arith, inl, inr, if◌then◌else◌}
+use Rattle.std.proofs.Common.{◌≡◌, ◌⊎◌, ◌∙◌, ◌/◌, ◌^◌, ◌<◌, ◌≤◌, ◌≤ℤ◌, ◌<ℤ◌, ◌*ℤ◌, ℕ, ℤ, zero, suc, Bool, true, false, pos, negsuc, neg_ℤ, refl, ap, sym, arith, inl, inr, if◌then◌else◌}
 use Rattle.std.specs.Prelude.{◌↔◌, IsTrue}
 use Rattle.std.proofs.lemmas.Bool.{false≢true}
 use Rattle.std.proofs.lemmas.Int.{by_lt_z, ints}
@@ -7,7 +7,7 @@ use Rattle.std.proofs.lemmas.Nat.{mul-le}
 use Rattle.std.proofs.Math.Nat.{div-le_self, div-mul-le_self}
 use Rattle.fixed_word.specs.Quotient.{floor_quotient}
 use Rattle.fixed_interval.specs.Ends.{Bounds, Ends, ends_of, ceiling_over, floor_over, greatest_corner, least_corner, quotient_of}
-use Rattle.fixed_interval.specs.Containment.{IsOffZero}
+use Rattle.fixed_interval.specs.inside.OffZero.{IsOffZero}
 use Rattle.fixed_interval.proofs.Lines.{times_le}
 use Rattle.fixed_interval.proofs.Corners.{AtCorners, above_greatest_corner, below_least_corner, greatest_corner_above, least_corner_below}
 use Rattle.fixed_interval.proofs.Rounded.{below_floor, floor_above, floor_below}

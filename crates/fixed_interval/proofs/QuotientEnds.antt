@@ -3,7 +3,8 @@ use Rattle.std.proofs.Common.{◌⊎◌, ◌^◌, ◌<◌, ◌≤ℤ◌, ◌<ℤ
 use Rattle.std.proofs.lemmas.Int.{ints}
 use Rattle.fixed_interval.specs.Ends.{Ends, floor_over, ceiling_over, quotient_of}
 use Rattle.fixed_word.proofs.Wraps.{suc_times}
-use Rattle.fixed_interval.specs.Containment.{HoldsQuotients, IsInside, IsOffZero, IsWithin}
+use Rattle.fixed_interval.specs.Containment.{HoldsQuotients, IsInside, IsWithin}
+use Rattle.fixed_interval.specs.inside.OffZero.{IsOffZero}
 use Rattle.fixed_interval.proofs.Lines.{line_high, line_low, times_assoc, times_le}
 use Rattle.fixed_interval.proofs.Corners.{Brackets, corners_within, greatest_corner_above, inside_order, least_corner_below}
 use Rattle.fixed_interval.proofs.Rounded.{ceiling_above, ceiling_below, floor_above, floor_below, floor_below_ceiling}

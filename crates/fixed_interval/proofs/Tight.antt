@@ -6,7 +6,8 @@ use Rattle.std.proofs.lemmas.Option.{same_Some}
 use Rattle.fixed_root.specs.Root.{root_of}
 use Rattle.fixed_root.proofs.RootLaws.{root_of_is}
 use Rattle.fixed_interval.specs.Ends.{Ends, ceiling_over, floor_over, difference_ends, difference_of, product_ends, product_of, quotient_ends, quotient_of, root_ends, root_of_ends, sum_ends, sum_of}
-use Rattle.fixed_interval.specs.Containment.{Encloses, HoldsDifferences, HoldsProducts, HoldsQuotients, HoldsRoots, HoldsSums, IsInside, IsInsideOver, IsOffZero, IsTight, IsTightOfOne}
+use Rattle.fixed_interval.specs.Containment.{Encloses, HoldsDifferences, HoldsProducts, HoldsQuotients, HoldsRoots, HoldsSums, IsInside, IsInsideOver, IsTight, IsTightOfOne}
+use Rattle.fixed_interval.specs.inside.OffZero.{IsOffZero}
 use Rattle.fixed_interval.proofs.Corners.{above_greatest_corner, below_least_corner}
 use Rattle.fixed_interval.proofs.Fitting.{quotient_defined, root_defined}
 use Rattle.fixed_interval.proofs.Rounded.{ceiling_above, ceiling_below, floor_above, floor_below}

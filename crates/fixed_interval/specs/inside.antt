@@ -1,3 +1,4 @@
 -- What only private functions cite.
 pub mod Capped
 pub mod WholeValue
+pub mod OffZero

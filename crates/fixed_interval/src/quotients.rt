@@ -3,7 +3,8 @@
 ghost use Rattle.std.specs.Prelude.{◌≡◌, ◌≢◌, ◌≤◌, ◌^◌, ◌*ℤ◌, IfSome, if◌then◌else◌, pos};
 ghost use Rattle.std.specs.Option.{option_map};
 ghost use Rattle.fixed_interval.specs.Ends.{ends_of, fitting, has_zero, quotient_ends, quotient_of};
-ghost use Rattle.fixed_interval.specs.Containment.{HoldsQuotients, IsOffZero};
+ghost use Rattle.fixed_interval.specs.Containment.{HoldsQuotients};
+ghost use Rattle.fixed_interval.specs.inside.OffZero.{IsOffZero};
 ghost use Rattle.fixed_interval.specs.inside.WholeValue.{rounded_over, value_of};
 
 use crate::interval::{Interval, between};

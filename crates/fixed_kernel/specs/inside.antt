@@ -3,3 +3,4 @@ pub mod Alike
 pub mod Steps
 pub mod WideValue
 pub mod Size
+pub mod Turned

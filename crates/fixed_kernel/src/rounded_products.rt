@@ -53,14 +53,14 @@ pub fn add_prod_round_of<T: Word>(
         (rounded_add_prod (T.value c) (T.value a) (T.value b) c_frac a_frac b_frac rounding) result }
 {
     if a_frac + b_frac >= c_frac {
-        add_prod_down(c, a, b, a_frac + b_frac - c_frac, rounding)
+        add_prod_rounded(c, a, b, a_frac + b_frac - c_frac, rounding)
     } else {
         add_prod_of(c, a, b, c_frac, a_frac, b_frac)
     }
 }
 
 /// `c` plus the product of `a` and `b` over `2^by`, rounded.
-fn add_prod_down<T: Word>(c: T, a: T, b: T, by: u32, rounding: Rounding) -> Outcome<T>
+fn add_prod_rounded<T: Word>(c: T, a: T, b: T, by: u32, rounding: Rounding) -> Outcome<T>
     requires { by ≤ 128 }
     ensures { StandsFor T.value T.SIGNED T.BITS
         (rounded_add_prod_at (T.value c) (T.value a) (T.value b) (pos by) rounding) result }

@@ -1,5 +1,5 @@
 -- What the calls on a number's size answer.
-use Rattle.std.specs.Prelude.{◌≡◌, ◌⊎◌, ◌+◌, ◌-◌, ◌≤◌, ◌<◌, ◌^◌, ◌+ℤ◌, ◌<ℤ◌, ◌≤ℤ◌, ℕ, ℤ, pos, neg_ℤ}
+use Rattle.std.specs.Prelude.{◌≡◌, ◌⊎◌, ◌+◌, ◌-◌, ◌≤◌, ◌^◌, ◌+ℤ◌, ◌<ℤ◌, ◌≤ℤ◌, ℕ, ℤ, pos, neg_ℤ}
 use Rattle.fixed_word.specs.Quotient.{floor_quotient}
 
 -- m is the least number of which P holds
@@ -22,10 +22,6 @@ IsPower a = (j : ℕ) × (a ≡ pos (2 ^ j))
 -- r is the greatest power of 2 that is at most a, or 0 where a is 0
 abbrev pub IsHighestOne : ℤ → ℤ → Type 0
 IsHighestOne a r = ((a ≡ pos 0) × (r ≡ pos 0)) ⊎ ((j : ℕ) × (r ≡ pos (2 ^ j)) × (r ≤ℤ a) × (a <ℤ pos (2 ^ (j + 1))))
-
--- the same of numbers above 0
-abbrev pub IsHighestPower : ℕ → ℕ → Type 0
-IsHighestPower a r = (j : ℕ) × (r ≡ 2 ^ j) × (r ≤ a) × (a < 2 ^ (j + 1))
 
 -- half the sum, rounded down
 abbrev pub mean_of : ℤ → ℤ → ℤ

@@ -2,7 +2,7 @@
 
 ghost use Rattle.std.specs.Prelude.{◌≡◌, ◌+◌, ◌<◌, ◌≤◌, ◌*◌, ◌^◌, ◌-ℤ◌, unsigned_abs};
 ghost use Rattle.fixed_word.specs.Format.{InRange};
-ghost use Rattle.fixed_num.specs.Sizes.{IsHighestPower};
+ghost use Rattle.fixed_num.specs.inside.Powers.{IsHighestPower};
 
 use fixed_word::RawWord;
 

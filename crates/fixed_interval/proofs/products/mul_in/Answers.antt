@@ -1,4 +1,3 @@
-use Rattle.std.proofs.Common.{sym, ◌∙◌}
 use Rattle.fixed_interval.specs.Ends.{ends_of, product_of}
 use Rattle.fixed_interval.specs.Containment.{HoldsProducts}
 use Rattle.fixed_interval.proofs.Fitting.{seen, held_some}

@@ -1,4 +1,4 @@
-use Rattle.std.proofs.Common.{ℤ, Some, ap, sym, ◌∙◌}
+use Rattle.std.proofs.Common.{ℤ, Some, ap, sym}
 use Rattle.fixed_word.proofs.Standings.{clamp_where_fits}
 use Rattle.fixed_word.proofs.policies.saturating_of.Goals as goal
 
