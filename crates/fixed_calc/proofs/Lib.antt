@@ -19,3 +19,4 @@ pub mod Divisors
 pub mod Before
 pub mod Lacks
 pub mod Spellings
+pub mod Calls

@@ -46,6 +46,10 @@ abbrev pub IsOutput : Meaning → (List ℕ → Type 0) → Type 0
 IsOutput (Output bytes) P = P bytes
 IsOutput (Fault cause) P = ⊥
 
+-- the bytes are the output that the input means, where the source tells it
+abbrev pub IsOutputOf : Option (List ℕ) → List ℕ → Type 0
+IsOutputOf left bytes = IfSome left (λ input. meaning input ≡ Output bytes)
+
 -- at an output a prefix of it was taken, and otherwise nothing
 abbrev pub TookPrefixOf : Option (List ℕ) → Option (List ℕ) → Meaning → Type 0
 TookPrefixOf old new (Output bytes) = AppendsPrefix old new bytes

@@ -9,6 +9,7 @@ pub mod Rooms
 pub mod Outside
 pub mod Memory
 pub mod Headline
+pub mod Calls
 pub mod Caps
 pub mod OneNumber
 pub mod Widening

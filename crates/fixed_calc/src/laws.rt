@@ -1,19 +1,24 @@
 //! Laws of the definitions. These functions do nothing: each contract is the law.
 
-ghost use Rattle.std.specs.Prelude.{◌≡◌, ◌*◌, ◌≤◌, Bool, List, None, ℕ, ℤ, false, flat_map, length, true};
+ghost use Rattle.std.specs.Prelude.{◌≡◌, ◌*◌, ◌+◌, ◌<◌, ◌≤◌, Bool, List, None, ℕ, ℤ, false, flat_map, length, min, true};
 ghost use Rattle.fixed_word.specs.Format.{IsWidth, fits};
 ghost use Rattle.fixed_calc.specs.Answers.{answer_text};
 ghost use Rattle.fixed_calc.specs.Before.{MeansAsBefore, ReadsOldLines};
+ghost use Rattle.fixed_calc.specs.Calls.{ReadsToEnd, WritesAll, buffer_size};
 ghost use Rattle.fixed_calc.specs.Caps.{CapsAlike};
 ghost use Rattle.fixed_calc.specs.Demo.{demo_answers, demo_text};
 ghost use Rattle.fixed_calc.specs.Meaning.{Output, meaning, run_of, start};
+ghost use Rattle.fixed_calc.specs.Memory.{IsCallsFor, MemoryInput, MemoryOutput};
 ghost use Rattle.fixed_calc.specs.OneNumber.{WhereItFits, WhereItMisses};
+ghost use Rattle.fixed_calc.specs.Outside.{last_count};
 ghost use Rattle.fixed_calc.specs.Spelled.{KeepsMeaning};
 ghost use Rattle.fixed_calc.specs.Widening.{IsWider, rows_fit, script_of, with_word};
 ghost use Rattle.fixed_script.specs.Text.{ScriptHeader};
 ghost use Rattle.fixed_text.specs.declared.names.WordName.{WordName};
 ghost use Rattle.fixed_word.specs.Pieces.{pieces};
 
+use crate::memory::{MemorySink, MemorySource};
+use crate::outside::{Sink, Source};
 pub use fixed_script::laws::{reading_law, text_law};
 
 /// Numbers of `2^64` or more, held as `2^64`, change neither the cause of a line nor its move.
@@ -68,4 +73,18 @@ pub fn before_law()
 /// same line.
 pub fn spelling_law()
     ensures { KeepsMeaning }
+{}
+
+/// How many calls a run that read all and wrote all made of a source and a sink in memory. The reads take
+/// the input, each as much of it as it may give into the buffer, and one more meets its end. The writes
+/// take the output, each as much of it as it may; an output of no bytes takes no write.
+pub fn calls_law()
+    ensures reads { (calls total : ℕ) (source source' : MemoryInput) → 1 ≤ source.most
+        → ReadsToEnd ⟦<MemorySource as Source>⟧.read_gives calls total source source'
+        → (total ≡ length source.left) × IsCallsFor (min source.most buffer_size) total calls
+        × (source.calls + calls < last_count → source'.calls ≡ source.calls + calls + 1) }
+    ensures writes { (bytes : List ℕ) (calls : ℕ) (sink sink' : MemoryOutput) → 1 ≤ sink.most
+        → WritesAll ⟦<MemorySink as Sink>⟧.write_gives bytes calls sink sink'
+        → IsCallsFor sink.most (length bytes) calls
+        × (sink.calls + calls ≤ last_count → sink'.calls ≡ sink.calls + calls) }
 {}

@@ -6,7 +6,7 @@
 
 ghost use Rattle.std.specs.Prelude.{◌≡◌, ◌≤◌, ◌<◌, [], length, min, IfOk, IsErr, IsErrOf, IsTrue, ◌↔◌, OnErr, OnOk, Some};
 ghost use Rattle.std.specs.Io.KnownBytes.{ReadConsumes, WriteAppends};
-ghost use Rattle.fixed_calc.specs.Memory.{is_listed};
+ghost use Rattle.fixed_calc.specs.Memory.{MemoryReadGives, MemoryWriteGives, is_listed};
 ghost use Rattle.fixed_calc.specs.Outside.{SinkState, SourceState, TellsFaults, TellsRefusals, next_count};
 
 use crate::copy::copy_front;
@@ -57,10 +57,13 @@ impl MemorySource {
 impl Source for MemorySource {
     ghost state = { λ s. record { left = Some s.left; faults = s.faults } };
 
+    ghost read_gives = { MemoryReadGives };
+
     fn read(&mut self, buf: &mut [u8]) -> Result<usize, Failed>
         ensures within { IfOk result (λ k. k ≤ length buf.new) }
         ensures bytes { ReadConsumes (Some self.old.left) (Some self.new.left) result buf.new }
         ensures faults { TellsFaults self.old.faults self.new.faults result }
+        ensures gives { MemoryReadGives self.old (length buf.old) result self.new }
         ensures numbered { self.new.calls ≡ next_count self.old.calls }
         ensures failed { IsErr result ↔ IsTrue (is_listed self.old.failing self.new.calls) }
         ensures raised { OnErr result (self.new.faults ≡ next_count self.old.faults) }
@@ -130,12 +133,15 @@ impl MemorySink {
 impl Sink for MemorySink {
     ghost state = { λ s. record { taken = Some s.taken; faults = s.faults; shortages = s.shortages } };
 
+    ghost write_gives = { MemoryWriteGives };
+
     fn write(&mut self, bytes: &[u8]) -> Result<usize, Refusal>
         ensures within { IfOk result (λ k. k ≤ length bytes.now) }
         ensures some { 0 < length bytes.now → IfOk result (λ k. 0 < k) }
         ensures bytes { WriteAppends (Some self.old.taken) (Some self.new.taken) result bytes.now }
         ensures counts { TellsRefusals (⟦<MemorySink as Sink>⟧.state self.old)
             (⟦<MemorySink as Sink>⟧.state self.new) result }
+        ensures gives { MemoryWriteGives self.old bytes.now result self.new }
         ensures numbered { self.new.calls ≡ next_count self.old.calls }
         ensures failed { IsErrOf result Refusal.Failed
             ↔ IsTrue (is_listed self.old.failing self.new.calls) }

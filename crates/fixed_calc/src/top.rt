@@ -1,7 +1,9 @@
 //! The top call, which does all that the program does.
 
 ghost use Rattle.std.specs.Prelude.{◌≡◌, ◌≢◌, ◌≤◌, ◌↔◌, ℕ, []};
-ghost use Rattle.fixed_calc.specs.Headline.{CompleteTells, DemoDoneTells, DemoMemoryTells, DemoWriteFaultTells, DoneTells, IsDemoStatus, LineTells, MemoryTells, ReadFaultTells, ScriptTells, TooLongTells, WriteFaultTells, WritesNothing};
+ghost use Rattle.fixed_calc.specs.Headline.{CompleteTells, DemoDoneTells, DemoMemoryTells, DemoWriteFaultTells, DoneTells, IsDemoStatus, IsOutputOf, LineTells, MemoryTells, ReadFaultTells, ScriptTells, TooLongTells, WriteFaultTells, WritesNothing, error_line};
+ghost use Rattle.fixed_calc.specs.Calls.{LineWritesTell, ReadsTell, WritesTell};
+ghost use Rattle.fixed_calc.specs.Demo.{summary};
 ghost use Rattle.fixed_calc.specs.CommandLine.{IsDemo, IsNoCommand, most_lines};
 
 use crate::cause::RunFault;
@@ -30,6 +32,9 @@ fn read_run_write<S: Source, K: Sink>(alloc: Global, source: &mut S, sink: &mut 
     ensures nothing_written { WritesNothing result → sink.new ≡ sink.old }
     ensures complete { CompleteTells
         (S.state source.old) (S.state source.new) (K.state sink.old) (K.state sink.new) result }
+    ensures reads { ReadsTell S.read_gives source.old source.new result }
+    ensures writes { WritesTell K.write_gives
+        (IsOutputOf (S.state source.old).left) sink.old sink.new result }
 {
     let script = match read_all(alloc, source) {
         Ok(script) => script,
@@ -57,6 +62,7 @@ fn demonstrate<K: Sink>(alloc: Global, lines: u32, sink: &mut K) -> Status
     ensures write_fault { DemoWriteFaultTells lines (K.state sink.old) (K.state sink.new) result }
     ensures memory { DemoMemoryTells lines (K.state sink.old) (K.state sink.new) result }
     ensures statuses { IsDemoStatus result }
+    ensures writes { WritesTell K.write_gives (λ bytes. bytes ≡ summary lines) sink.old sink.new result }
 {
     let summary = match demo_summary(alloc, lines) {
         Ok(summary) => summary,
@@ -100,6 +106,11 @@ fn status_of<S: Source, K: Sink>(
     ensures demo_memory { (n : ℕ) → IsDemo words.now n
         → DemoMemoryTells n (K.state sink.old) (K.state sink.new) result }
     ensures demo_statuses { (n : ℕ) → IsDemo words.now n → IsDemoStatus result }
+    ensures reads { words.now ≡ [] → ReadsTell S.read_gives source.old source.new result }
+    ensures writes { words.now ≡ [] → WritesTell K.write_gives
+        (IsOutputOf (S.state source.old).left) sink.old sink.new result }
+    ensures demo_writes { (n : ℕ) → IsDemo words.now n
+        → WritesTell K.write_gives (λ bytes. bytes ≡ summary n) sink.old sink.new result }
 {
     match command_of(words) {
         Some(Command::Script) => read_run_write(alloc, source, sink),
@@ -117,6 +128,11 @@ fn status_of<S: Source, K: Sink>(
 /// The clauses say, status by status, what was read and written. What a script means is defined by
 /// the register machine of this crate's definitions, in which each line takes the exact number of its
 /// operation and projects it by its policy.
+///
+/// They say too which calls are made, as far as source, sink and errors tell what a call does. Each read
+/// goes into a buffer of 4,096 bytes. A read that gave some bytes is followed by another, unless the limit
+/// is passed or the status is `Memory`; none follows the end of the input or a failed read. Each write
+/// offers all that is left of the output or the line, where some is; none follows a refused one.
 pub fn calc_main<S: Source, K: Sink, E: Sink>(
     alloc: Global,
     words: &[String],
@@ -148,7 +164,13 @@ pub fn calc_main<S: Source, K: Sink, E: Sink>(
     ensures demo_memory { (n : ℕ) → IsDemo words.now n
         → DemoMemoryTells n (K.state sink.old) (K.state sink.new) result }
     ensures demo_statuses { (n : ℕ) → IsDemo words.now n → IsDemoStatus result }
+    ensures reads { words.now ≡ [] → ReadsTell S.read_gives source.old source.new result }
+    ensures writes { words.now ≡ [] → WritesTell K.write_gives
+        (IsOutputOf (S.state source.old).left) sink.old sink.new result }
+    ensures demo_writes { (n : ℕ) → IsDemo words.now n
+        → WritesTell K.write_gives (λ bytes. bytes ≡ summary n) sink.old sink.new result }
     ensures line { LineTells (E.state errors.old) (E.state errors.new) result }
+    ensures line_writes { LineWritesTell E.write_gives (error_line result) errors.old errors.new }
 {
     let status = status_of(alloc, words, source, sink);
     let _told = write_all(error_line_of(status).as_bytes(), errors);

@@ -1,7 +1,8 @@
 //! Writing to a sink until all is taken.
 
-ghost use Rattle.std.specs.Prelude.{MatchResult};
+ghost use Rattle.std.specs.Prelude.{MatchResult, ℕ};
 ghost use Rattle.std.specs.Io.KnownBytes.{Appends};
+ghost use Rattle.fixed_calc.specs.Calls.{WritesAll, WritesToRefusal};
 ghost use Rattle.fixed_calc.specs.Outside.{TellsRefusals};
 ghost use Rattle.fixed_calc.specs.Headline.{AppendsProperPrefix};
 
@@ -13,6 +14,9 @@ pub(crate) fn write_all<K: Sink>(bytes: &[u8], sink: &mut K) -> Result<(), Refus
         (λ _. Appends (K.state sink.old).taken (K.state sink.new).taken bytes.now)
         (λ _. AppendsProperPrefix (K.state sink.old).taken (K.state sink.new).taken bytes.now) }
     ensures counts { TellsRefusals (K.state sink.old) (K.state sink.new) result }
+    ensures writes { MatchResult result
+        (λ _. (calls : ℕ) × WritesAll K.write_gives bytes.now calls sink.old sink.new)
+        (λ refusal. WritesToRefusal K.write_gives bytes.now refusal sink.old sink.new) }
 {
     let mut at = 0;
     while at < bytes.len() {

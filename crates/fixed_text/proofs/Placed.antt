@@ -1,5 +1,5 @@
 -- Digits put into a buffer from its end.
-use Rattle.std.proofs.Common.{◌≡◌, ℕ, ◌-◌, ◌+◌, ◌<◌, ◌≤◌, ◌^◌, List, ◌∷◌, length, drop, set, ap, ◌∙◌, arith}
+use Rattle.std.proofs.Common.{◌≡◌, ℕ, ◌-◌, ◌+◌, ◌<◌, ◌≤◌, ◌^◌, List, ◌∷◌, ◌++◌, length, drop, set, ap, sym, ◌∙◌, append_assoc, arith}
 use Rattle.std.proofs.lemmas.List.{drop-set}
 use Rattle.fixed_word.specs.Decimal.{natural_text}
 use Rattle.fixed_text.proofs.Lengths.{length_natural}
@@ -13,3 +13,8 @@ pub put_digit : (buffer : List ℕ) (at d : ℕ) → 1 ≤ at → at ≤ length 
 put_digit buffer at d one within =
     let back : at - 1 + 1 ≡ at = omega arith in
     drop-set buffer (at - 1) d (omega arith) ∙ ap (λ k. d ∷ drop k buffer) back
+
+-- the front of a text before its back
+pub joined : (text front back behind rest : List ℕ) → text ≡ front ++ back → behind ≡ back ++ rest → front ++ behind ≡ text ++ rest
+joined text front back behind rest whole placed =
+    ap (λ (ds : List ℕ). front ++ ds) placed ∙ sym (append_assoc front back rest) ∙ ap (λ (ds : List ℕ). ds ++ rest) (sym whole)

@@ -2,3 +2,4 @@
 pub mod Free
 pub mod Reader
 pub mod Pieces
+pub mod Digits

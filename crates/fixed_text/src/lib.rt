@@ -28,4 +28,4 @@ pub use output::Output;
 pub use pieces::{body_of, piece_end};
 pub use running::{Run, open, run_lines};
 pub use tokens::{Tokens, cut};
-pub use written::decimal_into;
+pub use written::{decimal_before, decimal_into};

@@ -1,8 +1,9 @@
-use Rattle.std.proofs.Common.{length, ◌-◌, ◌≡◌, ◌≤◌, take}
+use Rattle.std.proofs.Common.{ℕ, length, ◌-◌, ◌≡◌, ◌≤◌, take}
 use Rattle.std.specs.Io.KnownBytes.{Appends}
+use Rattle.fixed_calc.specs.Calls.{TookBytes}
 use Rattle.fixed_calc.proofs.writing.write_all.Given as goal
 
--- what was taken so far is the front of the bytes, and nothing was refused
+-- what was taken so far is the front of the bytes, each write offered all that was left, and nothing was refused
 abbrev pub invariant-loop-at : goal.invariant-loop-at
 invariant-loop-at g l =
     let before = g.K.Sink.state l.fn.sink in
@@ -12,6 +13,7 @@ invariant-loop-at g l =
       taken : Appends before.taken now.taken (take l.at l.bytes);
       faults : now.faults ≡ before.faults;
       shortages : now.shortages ≡ before.shortages;
+      writes : (calls : ℕ) × TookBytes g.K.Sink.write_gives l.bytes calls l.at l.fn.sink l.sink;
     }
 
 abbrev pub decreases-loop-at : goal.decreases-loop-at

@@ -1,30 +1,23 @@
-use Rattle.std.proofs.Common.{◌≡◌, ◌+◌, ◌-◌, ◌/◌, ◌%◌, ◌++◌, ◌∷◌, ℕ, List, drop, length, ap, sym, ◌∙◌, arith}
-use Rattle.fixed_text.proofs.Placed.{put_digit}
-use Rattle.fixed_text.proofs.Shown.{one_digit, two_digits}
+use Rattle.std.proofs.Common.{◌≡◌, ◌+◌, ◌-◌, ◌/◌, ◌%◌, ◌++◌, ℕ, drop, ap, ◌∙◌, arith}
+use Rattle.fixed_word.specs.Decimal.{natural_text}
+use Rattle.fixed_text.specs.inside.Digits.{four_digits}
+use Rattle.fixed_text.proofs.Placed.{joined}
+use Rattle.fixed_text.proofs.Shown.{length_fours, more_fours}
 use Rattle.fixed_text.proofs.written.put_first.Goals as goal
 
-pub overflow_sub-buffer : goal.overflow_sub-buffer
-overflow_sub-buffer c = omega (arith, ap length (one_digit c.args.number c.if-number-lt10.true), c.requires.room)
+pub overflow_sub-at : goal.overflow_sub-at
+overflow_sub-at c = omega (arith, length_fours c.args.number c.if-number-lt10000.false, c.requires.room)
 
-pub overflow_sub-result : goal.overflow_sub-result
-overflow_sub-result c = omega (arith, ap length (one_digit c.args.number c.if-number-lt10.true), c.requires.room)
+pub put_four-requires-clause-room : goal.put_four-requires-clause-room
+put_four-requires-clause-room c = omega (arith, length_fours c.args.number c.if-number-lt10000.false, c.requires.room, c.requires.within)
 
-pub overflow_sub-end : goal.overflow_sub-end
-overflow_sub-end c = omega (arith, ap length (two_digits c.args.number c.if-number-lt10.false c.requires.number), c.requires.room)
+pub put_first_four-requires-else-number-lt10000-clause-room : goal.put_first_four-requires-else-number-lt10000-clause-room
+put_first_four-requires-else-number-lt10000-clause-room c = omega (arith, length_fours c.args.number c.if-number-lt10000.false, c.requires.room)
 
-pub overflow_sub-result-else-number-lt10 : goal.overflow_sub-result-else-number-lt10
-overflow_sub-result-else-number-lt10 c = omega (arith, ap length (two_digits c.args.number c.if-number-lt10.false c.requires.number), c.requires.room)
-
-pub returns-then-number-lt10-clause-digits : goal.returns-then-number-lt10-clause-digits
-returns-then-number-lt10-clause-digits c =
-    let one = one_digit c.args.number c.if-number-lt10.true in
-    put_digit c.args.buffer.now c.args.end (48 + c.args.number) (omega (arith, ap length one, c.requires.room)) (omega arith)
-    ∙ ap (λ (ds : List ℕ). ds ++ drop c.args.end c.args.buffer.now) (sym one)
-
-pub returns-else-number-lt10-clause-digits : goal.returns-else-number-lt10-clause-digits
-returns-else-number-lt10-clause-digits c =
-    let two = two_digits c.args.number c.if-number-lt10.false c.requires.number in
-    let back : c.args.end - 2 + 2 ≡ c.args.end = omega (arith, ap length two, c.requires.room) in
-    c.put_pair.ensures
-    ∙ ap (λ (k : ℕ). (48 + c.args.number / 10) ∷ (48 + c.args.number % 10) ∷ drop k c.args.buffer.now) back
-    ∙ ap (λ (ds : List ℕ). ds ++ drop c.args.end c.args.buffer.now) (sym two)
+pub returns-else-number-lt10000-clause-digits : goal.returns-else-number-lt10000-clause-digits
+returns-else-number-lt10000-clause-digits c =
+    let n = c.args.number in
+    let longer = length_fours n c.if-number-lt10000.false in
+    let back : c.args.end - 4 + 4 ≡ c.args.end = omega (arith, longer, c.requires.room) in
+    let behind = c.put_four.ensures ∙ ap (λ (i : ℕ). four_digits (n % 10000) ++ drop i c.args.buffer.now) back in
+    c.put_first_four-else-number-lt10000.ensures.digits ∙ joined (natural_text n) (natural_text (n / 10000)) (four_digits (n % 10000)) _ (drop c.args.end c.args.buffer.now) (more_fours n c.if-number-lt10000.false) behind
