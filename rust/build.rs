@@ -21,24 +21,22 @@ const MEMORY: &str = "use std::alloc::{Drop, Vec};\n";
 fn main() {
     println!("cargo::rerun-if-changed=crates");
     println!("cargo::rerun-if-changed=rust");
-    for (name, text) in [
-        (
-            "library.rs",
-            modules(&LIBRARY, "").map(|text| text.replace("use std::", "use core::")),
-        ),
-        ("tests.rs", modules(&TESTS, "")),
-        ("program.rs", modules(&PROGRAM, MEMORY)),
-        ("runs.rs", modules(&RUNS, MEMORY)),
-    ] {
-        if let Err(error) = text.and_then(|text| write(name, &text)) {
+    let files: [(&str, &[&str], &str); 4] = [
+        ("library.rs", &LIBRARY, ""),
+        ("tests.rs", &TESTS, ""),
+        ("program.rs", &PROGRAM, MEMORY),
+        ("runs.rs", &RUNS, MEMORY),
+    ];
+    for (name, crates, ending) in files {
+        if let Err(error) = write(name, crates, ending) {
             println!("cargo::error={name}: {error}");
         }
     }
 }
 
-/// Writes a file of Rust. The items of std that take memory are this package's own.
-fn write(name: &str, text: &str) -> Result<(), String> {
+/// Writes crates as the modules of one file. The items of std that take memory are this package's own.
+fn write(name: &str, crates: &[&str], ending: &str) -> Result<(), String> {
     let folder = env::var("OUT_DIR").map_err(|error| error.to_string())?;
-    let text = text.replace("use std::alloc::", "use crate::memory::");
+    let text = modules(crates, ending)?.replace("use std::alloc::", "use crate::memory::");
     fs::write(format!("{folder}/{name}"), text).map_err(|error| error.to_string())
 }

@@ -13,6 +13,13 @@ pub struct Condition {
     pub words: String,
 }
 
+impl Condition {
+    /// Whether a test sees the condition, or what a body calls.
+    pub fn is_seen_by(&self, body: &str) -> bool {
+        !self.test.is_empty() || STOPPING.lines().any(|call| body.contains(call))
+    }
+}
+
 /// The condition of a fact, written with one space between its words. In the strict forms each number has to fit in
 /// every build. An unknown fact is an error, so that no condition is dropped unseen.
 pub fn condition_of(fact: &str, is_strict: bool) -> Result<Condition, String> {
@@ -41,11 +48,6 @@ fn name_in<'a>(form: &str, fact: &'a str) -> Option<&'a str> {
     let is_of_name = |sign: char| sign.is_alphanumeric() || "_.".contains(sign);
     let is_name = name.chars().all(is_of_name) && name.is_empty() != form.contains('$');
     is_name.then_some(name)
-}
-
-/// Whether a body calls what stops by itself.
-pub fn stops(body: &str) -> bool {
-    STOPPING.lines().any(|call| body.contains(call))
 }
 
 /// The assertions of conditions, each on a line of its own.

@@ -1,7 +1,7 @@
 //! A proved source as Rust: contracts, ghost items and what speaks to the prover go, code and docs stay letter for
 //! letter. The contract of a public call joins its docs, and its conditions are asserted before its body.
 
-use crate::script::conditions::{Condition, assertions, condition_of, docs, stops};
+use crate::script::conditions::{assertions, condition_of, docs};
 use crate::script::pieces::{lines, split_body};
 use std::collections::BTreeMap;
 use std::mem;
@@ -46,12 +46,10 @@ pub struct Erasing {
 impl Erasing {
     /// The source in Rust.
     pub fn erased(&mut self, source: &str) -> Result<String, String> {
-        self.lines(source)?;
+        for line in lines(source) {
+            self.line(&line)?;
+        }
         Ok(mem::take(&mut self.out).concat() + &self.function)
-    }
-
-    fn lines(&mut self, source: &str) -> Result<(), String> {
-        lines(source).iter().try_for_each(|line| self.line(line))
     }
 
     /// Reads a line, with all that it opens.
@@ -110,7 +108,9 @@ impl Erasing {
         self.of_trait = trait_of(head).to_string();
         if !["Model", "Clone"].contains(&self.of_trait.as_str()) {
             self.out.push(format!("{head}{{"));
-            self.lines(inner)?;
+            for line in lines(inner) {
+                self.line(&line)?;
+            }
             self.out.push("}\n".to_string());
         }
         self.of_trait.clear();
@@ -120,22 +120,27 @@ impl Erasing {
     /// Writes the function that was read, with its conditions and docs.
     fn function(&mut self) -> Result<(), String> {
         let text = mem::take(&mut self.function);
-        let mut contract = mem::take(&mut self.contract);
+        let contract = mem::take(&mut self.contract);
         let name = function_name(&text).unwrap_or_default();
-        let mut facts = self.facts(name);
+        let facts = self.facts(name);
         let (head, body) = match split_body(&text) {
             Some((head, body)) => (head.trim_end(), Some(body)),
             None => (text.trim_end().trim_end_matches(';'), None),
         };
-        let is_public = !self.of_trait.is_empty() || begins(head, &["pub "]);
-        if !is_public || !self.is_library {
-            facts.clear();
-            contract.clear();
+        let is_public = !self.of_trait.is_empty() || head.trim_start().starts_with("pub ");
+        let is_call = self.is_library && is_public;
+        let mut conditions = Vec::new();
+        for fact in facts.iter().filter(|_| is_call) {
+            let condition = condition_of(fact, self.is_strict);
+            let condition = condition.map_err(|error| format!("{name}: {error}"))?;
+            if body.is_some_and(|body| !condition.is_seen_by(body)) {
+                let words = condition.words;
+                return Err(format!("{name}: nothing in its body stops unless {words}"));
+            }
+            conditions.push(condition);
         }
-        let conditions = self.conditions(&facts, body);
-        let conditions = conditions.map_err(|error| format!("{name}: {error}"))?;
         let indent = " ".repeat(head.len() - head.trim_start().len());
-        if self.is_documented() && !contract.is_empty() {
+        if is_call && !contract.is_empty() && self.is_documented() {
             self.out.push(docs(&contract, &conditions, &indent));
         }
         if body.is_some() && !conditions.is_empty() {
@@ -156,25 +161,13 @@ impl Erasing {
         if !self.of_trait.is_empty() {
             let place = format!("{}::{name}", self.of_trait);
             let stated = self.clauses.entry(place).or_default();
-            if facts.is_empty() {
-                facts.clone_from(stated);
-            } else if stated.is_empty() {
+            if stated.is_empty() {
                 stated.clone_from(&facts);
+            } else if facts.is_empty() {
+                facts.clone_from(stated);
             }
         }
         facts
-    }
-
-    /// The conditions of facts: what has no test is seen by what the body calls.
-    fn conditions(&self, facts: &[String], body: Option<&str>) -> Result<Vec<Condition>, String> {
-        let stops = body.is_none_or(stops);
-        let condition = |fact: &String| match condition_of(fact, self.is_strict)? {
-            Condition { test, words, .. } if test.is_empty() && !stops => {
-                Err(format!("nothing in its body stops unless {words}"))
-            }
-            condition => Ok(condition),
-        };
-        facts.iter().map(condition).collect()
     }
 
     /// Whether docs stand above the next item and its attributes.

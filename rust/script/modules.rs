@@ -27,6 +27,9 @@ pub fn modules(crates: &[&str], ending: &str) -> Result<String, String> {
             // The strict forms know the numbers by the module where each number has to fit.
             text = text.replace("use fixed_num::", "use crate::stopping::");
         }
+        if LIBRARY.contains(name) {
+            text = text.replace("use std::", "use core::");
+        }
         text = text.replace("use fixed_", "use crate::");
         out += &format!("pub mod {name} {{\n{text}}}\n");
     }
