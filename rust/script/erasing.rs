@@ -16,8 +16,8 @@ const DROPPED: [&str; 6] = [
     "use thiserror::Error;",
 ];
 
-/// How clauses begin that require something: an operator's is a member of its trait, and a number that is promised where
-/// it fits has to fit.
+/// How clauses begin that require something: an operator's is a member of its trait, and a number that is promised
+/// where it fits has to fit.
 const REQUIRING: [&str; 3] = [
     "requires ",
     "can_",
@@ -49,19 +49,22 @@ impl Erasing {
         for line in lines(source) {
             self.line(&line)?;
         }
-        Ok(mem::take(&mut self.out).concat() + &self.function)
+        Ok(mem::take(&mut self.out).concat() + &mem::take(&mut self.function))
     }
 
     /// Reads a line, with all that it opens.
     fn line(&mut self, line: &str) -> Result<(), String> {
         let code = line.trim();
-        let is_clause = begins(code, &["requires ", "ensures "]);
-        let is_of_function = !self.function.is_empty() || function_name(code).is_some();
-        if begins(code, &DROPPED) || is_of_function && code.starts_with("//") {
+        let is_inside = !self.function.is_empty();
+        let is_clause = is_inside && begins(code, &["requires ", "ensures "]);
+        let begins_function = function_name(code).is_some();
+        if is_inside && begins_function {
+            return Err(format!("a function without an end above {code}"));
+        } else if begins(code, &DROPPED) || is_inside && code.starts_with("//") {
             return Ok(());
         } else if is_clause {
             self.clause(code);
-        } else if is_of_function {
+        } else if is_inside || begins_function {
             self.function += line;
         } else if let Some(member) = code.strip_prefix("ghost ") {
             self.ghost(member);
@@ -72,7 +75,8 @@ impl Erasing {
         } else {
             self.out.push(line.to_string());
         }
-        if is_of_function && (code.ends_with(';') || code.ends_with('}') && !is_clause) {
+        let has_ended = code.ends_with(';') || code.ends_with('}') && !is_clause;
+        if has_ended && !self.function.is_empty() {
             self.function()?;
         }
         Ok(())
@@ -114,7 +118,10 @@ impl Erasing {
             self.out.push("}\n".to_string());
         }
         self.of_trait.clear();
-        Ok(())
+        match self.contract.pop() {
+            Some(clause) => Err(format!("a clause of no function: {clause}")),
+            None => Ok(()),
+        }
     }
 
     /// Writes the function that was read, with its conditions and docs.
@@ -186,7 +193,8 @@ fn begins(line: &str, starts: &[&str]) -> bool {
 /// The name of the function that a line begins.
 fn function_name(line: &str) -> Option<&str> {
     let (before, after) = line.trim_start().split_once("fn ")?;
-    let is_function = ["", "pub ", "pub(crate) "].contains(&before);
+    let is_modifier = |sign: char| sign.is_alphanumeric() || " ()".contains(sign);
+    let is_function = before.chars().all(is_modifier);
     after.split(['(', '<']).next().filter(|_| is_function)
 }
 

@@ -272,6 +272,18 @@ fn a_condition_that_nothing_sees() {
 }
 
 #[test]
+fn what_belongs_to_no_function() {
+    let member = "impl Neg for S {\n    ghost can_neg = { λ a. a };\n}\n";
+    let error = "a clause of no function: can_neg = { λ a. a }";
+    assert_eq!(library(member), Err(error.to_string()));
+    let unended = "fn f() -> u8 { 1 } // one\npub fn g() {}\n";
+    let error = "a function without an end above pub fn g() {}";
+    assert_eq!(library(unended), Err(error.to_string()));
+    let modified = "pub const fn f(x: u8)\n    requires { x ≡ 7 }\n{}\n";
+    assert!(library(modified).is_err());
+}
+
+#[test]
 fn forms_of_clauses() {
     let fraction = condition_of("G ≤ T.BITS", false).unwrap();
     assert_eq!(
