@@ -164,23 +164,20 @@ impl Erasing {
 
     /// The facts that a function requires: its own, or those of its operator, or else those of its trait.
     fn facts(&mut self, name: &str) -> Vec<String> {
-        let mut facts = mem::take(&mut self.facts);
+        let facts = mem::take(&mut self.facts);
+        let place = format!("{}::{name}", self.of_trait);
+        if facts.is_empty() {
+            return self.clauses.get(&place).cloned().unwrap_or_default();
+        }
         if !self.of_trait.is_empty() {
-            let place = format!("{}::{name}", self.of_trait);
-            let stated = self.clauses.entry(place).or_default();
-            if stated.is_empty() {
-                stated.clone_from(&facts);
-            } else if facts.is_empty() {
-                facts.clone_from(stated);
-            }
+            self.clauses.entry(place).or_insert_with(|| facts.clone());
         }
         facts
     }
 
     /// Whether docs stand above the next item and its attributes.
     fn is_documented(&self) -> bool {
-        let mut above = self.out.iter().rev();
-        let above = above.find(|line| !begins(line, &["#["]));
+        let above = self.out.iter().rfind(|line| !begins(line, &["#["]));
         above.is_some_and(|line| begins(line, &["///"]))
     }
 }
