@@ -16,14 +16,6 @@ const DROPPED: [&str; 6] = [
     "use thiserror::Error;",
 ];
 
-/// How clauses begin that require something: an operator's is a member of its trait, and a number that is promised
-/// where it fits has to fit.
-const REQUIRING: [&str; 3] = [
-    "requires ",
-    "can_",
-    "ensures { (x : ℤ) → StandsFor T.value T.SIGNED T.BITS x outcome → InRange ",
-];
-
 /// Reads sources one after the other.
 #[derive(Default)]
 pub struct Erasing {
@@ -87,7 +79,7 @@ impl Erasing {
         let clause = clause.trim_end_matches(';');
         let lines: Vec<&str> = clause.lines().map(str::trim).collect();
         self.contract.push(lines.join("\n    "));
-        if begins(clause, &REQUIRING) {
+        if begins(clause, &["requires ", "can_"]) {
             let clause = lines.join(" ");
             let inner = split_body(&clause).map_or("", |(_, inner)| inner.trim());
             let of_operands = inner.strip_prefix("λ ");
@@ -164,7 +156,11 @@ impl Erasing {
 
     /// The facts that a function requires: its own, or those of its operator, or else those of its trait.
     fn facts(&mut self, name: &str) -> Vec<String> {
-        let facts = mem::take(&mut self.facts);
+        let mut facts = mem::take(&mut self.facts);
+        if name == "exact_number" {
+            // It requires nothing, and promises something only where the number fits.
+            facts.push("the number of the outcome fits".to_string());
+        }
         let place = format!("{}::{name}", self.of_trait);
         if facts.is_empty() {
             return self.clauses.get(&place).cloned().unwrap_or_default();
