@@ -20,7 +20,7 @@ use poly::{PolyReply, horner};
 use std::fmt::Write;
 use std::hint::black_box;
 use std::time::Instant;
-use zugyelmas::{Fixed, Word};
+use zugyelmas::*;
 
 const PASSES: usize = 2001;
 const SAMPLES: usize = 256;

@@ -16,6 +16,7 @@ include!(concat!(env!("OUT_DIR"), "/program.rs"));
 use memory::Global;
 use std::hint::black_box;
 use std::time::Instant;
+use zugyelmas::*;
 
 const SAMPLES: u32 = 51;
 

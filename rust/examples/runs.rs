@@ -15,6 +15,7 @@ include!(concat!(env!("OUT_DIR"), "/runs.rs"));
 use memory::Global;
 use std::io::{self, Read, Write};
 use std::process::ExitCode;
+use zugyelmas::*;
 
 /// What a run prints, or its fault in words.
 fn ran(name: &str, script: &[u8]) -> Option<Result<text::Output, String>> {

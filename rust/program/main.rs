@@ -5,7 +5,13 @@
 //! usage: zugyelmas [demo N]
 
 // The code that is included is the proved sources' own, in the forms of which their proofs speak.
-#![allow(dead_code, drop_bounds, unused_imports, unused_labels, unused_variables)]
+#![allow(
+    dead_code,
+    drop_bounds,
+    unused_imports,
+    unused_labels,
+    unused_variables
+)]
 #![allow(
     clippy::manual_map,
     clippy::manual_range_contains,
@@ -19,10 +25,11 @@ mod memory;
 
 include!(concat!(env!("OUT_DIR"), "/program.rs"));
 
-use adapters::{StdErrors, StdSink, StdSource};
 use memory::Global;
+use prog::{StdErrors, StdSink, StdSource};
 use std::process::ExitCode;
 use std::{env, io};
+use zugyelmas::*;
 
 /// The words of the command line. Where one is no text, one empty word stands for them, which is no form of the
 /// command.

@@ -1,122 +1,85 @@
-//! The conditions of calls: what Rust tests where the proved language has a proof.
+//! The conditions of calls: what Rust tests, and says in docs, where the proved language has a proof.
 
-use When::{Always, Debugging};
-
-/// In which builds a call stops where its condition does not hold.
-#[derive(Clone, Copy, Debug, PartialEq, Eq)]
-pub enum When {
-    Always,
-    /// With debug assertions; without them the call answers the wrapped number.
-    Debugging,
-}
+/// The known forms of facts, and what stops by itself.
+const KNOWN: &str = include_str!("conditions.txt");
+const STOPPING: &str = include_str!("stopping.txt");
 
 /// A condition in words, and its test in Rust, which is empty where what the body calls stops by itself.
 #[derive(Debug, PartialEq, Eq)]
 pub struct Condition {
-    pub when: When,
+    /// The macro that asserts it: `assert`, or `debug_assert` where the call otherwise answers the wrapped number.
+    pub asserting: &'static str,
     pub test: String,
     pub words: String,
 }
 
-/// Each form of a clause, with `$` for one name and `..` for the rest: when a call stops, the test, and the
-/// words. No test stands where something in the body stops: one of `STOPPING` has to be there.
-#[rustfmt::skip]
-const KNOWN: [(&str, When, &str, &str); 39] = [
-    ("Self.FRACTION ≤ Self.BITS", Always, "F <= T::BITS", "the fraction F is at most the width"),
-    ("$ ≤ Self.BITS", Always, "$ <= T::BITS", "the fraction $ is at most the width"),
-    ("$ ≤ T.BITS", Always, "$ <= T::BITS", "the fraction $ is at most the width"),
-    ("$ ≤ D.BITS", Always, "$ <= D::BITS", "the fraction $ is at most the width"),
-    ("$ ≤ 2 * T.BITS", Always, "$ <= 2 * T::BITS", "the fraction $ is at most twice the width"),
-    ("$ ≤ℤ pos (2 * T.BITS)", Always, "$ <= 2 * T::BITS as i32", "$ is at most twice the width"),
-    ("neg_ℤ (pos T.BITS) ≤ℤ $", Always, "-(T::BITS as i32) <= $", "$ is at least minus the width"),
-    ("H ≡ F + G", Always, "H == F + G", "H is F + G"),
-    ("H + G ≡ T.BITS + F", Always, "H + G == T::BITS + F", "H + G is the width and F"),
-    ("H + G + 1 ≡ T.BITS + F", Always, "H + G + 1 == T::BITS + F", "H + G + 1 is the width and F"),
-    ("rhs < Self.BITS", Always, "rhs < T::BITS", "the shift is below the width"),
-    ("rhs < T.BITS", Always, "rhs < T::BITS", "the shift is below the width"),
-    ("by < Self.BITS", Always, "by < Self::BITS", "the shift is below the width"),
-    ("Self.number $ ≢ pos 0", Always, "$.bits != T::ZERO", "the divisor is not 0"),
-    ("Self.Bits.value $ ≢ pos 0", Always, "$ != T::ZERO", "the divisor is not 0"),
-    ("T.value $ ≢ pos 0", Always, "$ != T::ZERO", "the divisor is not 0"),
-    ("T.Signed.value $ ≢ pos 0", Always, "$.magnitude() != 0", "the divisor is not 0"),
-    ("T.Unsigned.value $ ≢ pos 0", Always, "$.magnitude() != 0", "the divisor is not 0"),
-    ("Self.value divisor ≢ pos 0", Always, "divisor != 0", "the divisor is not 0"),
-    // A word tells whether it is 0 by a counted step alone, so a ledger that counts sees no test.
-    ("D.value val ≢ pos 0", Always, "L::LAST > 0 || !val.at_most(D::ZERO, steps)", "the number is not 0"),
-    ("pos 0 ≤ℤ Self.number $", Always, "!$.bits.is_below_zero()", "the number is not below 0"),
-    ("pos 0 ≤ℤ T.value $", Always, "!$.is_below_zero()", "the number is not below 0"),
-    ("pos 0 <ℤ T.value $", Always, "$ > T::ZERO", "the number is above 0"),
-    ("2 ≤ base", Always, "base >= 2", "the base is at least 2"),
-    ("T.SIGNED ≡ true", Always, "T::SIGNED", "the word is signed"),
-    ("T.SIGNED ≡ false", Always, "!T::SIGNED", "the word is unsigned"),
-    ("U.BITS ≡ T.BITS", Always, "U::BITS == T::BITS", "both words have one width"),
-    ("length a.now ≡ length b.now", Always, "a.len() == b.len()", "both slices have one length"),
-    ("outcome.side ≡ Side.Fits", Always, "outcome.side == Side::Fits", "the number fits"),
-    ("InRange T.SIGNED T.BITS (pos (2 ^ F))", Always, "F + u32::from(T::SIGNED) < T::BITS", "the number 1 fits"),
-    ("InRange T.SIGNED T.BITS (neg_ℤ (pos (2 ^ F)))", Always, "T::SIGNED && F < T::BITS", "the number -1 fits"),
-    ("root_of (T.value self.bits) F ≤ℤ highest T.SIGNED T.BITS", Debugging,
-        "fixed_kernel::sqrt_of(self.bits, F).side == fixed_word::Side::Fits", "the root fits"),
-    ("T.SIGNED ≡ true → T.value rhs.bits ≡ negsuc 0 → T.value self.bits ≢ lowest T.SIGNED T.BITS", Always,
-        "!T::SIGNED || self.bits != T::MIN || rhs.bits != T::residue(true, 1)", "the quotient fits"),
-    ("InRange SIGNED Self.BITS (Self.value self *ℤ pos (2 ^ by))", Debugging,
-        "(self << by) >> by == self", "the number fits"),
-    ("InRange SIGNED Self.BITS (euclidean_quotient ..", Debugging,
-        "self.checked_div_euclid(divisor).is_some()", "the number fits"),
-    ("the number of the outcome fits", Debugging, "outcome.side == fixed_word::Side::Fits", "the number fits"),
-    ("InRange ..", Debugging, "", "the number fits"),
-    ("SumsFit ..", Debugging, "", "each sum fits"),
-    ("ProductsFit ..", Debugging, "", "each product fits"),
-];
+impl Condition {
+    /// Whether a test sees the condition, or what a body calls.
+    pub fn is_seen_by(&self, body: &str) -> bool {
+        !self.test.is_empty() || STOPPING.lines().any(|call| body.contains(call))
+    }
+}
 
-/// What stops by itself: `exact_number` and calls that stand on it see the side of the number, and std's sums and
-/// products of integers an overflow.
-const STOPPING: [&str; 13] = [
-    "exact_number(",
-    "self.strict_",
-    "self.add_prod(",
-    "self.unwrapped_add_prod(",
-    "*self + rhs",
-    "*self - rhs",
-    "*self / rhs",
-    "*self % rhs",
-    "rhs * self",
-    "total += ",
-    "Fixed::one()",
-    "self + other",
-    "self * other",
-];
-
-/// The condition of a clause, written with one space between its words. In the strict forms each number has to
-/// fit in every build. An unknown clause is an error, so that no condition is dropped unseen.
-pub fn condition_of(clause: &str, strict: bool) -> Result<Condition, String> {
-    let found = KNOWN.iter().find_map(|(form, when, test, words)| {
-        let name = name_in(form, clause)?;
-        let when = if strict { Always } else { *when };
+/// The condition of a fact, written with one space between its words. In the strict forms each number has to fit in
+/// every build. An unknown fact is an error, so that no condition is dropped unseen.
+pub fn condition_of(fact: &str, is_strict: bool) -> Result<Condition, String> {
+    let found = KNOWN.lines().find_map(|row| {
+        let columns: Vec<&str> = row.split(" | ").map(str::trim).collect();
+        let [form, asserting, test, words] = columns[..] else {
+            return None;
+        };
+        let name = name_in(form, fact)?;
         Some(Condition {
-            when,
+            asserting: if is_strict { "assert" } else { asserting },
             test: test.replace('$', name),
             words: words.replace('$', name),
         })
     });
-    found.ok_or_else(|| format!("a clause of no known form: {clause}"))
+    found.ok_or_else(|| format!("a clause of no known form: {fact}"))
 }
 
-/// Whether a condition without a test is seen by what a body calls.
-pub fn is_seen(condition: &Condition, body: &str) -> bool {
-    !condition.test.is_empty() || STOPPING.iter().any(|call| body.contains(call))
-}
-
-/// The name that stands in a clause where its form has `$`, or nothing where it has none.
-fn name_in<'a>(form: &str, clause: &'a str) -> Option<&'a str> {
+/// What stands in a fact where its form has `$` for a name or `..` for the rest; nothing where it has neither.
+fn name_in<'a>(form: &str, fact: &'a str) -> Option<&'a str> {
     if let Some(start) = form.strip_suffix("..") {
-        return clause.starts_with(start).then_some("");
+        return fact.strip_prefix(start);
     }
-    let Some((before, after)) = form.split_once('$') else {
-        return (clause == form).then_some("");
+    let (before, after) = form.split_once('$').unwrap_or((form, ""));
+    let name = fact.strip_prefix(before)?.strip_suffix(after)?;
+    let is_of_name = |sign: char| sign.is_alphanumeric() || "_.".contains(sign);
+    let is_name = name.chars().all(is_of_name) && name.is_empty() != form.contains('$');
+    is_name.then_some(name)
+}
+
+/// The assertions of conditions, each on a line of its own.
+pub fn assertions(conditions: &[Condition], indent: &str) -> String {
+    let tested = conditions.iter().filter(|one| !one.test.is_empty());
+    let lines = tested.map(|one| {
+        let (asserting, test, words) = (one.asserting, &one.test, &one.words);
+        format!("\n{indent}    {asserting}!({test}, \"condition: {words}\");")
+    });
+    lines.collect()
+}
+
+/// The contract of a call as docs: when it stops, and what is proved of it.
+pub fn docs(contract: &[String], conditions: &[Condition], indent: &str) -> String {
+    let (panics, contract) = (panics(conditions), contract.join("\n"));
+    let text = format!("{panics}\n# Proved\n\n```text\n{contract}\n```");
+    let lines = text.lines().map(|line| format!("{indent}/// {line}"));
+    lines.map(|line| format!("{}\n", line.trim_end())).collect()
+}
+
+fn panics(conditions: &[Condition]) -> String {
+    let sentence = |asserting: &str, before: &str, after: &str| {
+        let those = conditions.iter().filter(|one| one.asserting == asserting);
+        let words: Vec<&str> = those.map(|one| one.words.as_str()).collect();
+        match words.join("; ").as_str() {
+            "" => String::new(),
+            words => format!("\n{before} {words}{after}.\n"),
+        }
     };
-    let name = clause.strip_prefix(before)?.strip_suffix(after)?;
-    let is_name = name
-        .chars()
-        .all(|sign| sign.is_alphanumeric() || sign == '_' || sign == '.');
-    (is_name && !name.is_empty()).then_some(name)
+    let title = conditions.first().map_or("", |_| "\n# Panics\n");
+    let always = sentence("assert", "Unless all of this holds:", "");
+    let wrapped = "; without them the answer is wrapped";
+    let debugging = sentence("debug_assert", "With debug assertions, unless", wrapped);
+    format!("{title}{always}{debugging}")
 }

@@ -1,39 +1,23 @@
 //! Tests without the runtime, which the proved language hands to each test and to each macro that stops.
 
-/// What is written differently, in Rust's form beside it. A test is handed the runtime, hands it on first, and
-/// each macro takes it first.
-const WRITTEN: [(&str, &str); 10] = [
-    ("(rt: HostRuntime)", "()"),
-    ("(rt: &impl Abort)", "()"),
-    ("rt: &impl Abort, ", ""),
-    ("!(rt; ", "!("),
-    ("!(rt;\n", "!(\n"),
-    ("(&rt, ", "("),
-    ("(rt, ", "("),
-    ("(&rt)", "()"),
-    ("(rt)", "()"),
-    (
-        "use std::test::Fail;",
-        "type Fail = std::boxed::Box<dyn std::error::Error>;",
-    ),
-];
+/// The runtime as a test takes it, and as it hands it on, first of all.
+const RUNTIME: [&str; 4] = ["rt: HostRuntime", "rt: &impl Abort", "&rt", "rt"];
 
-/// Lines that go.
-const DROPPED: [&str; 4] = [
-    "use std::process::Abort;",
-    "rt: &impl Abort,",
-    "&rt,",
-    "rt,",
-];
+/// How the runtime ends, and what is left of that.
+const ENDS: [(&str, &str); 4] = [(")", ")"), (", ", ""), ("; ", ""), (";\n", "\n")];
 
 /// A test's source without the runtime.
 pub fn without_runtime(source: &str) -> String {
-    let kept = source
-        .lines()
-        .filter(|line| !DROPPED.contains(&line.trim()));
-    let mut text: String = kept.flat_map(|line| [line, "\n"]).collect();
-    for (proved, plain) in WRITTEN {
-        text = text.replace(proved, plain);
+    let is_kept = |line: &&str| {
+        let argument = line.trim().trim_end_matches(',');
+        !RUNTIME.contains(&argument) && argument != "use std::process::Abort;"
+    };
+    let mut text: String = source.split_inclusive('\n').filter(is_kept).collect();
+    for argument in RUNTIME {
+        for (end, left) in ENDS {
+            text = text.replace(&format!("({argument}{end}"), &format!("({left}"));
+        }
     }
-    text
+    let fail = "type Fail = std::boxed::Box<dyn std::error::Error>;";
+    text.replace("use std::test::Fail;", fail)
 }

@@ -1,7 +1,6 @@
 //! What the build script reads and writes: the sources of the proved crates, as modules of Rust.
 
 pub mod conditions;
-pub mod contracts;
 pub mod erasing;
 pub mod handles;
 pub mod modules;

@@ -1,82 +1,55 @@
 //! A source, cut into pieces.
 
-/// Cuts a source into comments, strings, characters, words and single signs; joined they are the source.
+/// Cuts a source into comments, strings, characters, what stands in brackets, and single signs; joined they are the
+/// source.
 pub fn pieces(source: &str) -> Vec<&str> {
     let mut cut = Vec::new();
     let mut rest = source;
-    while let Some(first) = rest.chars().next() {
-        let (piece, after) = rest.split_at(length(rest, first));
+    while !rest.is_empty() {
+        let (piece, after) = rest.split_at(length(rest));
         cut.push(piece);
         rest = after;
     }
     cut
 }
 
-fn length(text: &str, first: char) -> usize {
-    if text.starts_with("//") {
-        text.find('\n').unwrap_or(text.len())
-    } else if first == '"' {
-        quoted(text, '"')
-    } else if first == '\'' && is_character(text) {
-        quoted(text, '\'')
-    } else if is_of_word(first) {
-        text.find(|sign| !is_of_word(sign)).unwrap_or(text.len())
-    } else {
-        first.len_utf8()
+/// The lines of a source: one that opens a bracket goes on to the line that closes it.
+pub fn lines(source: &str) -> Vec<String> {
+    let cut = pieces(source);
+    let lines = cut.split_inclusive(|piece| *piece == "\n");
+    lines.map(<[&str]>::concat).collect()
+}
+
+/// What stands in front of the braces at the end of a text, and in them.
+pub fn split_body(text: &str) -> Option<(&str, &str)> {
+    let text = text.trim_end();
+    let body = pieces(text).pop()?;
+    let inner = body.strip_prefix('{')?.strip_suffix('}')?;
+    Some((text.strip_suffix(body)?, inner))
+}
+
+/// How long the first piece of a text is. A lifetime is no character: no quote stands after its first letter.
+fn length(text: &str) -> usize {
+    match text.as_bytes() {
+        [b'/', b'/', ..] => text.find('\n').unwrap_or(text.len()),
+        [b'"', ..] => closed(text, &['"'], escaped),
+        [b'\'', b'\\', ..] | [b'\'', _, b'\'', ..] => closed(text, &['\''], escaped),
+        [b'{' | b'(' | b'[', ..] => closed(text, &['}', ')', ']'], length),
+        _ => text.chars().next().map_or(0, char::len_utf8),
     }
 }
 
-fn is_of_word(sign: char) -> bool {
-    sign.is_alphanumeric() || sign == '_'
-}
-
-/// Whether a quote begins a character: a lifetime has no quote after its first letter.
-fn is_character(text: &str) -> bool {
-    let mut signs = text.chars().skip(1);
-    signs.next() == Some('\\') || signs.next() == Some('\'')
-}
-
-/// How long a text in quotes is, with them.
-fn quoted(text: &str, quote: char) -> usize {
-    let mut escaped = false;
-    for (at, sign) in text.char_indices().skip(1) {
-        if sign == quote && !escaped {
-            return at + 1;
-        }
-        escaped = sign == '\\' && !escaped;
+/// How long a text is up to the sign that closes it, by the lengths of the pieces inside.
+fn closed(text: &str, closing: &[char], piece: fn(&str) -> usize) -> usize {
+    let mut at = 1;
+    while !text[at..].is_empty() && !text[at..].starts_with(closing) {
+        at += piece(&text[at..]);
     }
-    text.len()
+    text.len().min(at + 1)
 }
 
-/// Where the pieces go on after the bracket that closes the first one from a place on.
-pub fn after_group(pieces: &[&str], from: usize) -> usize {
-    let mut depth = 0;
-    for (at, piece) in pieces.iter().enumerate().skip(from) {
-        depth += depth_of(piece);
-        if depth == 0 && matches!(*piece, "}" | ")" | "]") {
-            return at + 1;
-        }
-    }
-    pieces.len()
-}
-
-/// Where they go on after the first semicolon or comma outside of brackets.
-pub fn after_item(pieces: &[&str], from: usize) -> usize {
-    let mut depth = 0;
-    for (at, piece) in pieces.iter().enumerate().skip(from) {
-        depth += depth_of(piece);
-        if depth == 0 && matches!(*piece, ";" | ",") {
-            return at + 1;
-        }
-    }
-    pieces.len()
-}
-
-/// What a piece adds to the depth of brackets.
-pub fn depth_of(piece: &str) -> i32 {
-    match piece {
-        "{" | "(" | "[" => 1,
-        "}" | ")" | "]" => -1,
-        _ => 0,
-    }
+/// How long a sign in quotes is, with the one that it escapes.
+fn escaped(text: &str) -> usize {
+    let signs = if text.starts_with('\\') { 2 } else { 1 };
+    text.chars().take(signs).map(char::len_utf8).sum()
 }

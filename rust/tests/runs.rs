@@ -12,6 +12,7 @@ use filter::{FilterFault, filter_run};
 use interval::{IntervalFault, interval_run};
 use memory::Global;
 use poly::{PolyFault, poly_run};
+use zugyelmas::*;
 
 #[test]
 fn the_examples_answer_as_stated() {

@@ -4,13 +4,15 @@
 #[allow(dead_code)]
 mod script;
 
-use script::conditions::{When, condition_of};
-use script::erasing::{Clauses, Reading, erased};
+use script::conditions::condition_of;
+use script::erasing::Erasing;
 use script::handles::without_runtime;
 use script::pieces::pieces;
 
 fn library(source: &str) -> Result<String, String> {
-    erased(source, Reading::Library, &mut Clauses::new())
+    let mut erasing = Erasing::default();
+    erasing.is_library = true;
+    erasing.erased(source)
 }
 
 /// The source read as one of a library, where no clause is unknown.
@@ -193,7 +195,7 @@ pub fn div<T: Word>(a: T, b: T, frac: u32) -> T {
         !private.contains("assert") && !private.contains("Panics"),
         "{private}"
     );
-    let inside = erased(source, Reading::Inside, &mut Clauses::new()).unwrap();
+    let inside = Erasing::default().erased(source).unwrap();
     assert!(
         !inside.contains("assert") && !inside.contains("Panics"),
         "{inside}"
@@ -270,15 +272,27 @@ fn a_condition_that_nothing_sees() {
 }
 
 #[test]
+fn what_belongs_to_no_function() {
+    let member = "impl Neg for S {\n    ghost can_neg = { λ a. a };\n}\n";
+    let error = "a clause of no function: can_neg = { λ a. a }";
+    assert_eq!(library(member), Err(error.to_string()));
+    let unended = "fn f() -> u8 { 1 } // one\npub fn g() {}\n";
+    let error = "a function without an end above pub fn g() {}";
+    assert_eq!(library(unended), Err(error.to_string()));
+    let modified = "pub const fn f(x: u8)\n    requires { x ≡ 7 }\n{}\n";
+    assert!(library(modified).is_err());
+}
+
+#[test]
 fn forms_of_clauses() {
     let fraction = condition_of("G ≤ T.BITS", false).unwrap();
     assert_eq!(
-        (fraction.when, fraction.test.as_str()),
-        (When::Always, "G <= T::BITS")
+        (fraction.asserting, fraction.test.as_str()),
+        ("assert", "G <= T::BITS")
     );
     let fits = "InRange T.SIGNED T.BITS (exact_neg (T.value a))";
-    assert_eq!(condition_of(fits, false).unwrap().when, When::Debugging);
-    assert_eq!(condition_of(fits, true).unwrap().when, When::Always);
+    assert_eq!(condition_of(fits, false).unwrap().asserting, "debug_assert");
+    assert_eq!(condition_of(fits, true).unwrap().asserting, "assert");
     assert!(condition_of("F + G ≤ T.BITS", false).is_err());
     assert!(condition_of(" ≤ T.BITS", false).is_err());
 }
