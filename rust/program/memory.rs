@@ -76,6 +76,10 @@ impl<T> Vec<T> {
         Ok(())
     }
 
+    pub fn truncate(&mut self, length: usize) {
+        self.held.truncate(length);
+    }
+
     pub fn clear(&mut self) {
         self.held.clear();
     }

@@ -6,3 +6,4 @@ pub mod Reading
 pub mod Stepping
 pub mod Groups
 pub mod Spelling
+pub mod Signed

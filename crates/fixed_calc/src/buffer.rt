@@ -4,11 +4,11 @@ ghost use Rattle.std.specs.Prelude.{◌≡◌, ◌+◌, ◌++◌, ◌≤◌, [],
 ghost use Rattle.fixed_calc.specs.inside.Buffers.{Buffered};
 ghost use Rattle.fixed_calc.specs.Answers.{answer_text};
 
-use crate::answer::{Answer, push_answer};
+use crate::answer::{Answer, SPARE, push_answer};
 use std::alloc::{AllocError, Global};
 use std::marker::Model;
 
-/// Bytes, with room for a fixed number of them.
+/// Bytes, with room for a fixed number of them, and spare room behind it.
 #[derive(Drop)]
 pub(crate) struct Buffer {
     held: Vec<u8>,
@@ -16,7 +16,7 @@ pub(crate) struct Buffer {
 }
 
 impl Model for Buffer {
-    ghost use Rattle.std.specs.Prelude.{◌≤◌};
+    ghost use Rattle.std.specs.Prelude.{◌+◌, ◌≤◌};
     ghost use Rattle.std.specs.Vec.{vec_capacity};
     ghost use Rattle.fixed_calc.specs.inside.Buffers.{Buffered};
 
@@ -24,7 +24,7 @@ impl Model for Buffer {
 
     ghost view = { λ b. record { bytes = b.held.items; room = b.most } };
 
-    ghost invariant = { λ b. b.most ≤ vec_capacity b.held };
+    ghost invariant = { λ b. b.most + 32 ≤ vec_capacity b.held };
 }
 
 impl Buffer {
@@ -32,8 +32,13 @@ impl Buffer {
     pub(crate) fn with_room(alloc: Global, room: usize) -> Result<Self, AllocError>
         ensures { IfOk result (λ b. b ≡ record { bytes = []; room = room }) }
     {
-        let held = Vec::with_capacity(alloc, room)?;
-        Ok(Buffer { held, most: room })
+        match room.checked_add(SPARE) {
+            Some(total) => Ok(Buffer {
+                held: Vec::with_capacity(alloc, total)?,
+                most: room,
+            }),
+            None => Err(AllocError),
+        }
     }
 
     /// For how many bytes there is room.
