@@ -19,12 +19,12 @@ side_number Above = pos 1
 side_number Below = neg_ℤ (pos 1)
 
 -- a row, or the code where it is undefined
-abbrev pub row_or : Code → Option ℤ → Result ℤ Code
+unfoldable pub row_or : Code → Option ℤ → Result ℤ Code
 row_or code None = Err code
 row_or code (Some x) = Ok x
 
 -- the same for a fraction f that is at most the width n
-abbrev pub at_fraction : ℕ → ℕ → Result ℤ Code → Result ℤ Code
+unfoldable pub at_fraction : ℕ → ℕ → Result ℤ Code → Result ℤ Code
 at_fraction n f answer = if nat_le f n then answer else Err FractionPastWidth
 
 -- what a call leaves in the two fields of its result
@@ -32,6 +32,6 @@ abbrev pub Left : Type 0 → Type 0
 Left T = T × ℤ
 
 -- the call returns 0 and leaves what stands for the number, or returns the code and leaves the result as it was
-abbrev pub CallAnswers : {T : Type 0} (value : T → ℤ) (signed : Bool) (n : ℕ) → Result ℤ Code → Left T → Left T → ℤ → Type 0
+unfoldable pub CallAnswers : {T : Type 0} (value : T → ℤ) (signed : Bool) (n : ℕ) → Result ℤ Code → Left T → Left T → ℤ → Type 0
 CallAnswers value signed n (Ok x) old new code = (code ≡ pos 0) × (value new.0 ≡ wrap signed n x) × (new.1 ≡ side_number (side_of signed n x))
 CallAnswers value signed n (Err refusal) old new code = (code ≡ code_number refusal) × (new ≡ old)

@@ -1,5 +1,5 @@
 -- What each word's calls answer.
-use Rattle.std.specs.Prelude.{ℤ, Bool, true, false, pos, Result}
+use Rattle.std.specs.Prelude.{ℤ, true, false, pos, Result}
 use Rattle.fixed_c.specs.declared.answer.Code.{Code}
 use Rattle.fixed_c.specs.declared.answer.AnswerI8.{AnswerI8}
 use Rattle.fixed_c.specs.declared.answer.AnswerI16.{AnswerI16}

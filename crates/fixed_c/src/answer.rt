@@ -125,6 +125,7 @@ fn side_of(side: Side) -> i32
 
 /// Leaves the outcome, and returns 0.
 #[inline]
+#[tactic(auto, unfolding(crate::specs::Answers::CallAnswers))]
 pub(crate) fn leave<T: Word>(outcome: Outcome<T>, bits: &mut T, side: &mut i32) -> i32
     ensures { (x : ℤ) → StandsFor T.value T.SIGNED T.BITS x outcome
         → CallAnswers T.value T.SIGNED T.BITS (Ok x) (bits.old, side.old) (bits.new, side.new) result }

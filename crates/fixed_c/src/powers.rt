@@ -1,4 +1,5 @@
 //! Square roots and powers of two.
+#![tactic(auto, unfolding(crate::specs::Answers::CallAnswers, crate::specs::Answers::at_fraction, crate::specs::Answers::row_or))]
 
 ghost use Rattle.std.specs.Prelude.{◌≡◌, Ok};
 ghost use Rattle.fixed_kernel.specs.Rows.{exact_next_power_of_two, row_sqrt};

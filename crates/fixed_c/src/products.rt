@@ -1,4 +1,5 @@
 //! Products, rounded down.
+#![tactic(auto, unfolding(crate::specs::Answers::CallAnswers, crate::specs::Answers::at_fraction))]
 
 ghost use Rattle.std.specs.Prelude.{◌≡◌, Ok};
 ghost use Rattle.fixed_kernel.specs.Rows.{exact_add_prod, exact_mul, exact_mul_add, exact_mul_int};
@@ -64,7 +65,8 @@ pub(crate) fn add_prod<T: Word>(
     side: &mut i32,
 ) -> i32
     ensures { CallAnswers T.value T.SIGNED T.BITS
-        (at_fraction T.BITS c_frac (at_fraction T.BITS a_frac (at_fraction T.BITS b_frac (Ok (exact_add_prod (T.value c) (T.value a) (T.value b) c_frac a_frac b_frac)))))
+        (at_fraction T.BITS c_frac (at_fraction T.BITS a_frac (at_fraction T.BITS b_frac
+        (Ok (exact_add_prod (T.value c) (T.value a) (T.value b) c_frac a_frac b_frac)))))
         (bits.old, side.old) (bits.new, side.new) result }
 {
     if c_frac > T::BITS || a_frac > T::BITS || b_frac > T::BITS {

@@ -1,4 +1,5 @@
 //! Quotients, rounded toward zero, and Euclidean quotients.
+#![tactic(auto, unfolding(crate::specs::Answers::CallAnswers, crate::specs::Answers::at_fraction, crate::specs::Answers::row_or))]
 
 ghost use Rattle.std.specs.Prelude.{◌≡◌};
 ghost use Rattle.fixed_kernel.specs.Rows.{row_div, row_div_euclid, row_div_euclid_int, row_div_int, row_recip};

@@ -1,4 +1,5 @@
 //! Remainders and multiples.
+#![tactic(auto, unfolding(crate::specs::Answers::CallAnswers, crate::specs::Answers::at_fraction, crate::specs::Answers::row_or))]
 
 ghost use Rattle.std.specs.Prelude.{◌≡◌};
 ghost use Rattle.fixed_kernel.specs.Rows.{row_next_multiple_of, row_rem, row_rem_euclid, row_rem_euclid_int, row_rem_int};

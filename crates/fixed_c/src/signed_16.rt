@@ -102,7 +102,8 @@ pub extern "C" fn fixed_i16_add_prod(
     answer: &mut AnswerI16,
 ) -> i32
     ensures { AnswersI16
-        (at_fraction 16 c_frac (at_fraction 16 a_frac (at_fraction 16 b_frac (Ok (exact_add_prod c a b c_frac a_frac b_frac)))))
+        (at_fraction 16 c_frac (at_fraction 16 a_frac (at_fraction 16 b_frac
+        (Ok (exact_add_prod c a b c_frac a_frac b_frac)))))
         answer.old answer.new result }
 {
     products::add_prod(

@@ -102,7 +102,8 @@ pub extern "C" fn fixed_i32_add_prod(
     answer: &mut AnswerI32,
 ) -> i32
     ensures { AnswersI32
-        (at_fraction 32 c_frac (at_fraction 32 a_frac (at_fraction 32 b_frac (Ok (exact_add_prod c a b c_frac a_frac b_frac)))))
+        (at_fraction 32 c_frac (at_fraction 32 a_frac (at_fraction 32 b_frac
+        (Ok (exact_add_prod c a b c_frac a_frac b_frac)))))
         answer.old answer.new result }
 {
     products::add_prod(

@@ -102,7 +102,8 @@ pub extern "C" fn fixed_i64_add_prod(
     answer: &mut AnswerI64,
 ) -> i32
     ensures { AnswersI64
-        (at_fraction 64 c_frac (at_fraction 64 a_frac (at_fraction 64 b_frac (Ok (exact_add_prod c a b c_frac a_frac b_frac)))))
+        (at_fraction 64 c_frac (at_fraction 64 a_frac (at_fraction 64 b_frac
+        (Ok (exact_add_prod c a b c_frac a_frac b_frac)))))
         answer.old answer.new result }
 {
     products::add_prod(

@@ -102,7 +102,8 @@ pub extern "C" fn fixed_i8_add_prod(
     answer: &mut AnswerI8,
 ) -> i32
     ensures { AnswersI8
-        (at_fraction 8 c_frac (at_fraction 8 a_frac (at_fraction 8 b_frac (Ok (exact_add_prod c a b c_frac a_frac b_frac)))))
+        (at_fraction 8 c_frac (at_fraction 8 a_frac (at_fraction 8 b_frac
+        (Ok (exact_add_prod c a b c_frac a_frac b_frac)))))
         answer.old answer.new result }
 {
     products::add_prod(

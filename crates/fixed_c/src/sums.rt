@@ -1,4 +1,5 @@
 //! Sums, differences, magnitudes and signs.
+#![tactic(auto, unfolding(crate::specs::Answers::CallAnswers, crate::specs::Answers::at_fraction))]
 
 ghost use Rattle.std.specs.Prelude.{◌≡◌, Ok};
 ghost use Rattle.fixed_kernel.specs.Rows.{exact_abs, exact_add, exact_dist, exact_neg, exact_signum, exact_sub};

@@ -86,7 +86,8 @@ pub extern "C" fn fixed_u32_add_prod(
     answer: &mut AnswerU32,
 ) -> i32
     ensures { AnswersU32
-        (at_fraction 32 c_frac (at_fraction 32 a_frac (at_fraction 32 b_frac (Ok (exact_add_prod (pos c) (pos a) (pos b) c_frac a_frac b_frac)))))
+        (at_fraction 32 c_frac (at_fraction 32 a_frac (at_fraction 32 b_frac
+        (Ok (exact_add_prod (pos c) (pos a) (pos b) c_frac a_frac b_frac)))))
         answer.old answer.new result }
 {
     products::add_prod(

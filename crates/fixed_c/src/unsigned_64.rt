@@ -86,7 +86,8 @@ pub extern "C" fn fixed_u64_add_prod(
     answer: &mut AnswerU64,
 ) -> i32
     ensures { AnswersU64
-        (at_fraction 64 c_frac (at_fraction 64 a_frac (at_fraction 64 b_frac (Ok (exact_add_prod (pos c) (pos a) (pos b) c_frac a_frac b_frac)))))
+        (at_fraction 64 c_frac (at_fraction 64 a_frac (at_fraction 64 b_frac
+        (Ok (exact_add_prod (pos c) (pos a) (pos b) c_frac a_frac b_frac)))))
         answer.old answer.new result }
 {
     products::add_prod(
