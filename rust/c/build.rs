@@ -20,7 +20,10 @@ fn main() {
 
 fn write() -> Result<(), String> {
     let crates = PathBuf::from(variable("CARGO_MANIFEST_DIR")?).join("../../crates");
-    println!("cargo::rerun-if-changed={}", crates.join("fixed_c/src").display());
+    println!(
+        "cargo::rerun-if-changed={}",
+        crates.join("fixed_c/src").display()
+    );
     println!("cargo::rerun-if-changed=../script");
     println!("cargo::rerun-if-changed=build.rs");
     let named = |name: &str| (format!("fixed_{name}"), format!("zugyelmas::{name}"));

@@ -6,7 +6,7 @@ ghost use Rattle.fixed_c.specs.Answers.{CallAnswers, code_number, side_number};
 
 use fixed_word::{Outcome, Side, Word};
 
-/// Why a call has no result (this project's own).
+/// Why a call has no result.
 #[derive(Clone, Copy, PartialEq, Eq, Debug)]
 pub enum Code {
     /// A fraction is past the width of the word.
@@ -17,7 +17,7 @@ pub enum Code {
     NegativeRoot,
 }
 
-/// What a call of `i8` leaves where its code is 0 (this project's own).
+/// What a call of `i8` leaves where its code is 0.
 #[repr(C)]
 #[derive(Clone, Copy)]
 pub struct AnswerI8 {
@@ -27,7 +27,7 @@ pub struct AnswerI8 {
     pub side: i32,
 }
 
-/// What a call of `i16` leaves where its code is 0 (this project's own).
+/// What a call of `i16` leaves where its code is 0.
 #[repr(C)]
 #[derive(Clone, Copy)]
 pub struct AnswerI16 {
@@ -37,7 +37,7 @@ pub struct AnswerI16 {
     pub side: i32,
 }
 
-/// What a call of `i32` leaves where its code is 0 (this project's own).
+/// What a call of `i32` leaves where its code is 0.
 #[repr(C)]
 #[derive(Clone, Copy)]
 pub struct AnswerI32 {
@@ -47,7 +47,7 @@ pub struct AnswerI32 {
     pub side: i32,
 }
 
-/// What a call of `i64` leaves where its code is 0 (this project's own).
+/// What a call of `i64` leaves where its code is 0.
 #[repr(C)]
 #[derive(Clone, Copy)]
 pub struct AnswerI64 {
@@ -57,7 +57,7 @@ pub struct AnswerI64 {
     pub side: i32,
 }
 
-/// What a call of `u8` leaves where its code is 0 (this project's own).
+/// What a call of `u8` leaves where its code is 0.
 #[repr(C)]
 #[derive(Clone, Copy)]
 pub struct AnswerU8 {
@@ -67,7 +67,7 @@ pub struct AnswerU8 {
     pub side: i32,
 }
 
-/// What a call of `u16` leaves where its code is 0 (this project's own).
+/// What a call of `u16` leaves where its code is 0.
 #[repr(C)]
 #[derive(Clone, Copy)]
 pub struct AnswerU16 {
@@ -77,7 +77,7 @@ pub struct AnswerU16 {
     pub side: i32,
 }
 
-/// What a call of `u32` leaves where its code is 0 (this project's own).
+/// What a call of `u32` leaves where its code is 0.
 #[repr(C)]
 #[derive(Clone, Copy)]
 pub struct AnswerU32 {
@@ -87,7 +87,7 @@ pub struct AnswerU32 {
     pub side: i32,
 }
 
-/// What a call of `u64` leaves where its code is 0 (this project's own).
+/// What a call of `u64` leaves where its code is 0.
 #[repr(C)]
 #[derive(Clone, Copy)]
 pub struct AnswerU64 {
@@ -116,10 +116,12 @@ impl Code {
 fn side_of(side: Side) -> i32
     ensures { result ≡ side_number side }
 {
-    match side {
-        Side::Fits => 0,
-        Side::Above => 1,
-        Side::Below => -1,
+    if side == Side::Fits {
+        0
+    } else if side == Side::Above {
+        1
+    } else {
+        -1
     }
 }
 

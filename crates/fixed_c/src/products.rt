@@ -1,13 +1,14 @@
 //! Products, rounded down.
 #![tactic(auto, unfolding(crate::specs::Answers::CallAnswers, crate::specs::Answers::at_fraction))]
 
-ghost use Rattle.std.specs.Prelude.{◌≡◌, Ok};
+ghost use Rattle.std.specs.Prelude.{◌≡◌, ◌≤◌, Ok};
+ghost use Rattle.fixed_word.specs.Standing.{StandsFor};
 ghost use Rattle.fixed_kernel.specs.Rows.{exact_add_prod, exact_mul, exact_mul_add, exact_mul_int};
 ghost use Rattle.fixed_c.specs.Answers.{CallAnswers, at_fraction};
 
 use crate::answer::{Code, leave};
 use fixed_kernel::{add_prod_of, mul_add_of, mul_int_of, mul_of};
-use fixed_word::Word;
+use fixed_word::{Outcome, Word};
 
 /// `a b / 2^frac`, rounded down.
 #[inline]
@@ -72,5 +73,25 @@ pub(crate) fn add_prod<T: Word>(
     if c_frac > T::BITS || a_frac > T::BITS || b_frac > T::BITS {
         return Code::FractionPastWidth.number();
     }
-    leave(add_prod_of(c, a, b, c_frac, a_frac, b_frac), bits, side)
+    let outcome = sum_of_product(c, a, b, c_frac, a_frac, b_frac);
+    leave(outcome, bits, side)
+}
+
+/// The outcome of a sum of a product. Products that move down by at most the width, as they mostly do, move in one
+/// shift.
+#[inline]
+#[tactic(auto, using(crate::proofs::Moved::moved_down))]
+fn sum_of_product<T: Word>(c: T, a: T, b: T, c_frac: u32, a_frac: u32, b_frac: u32) -> Outcome<T>
+    requires c_frac { c_frac ≤ T.BITS }
+    requires a_frac { a_frac ≤ T.BITS }
+    requires b_frac { b_frac ≤ T.BITS }
+    ensures { StandsFor T.value T.SIGNED T.BITS
+        (exact_add_prod (T.value c) (T.value a) (T.value b) c_frac a_frac b_frac) result }
+{
+    let both = a_frac + b_frac;
+    if c_frac <= both && both - c_frac <= T::BITS {
+        mul_add_of(a, b, c, both - c_frac)
+    } else {
+        add_prod_of(c, a, b, c_frac, a_frac, b_frac)
+    }
 }
