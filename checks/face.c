@@ -1,0 +1,191 @@
+/* Every pair of operands of 8 bits, for each operation of the face for C at three fractions, against a plain
+ * computation in 64 bits; bad fractions, zero divisors and negative roots by their codes. From the top:
+ *
+ *     cc -O2 -Wall -Wextra -Iinclude -o /tmp/face checks/face.c LIBRARY && /tmp/face
+ *
+ * LIBRARY is crates/fixed_c/out/libfixed_c.a, which `rt lib` in crates/fixed_c makes, or target/release/libfixed_c.a
+ * of the Cargo package in rust/c. */
+#include "fixed.h"
+#include <stdio.h>
+
+static long compared;
+
+/* A code, or a number without a bound. */
+struct exact {
+  int32_t code;
+  int64_t number;
+};
+
+static struct exact number(int64_t x) {
+  struct exact e = {FIXED_OK, x};
+  return e;
+}
+
+static struct exact code(int32_t c) {
+  struct exact e = {c, 0};
+  return e;
+}
+
+/* What a number is without the multiples of 256 that lead past the word. */
+static int64_t wrapped(int64_t x, int64_t least, int64_t greatest) {
+  x %= 256;
+  if (x < least) x += 256;
+  return x > greatest ? x - 256 : x;
+}
+
+static void compare(const char *call, struct exact want, int32_t got, int64_t bits, int32_t side, int64_t least,
+                    int64_t greatest) {
+  int64_t want_bits = 77;
+  int32_t want_side = 99;
+  if (want.code == FIXED_OK) {
+    want_bits = wrapped(want.number, least, greatest);
+    want_side = want.number < least ? FIXED_BELOW : want.number > greatest ? FIXED_ABOVE : FIXED_FITS;
+  }
+  compared++;
+  if (got != want.code || bits != want_bits || side != want_side) {
+    printf("%s: code %d, bits %lld, side %d, but by plain C %d, %lld, %d\n", call, (int)got, (long long)bits, (int)side,
+           (int)want.code, (long long)want_bits, (int)want_side);
+    exit(1);
+  }
+}
+
+static int64_t magnitude(int64_t x) { return x < 0 ? -x : x; }
+
+static int64_t power(uint32_t places) { return (int64_t)1 << places; }
+
+static int64_t floor_of(int64_t x, int64_t d) { return x / d - (x % d < 0); }
+
+/* The Euclidean remainder, and its quotient. */
+static int64_t least_rest(int64_t x, int64_t d) {
+  int64_t rest = x % d;
+  return rest < 0 ? rest + magnitude(d) : rest;
+}
+
+static int64_t euclid(int64_t x, int64_t d) { return (x - least_rest(x, d)) / d; }
+
+static struct exact multiple(int64_t a, int64_t b) {
+  int64_t x = a;
+  while (x % b != 0) x += b < 0 ? -1 : 1;
+  return number(x);
+}
+
+static struct exact root(int64_t a, uint32_t frac) {
+  int64_t x = 0;
+  if (a < 0) return code(FIXED_NEGATIVE_ROOT);
+  while ((x + 1) * (x + 1) <= a * power(frac)) x++;
+  return number(x);
+}
+
+static struct exact power_of_two(int64_t a) {
+  int64_t x = 1;
+  while (x < a) x *= 2;
+  return number(x);
+}
+
+static struct exact sum_of_product(int64_t c, int64_t a, int64_t b, int32_t places) {
+  return number(c + (places < 0 ? a * b * power((uint32_t)-places) : floor_of(a * b, power((uint32_t)places))));
+}
+
+/* The fractions that are tried: three, and one past the width. */
+static const uint32_t fractions[] = {0, 5, 8, 9};
+
+#define PAST(f) ((f) > 8)
+#define AT(f, exact) (PAST(f) ? code(FIXED_FRACTION_PAST_WIDTH) : (exact))
+#define BY(d, exact) ((d) == 0 ? code(FIXED_ZERO_DIVISOR) : number(exact))
+
+/* One call, whose result is filled with other numbers before. */
+#define CALL(name, operation, exact, ...)                                                                          \
+  do {                                                                                                             \
+    name result;                                                                                                   \
+    int32_t got;                                                                                                   \
+    result.bits = 77;                                                                                              \
+    result.side = 99;                                                                                              \
+    got = name##_##operation(__VA_ARGS__, &result);                                                                \
+    compare(#name "_" #operation, exact, got, result.bits, result.side, least, greatest);                          \
+  } while (0)
+
+#define CHECK(name, word, from, to, ONE_SIGN)                                                                      \
+  static void check_##name(void) {                                                                                 \
+    const int64_t least = from, greatest = to;                                                                     \
+    const int64_t others[] = {from, from / 2 - 1 < from ? 1 : from / 2 - 1, 0, 3, to};                             \
+    for (int64_t x = least; x <= greatest; x++) {                                                                  \
+      const word a = (word)x;                                                                                      \
+      CALL(name, neg, number(-x), a);                                                                              \
+      for (int i = 0; i < 4; i++) {                                                                                \
+        const uint32_t f = fractions[i];                                                                           \
+        CALL(name, recip, AT(f, BY(x, power(2 * f) / x)), a, f);                                                   \
+        CALL(name, sqrt, AT(f, root(x, f)), a, f);                                                                 \
+      }                                                                                                            \
+      ONE_SIGN                                                                                                     \
+      for (int64_t y = least; y <= greatest; y++) {                                                                \
+        const word b = (word)y;                                                                                    \
+        CALL(name, add, number(x + y), a, b);                                                                      \
+        CALL(name, sub, number(x - y), a, b);                                                                      \
+        CALL(name, dist, number(magnitude(x - y)), a, b);                                                          \
+        CALL(name, mul_int, number(x * y), a, b);                                                                  \
+        CALL(name, div_int, BY(y, x / y), a, b);                                                                   \
+        CALL(name, rem, BY(y, x % y), a, b);                                                                       \
+        CALL(name, rem_euclid, BY(y, least_rest(x, y)), a, b);                                                     \
+        CALL(name, next_multiple_of, y == 0 ? code(FIXED_ZERO_DIVISOR) : multiple(x, y), a, b);                    \
+        for (int i = 0; i < 4; i++) {                                                                              \
+          const uint32_t f = fractions[i];                                                                         \
+          CALL(name, mul, AT(f, number(floor_of(x * y, power(f)))), a, b, f);                                      \
+          CALL(name, div, AT(f, BY(y, x * power(f) / y)), a, b, f);                                                \
+          CALL(name, div_euclid, AT(f, BY(y, euclid(x, y) * power(f))), a, b, f);                                  \
+          CALL(name, div_euclid_int, AT(f, BY(y, euclid(x, y * power(f)) * power(f))), a, b, f);                   \
+          CALL(name, rem_int, AT(f, BY(y, x % (y * power(f)))), a, b, f);                                          \
+          CALL(name, rem_euclid_int, AT(f, BY(y, least_rest(x, y * power(f)))), a, b, f);                          \
+          for (int k = 0; k < 5; k++) {                                                                            \
+            const int64_t z = others[k];                                                                           \
+            const word c = (word)z;                                                                                \
+            CALL(name, mul_add, AT(f, number(floor_of(x * y, power(f)) + z)), a, b, c, f);                         \
+            for (int g = 0; g < 4; g++)                                                                            \
+              for (int h = 0; h < 4; h++) {                                                                        \
+                const uint32_t af = fractions[g], bf = fractions[h];                                               \
+                CALL(name, add_prod,                                                                               \
+                     PAST(f) || PAST(af) || PAST(bf) ? code(FIXED_FRACTION_PAST_WIDTH)                             \
+                                                     : sum_of_product(z, x, y, (int32_t)(af + bf) - (int32_t)f),   \
+                     c, a, b, f, af, bf);                                                                          \
+              }                                                                                                    \
+          }                                                                                                        \
+        }                                                                                                          \
+      }                                                                                                            \
+    }                                                                                                              \
+    check_policies_##name();                                                                                       \
+  }
+
+/* What the policies make of results on each side. */
+#define POLICIES(name, word, from, to)                                                                             \
+  static void check_policies_##name(void) {                                                                        \
+    const name fits = {5, FIXED_FITS}, above = {6, FIXED_ABOVE}, below = {7, FIXED_BELOW};                         \
+    word x = 9;                                                                                                    \
+    int good = name##_checked(fits, &x) && x == 5;                                                                 \
+    x = 9;                                                                                                         \
+    good = good && !name##_checked(above, &x) && !name##_checked(below, &x) && x == 9;                             \
+    good = good && name##_saturating(fits) == 5 && name##_saturating(above) == to;                                 \
+    good = good && name##_saturating(below) == from && name##_strict(fits) == 5;                                   \
+    good = good && name##_wrapping(fits) == 5 && name##_wrapping(above) == 6 && name##_wrapping(below) == 7;       \
+    good = good && !name##_overflowing(fits, &x) && x == 5 && name##_overflowing(above, &x) && x == 6;             \
+    if (!good || !name##_overflowing(below, &x) || x != 7) {                                                       \
+      printf(#name ": a policy answers otherwise\n");                                                              \
+      exit(1);                                                                                                     \
+    }                                                                                                              \
+  }
+
+POLICIES(fixed_i8, int8_t, INT8_MIN, INT8_MAX)
+POLICIES(fixed_u8, uint8_t, 0, UINT8_MAX)
+
+CHECK(fixed_i8, int8_t, INT8_MIN, INT8_MAX,
+      CALL(fixed_i8, abs, number(magnitude(x)), a);
+      for (int i = 0; i < 4; i++) {
+        const uint32_t f = fractions[i];
+        CALL(fixed_i8, signum, AT(f, number(x < 0 ? -power(f) : x > 0 ? power(f) : 0)), a, f);
+      })
+CHECK(fixed_u8, uint8_t, 0, UINT8_MAX, CALL(fixed_u8, next_power_of_two, power_of_two(x), a);)
+
+int main(void) {
+  check_fixed_i8();
+  check_fixed_u8();
+  printf("%ld calls answer as plain C does\n", compared);
+  return 0;
+}

@@ -1,0 +1,97 @@
+//! Products, rounded down.
+#![tactic(auto, unfolding(crate::specs::Answers::CallAnswers, crate::specs::Answers::at_fraction))]
+
+ghost use Rattle.std.specs.Prelude.{◌≡◌, ◌≤◌, Ok};
+ghost use Rattle.fixed_word.specs.Standing.{StandsFor};
+ghost use Rattle.fixed_kernel.specs.Rows.{exact_add_prod, exact_mul, exact_mul_add, exact_mul_int};
+ghost use Rattle.fixed_c.specs.Answers.{CallAnswers, at_fraction};
+
+use crate::answer::{Code, leave};
+use fixed_kernel::{add_prod_of, mul_add_of, mul_int_of, mul_of};
+use fixed_word::{Outcome, Word};
+
+/// `a b / 2^frac`, rounded down.
+#[inline]
+pub(crate) fn mul<T: Word>(a: T, b: T, frac: u32, bits: &mut T, side: &mut i32) -> i32
+    ensures { CallAnswers T.value T.SIGNED T.BITS
+        (at_fraction T.BITS frac (Ok (exact_mul (T.value a) (T.value b) frac)))
+        (bits.old, side.old) (bits.new, side.new) result }
+{
+    if frac > T::BITS {
+        return Code::FractionPastWidth.number();
+    }
+    leave(mul_of(a, b, frac), bits, side)
+}
+
+/// `a k`, for an integer `k`.
+#[inline]
+pub(crate) fn mul_int<T: Word>(a: T, k: T, bits: &mut T, side: &mut i32) -> i32
+    ensures { CallAnswers T.value T.SIGNED T.BITS
+        (Ok (exact_mul_int (T.value a) (T.value k))) (bits.old, side.old) (bits.new, side.new) result }
+{
+    leave(mul_int_of(a, k), bits, side)
+}
+
+/// `a mul / 2^mul_frac`, rounded down, plus `add`.
+#[inline]
+pub(crate) fn mul_add<T: Word>(
+    a: T,
+    mul: T,
+    add: T,
+    mul_frac: u32,
+    bits: &mut T,
+    side: &mut i32,
+) -> i32
+    ensures { CallAnswers T.value T.SIGNED T.BITS
+        (at_fraction T.BITS mul_frac (Ok (exact_mul_add (T.value a) (T.value mul) (T.value add) mul_frac)))
+        (bits.old, side.old) (bits.new, side.new) result }
+{
+    if mul_frac > T::BITS {
+        return Code::FractionPastWidth.number();
+    }
+    leave(mul_add_of(a, mul, add, mul_frac), bits, side)
+}
+
+/// `c` plus the product of `a` and `b`, each of a fraction of its own; the product is brought to that of `c` and
+/// rounded down.
+#[inline]
+pub(crate) fn add_prod<T: Word>(
+    c: T,
+    a: T,
+    b: T,
+    c_frac: u32,
+    a_frac: u32,
+    b_frac: u32,
+    bits: &mut T,
+    side: &mut i32,
+) -> i32
+    ensures { CallAnswers T.value T.SIGNED T.BITS
+        (at_fraction T.BITS c_frac (at_fraction T.BITS a_frac (at_fraction T.BITS b_frac
+        (Ok (exact_add_prod (T.value c) (T.value a) (T.value b) c_frac a_frac b_frac)))))
+        (bits.old, side.old) (bits.new, side.new) result }
+{
+    if c_frac > T::BITS || a_frac > T::BITS || b_frac > T::BITS {
+        return Code::FractionPastWidth.number();
+    }
+    let outcome = sum_of_product(c, a, b, c_frac, a_frac, b_frac);
+    leave(outcome, bits, side)
+}
+
+/// The outcome of a sum of a product. Products that move down by at most the width, as they mostly do, move in one
+/// shift.
+#[inline]
+#[tactic(auto, using(crate::proofs::Moved::moved_down))]
+fn sum_of_product<T: Word>(c: T, a: T, b: T, c_frac: u32, a_frac: u32, b_frac: u32) -> Outcome<T>
+    requires c_frac { c_frac ≤ T.BITS }
+    requires a_frac { a_frac ≤ T.BITS }
+    requires b_frac { b_frac ≤ T.BITS }
+    ensures { StandsFor T.value T.SIGNED T.BITS
+        (exact_add_prod (T.value c) (T.value a) (T.value b) c_frac a_frac b_frac) result }
+{
+    let both = a_frac + b_frac;
+    if c_frac <= both && both - c_frac <= T::BITS {
+        mul_add_of(a, b, c, both - c_frac)
+    } else {
+        add_prod_of(c, a, b, c_frac, a_frac, b_frac)
+    }
+}

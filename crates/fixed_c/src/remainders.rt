@@ -1,0 +1,82 @@
+//! Remainders and multiples.
+#![tactic(auto, unfolding(crate::specs::Answers::CallAnswers, crate::specs::Answers::at_fraction, crate::specs::Answers::row_or))]
+
+ghost use Rattle.std.specs.Prelude.{◌≡◌};
+ghost use Rattle.fixed_kernel.specs.Rows.{row_next_multiple_of, row_rem, row_rem_euclid, row_rem_euclid_int, row_rem_int};
+ghost use Rattle.fixed_c.specs.declared.answer.Code.TheVariants.{ZeroDivisor};
+ghost use Rattle.fixed_c.specs.Answers.{CallAnswers, at_fraction, row_or};
+
+use crate::answer::{Code, leave};
+use fixed_kernel::{next_multiple_of_of, rem_euclid_int_of, rem_euclid_of, rem_int_of, rem_of};
+use fixed_word::Word;
+
+/// `a - b q`, with the quotient q of `a` and `b` rounded toward zero.
+#[inline]
+pub(crate) fn rem<T: Word>(a: T, b: T, bits: &mut T, side: &mut i32) -> i32
+    ensures { CallAnswers T.value T.SIGNED T.BITS
+        (row_or ZeroDivisor (row_rem (T.value a) (T.value b))) (bits.old, side.old) (bits.new, side.new) result }
+{
+    if b == T::ZERO {
+        return Code::ZeroDivisor.number();
+    }
+    leave(rem_of(a, b), bits, side)
+}
+
+/// `a - d q` for `d = k 2^frac`, with the quotient q of `a` and d rounded toward zero.
+#[inline]
+pub(crate) fn rem_int<T: Word>(a: T, k: T, frac: u32, bits: &mut T, side: &mut i32) -> i32
+    ensures { CallAnswers T.value T.SIGNED T.BITS
+        (at_fraction T.BITS frac (row_or ZeroDivisor (row_rem_int (T.value a) (T.value k) frac)))
+        (bits.old, side.old) (bits.new, side.new) result }
+{
+    if frac > T::BITS {
+        return Code::FractionPastWidth.number();
+    }
+    if k == T::ZERO {
+        return Code::ZeroDivisor.number();
+    }
+    leave(rem_int_of(a, k, frac), bits, side)
+}
+
+/// The remainder of the Euclidean pair of `a` and `b`.
+#[inline]
+pub(crate) fn rem_euclid<T: Word>(a: T, b: T, bits: &mut T, side: &mut i32) -> i32
+    ensures { CallAnswers T.value T.SIGNED T.BITS
+        (row_or ZeroDivisor (row_rem_euclid (T.value a) (T.value b)))
+        (bits.old, side.old) (bits.new, side.new) result }
+{
+    if b == T::ZERO {
+        return Code::ZeroDivisor.number();
+    }
+    leave(rem_euclid_of(a, b), bits, side)
+}
+
+/// The remainder of the Euclidean pair of `a` and `k 2^frac`.
+#[inline]
+pub(crate) fn rem_euclid_int<T: Word>(a: T, k: T, frac: u32, bits: &mut T, side: &mut i32) -> i32
+    ensures { CallAnswers T.value T.SIGNED T.BITS
+        (at_fraction T.BITS frac (row_or ZeroDivisor (row_rem_euclid_int (T.value a) (T.value k) frac)))
+        (bits.old, side.old) (bits.new, side.new) result }
+{
+    if frac > T::BITS {
+        return Code::FractionPastWidth.number();
+    }
+    if k == T::ZERO {
+        return Code::ZeroDivisor.number();
+    }
+    leave(rem_euclid_int_of(a, k, frac), bits, side)
+}
+
+/// The least multiple of `b` that is at least `a` where `b` is above 0, and the greatest that is at most `a`
+/// where `b` is below 0.
+#[inline]
+pub(crate) fn next_multiple_of<T: Word>(a: T, b: T, bits: &mut T, side: &mut i32) -> i32
+    ensures { CallAnswers T.value T.SIGNED T.BITS
+        (row_or ZeroDivisor (row_next_multiple_of (T.value a) (T.value b)))
+        (bits.old, side.old) (bits.new, side.new) result }
+{
+    if b == T::ZERO {
+        return Code::ZeroDivisor.number();
+    }
+    leave(next_multiple_of_of(a, b), bits, side)
+}

@@ -1,0 +1,216 @@
+//! The calls of `i32`.
+
+ghost use Rattle.std.specs.Prelude.{Ok};
+ghost use Rattle.fixed_kernel.specs.Rows.{exact_abs, exact_add, exact_add_prod, exact_dist, exact_mul, exact_mul_add, exact_mul_int, exact_neg, exact_signum, exact_sub, row_div, row_div_euclid, row_div_euclid_int, row_div_int, row_next_multiple_of, row_recip, row_rem, row_rem_euclid, row_rem_euclid_int, row_rem_int, row_sqrt};
+ghost use Rattle.fixed_c.specs.declared.answer.Code.TheVariants.{ZeroDivisor, NegativeRoot};
+ghost use Rattle.fixed_c.specs.Answers.{at_fraction, row_or};
+ghost use Rattle.fixed_c.specs.Words.{AnswersI32};
+
+use crate::answer::AnswerI32;
+use crate::{powers, products, quotients, remainders, sums};
+
+/// `-a`
+#[unsafe(no_mangle)]
+pub extern "C" fn fixed_i32_neg(a: i32, answer: &mut AnswerI32) -> i32
+    ensures { AnswersI32 (Ok (exact_neg a)) answer.old answer.new result }
+{
+    sums::neg(a, &mut answer.bits, &mut answer.side)
+}
+
+/// `a + b`
+#[unsafe(no_mangle)]
+pub extern "C" fn fixed_i32_add(a: i32, b: i32, answer: &mut AnswerI32) -> i32
+    ensures { AnswersI32 (Ok (exact_add a b)) answer.old answer.new result }
+{
+    sums::add(a, b, &mut answer.bits, &mut answer.side)
+}
+
+/// `a - b`
+#[unsafe(no_mangle)]
+pub extern "C" fn fixed_i32_sub(a: i32, b: i32, answer: &mut AnswerI32) -> i32
+    ensures { AnswersI32 (Ok (exact_sub a b)) answer.old answer.new result }
+{
+    sums::sub(a, b, &mut answer.bits, &mut answer.side)
+}
+
+/// The magnitude of `a - b`.
+#[unsafe(no_mangle)]
+pub extern "C" fn fixed_i32_dist(a: i32, b: i32, answer: &mut AnswerI32) -> i32
+    ensures { AnswersI32 (Ok (exact_dist a b)) answer.old answer.new result }
+{
+    sums::dist(a, b, &mut answer.bits, &mut answer.side)
+}
+
+/// The magnitude of `a`.
+#[unsafe(no_mangle)]
+pub extern "C" fn fixed_i32_abs(a: i32, answer: &mut AnswerI32) -> i32
+    ensures { AnswersI32 (Ok (exact_abs a)) answer.old answer.new result }
+{
+    sums::abs(a, &mut answer.bits, &mut answer.side)
+}
+
+/// One by the sign of `a`: `2^frac`, 0 or `-2^frac`.
+#[unsafe(no_mangle)]
+pub extern "C" fn fixed_i32_signum(a: i32, frac: u32, answer: &mut AnswerI32) -> i32
+    ensures { AnswersI32 (at_fraction 32 frac (Ok (exact_signum a frac))) answer.old answer.new result }
+{
+    sums::signum(a, frac, &mut answer.bits, &mut answer.side)
+}
+
+/// `a b / 2^frac`, rounded down.
+#[unsafe(no_mangle)]
+pub extern "C" fn fixed_i32_mul(a: i32, b: i32, frac: u32, answer: &mut AnswerI32) -> i32
+    ensures { AnswersI32 (at_fraction 32 frac (Ok (exact_mul a b frac))) answer.old answer.new result }
+{
+    products::mul(a, b, frac, &mut answer.bits, &mut answer.side)
+}
+
+/// `a k`, for an integer `k`.
+#[unsafe(no_mangle)]
+pub extern "C" fn fixed_i32_mul_int(a: i32, k: i32, answer: &mut AnswerI32) -> i32
+    ensures { AnswersI32 (Ok (exact_mul_int a k)) answer.old answer.new result }
+{
+    products::mul_int(a, k, &mut answer.bits, &mut answer.side)
+}
+
+/// `a mul / 2^mul_frac`, rounded down, plus `add`.
+#[unsafe(no_mangle)]
+pub extern "C" fn fixed_i32_mul_add(
+    a: i32,
+    mul: i32,
+    add: i32,
+    mul_frac: u32,
+    answer: &mut AnswerI32,
+) -> i32
+    ensures { AnswersI32
+        (at_fraction 32 mul_frac (Ok (exact_mul_add a mul add mul_frac)))
+        answer.old answer.new result }
+{
+    products::mul_add(a, mul, add, mul_frac, &mut answer.bits, &mut answer.side)
+}
+
+/// `c` plus the product of `a` and `b`, each of a fraction of its own; the product is brought to that of `c` and
+/// rounded down.
+#[unsafe(no_mangle)]
+pub extern "C" fn fixed_i32_add_prod(
+    c: i32,
+    a: i32,
+    b: i32,
+    c_frac: u32,
+    a_frac: u32,
+    b_frac: u32,
+    answer: &mut AnswerI32,
+) -> i32
+    ensures { AnswersI32
+        (at_fraction 32 c_frac (at_fraction 32 a_frac (at_fraction 32 b_frac
+        (Ok (exact_add_prod c a b c_frac a_frac b_frac)))))
+        answer.old answer.new result }
+{
+    products::add_prod(
+        c,
+        a,
+        b,
+        c_frac,
+        a_frac,
+        b_frac,
+        &mut answer.bits,
+        &mut answer.side,
+    )
+}
+
+/// `a 2^frac / b`, rounded toward zero.
+#[unsafe(no_mangle)]
+pub extern "C" fn fixed_i32_div(a: i32, b: i32, frac: u32, answer: &mut AnswerI32) -> i32
+    ensures { AnswersI32 (at_fraction 32 frac (row_or ZeroDivisor (row_div a b frac))) answer.old answer.new result }
+{
+    quotients::div(a, b, frac, &mut answer.bits, &mut answer.side)
+}
+
+/// `a / k`, rounded toward zero, for an integer `k`.
+#[unsafe(no_mangle)]
+pub extern "C" fn fixed_i32_div_int(a: i32, k: i32, answer: &mut AnswerI32) -> i32
+    ensures { AnswersI32 (row_or ZeroDivisor (row_div_int a k)) answer.old answer.new result }
+{
+    quotients::div_int(a, k, &mut answer.bits, &mut answer.side)
+}
+
+/// `2^(2 frac) / a`, rounded toward zero.
+#[unsafe(no_mangle)]
+pub extern "C" fn fixed_i32_recip(a: i32, frac: u32, answer: &mut AnswerI32) -> i32
+    ensures { AnswersI32 (at_fraction 32 frac (row_or ZeroDivisor (row_recip a frac))) answer.old answer.new result }
+{
+    quotients::recip(a, frac, &mut answer.bits, &mut answer.side)
+}
+
+/// The quotient of the Euclidean pair of `a` and `b`, a whole number, times `2^frac`.
+#[unsafe(no_mangle)]
+pub extern "C" fn fixed_i32_div_euclid(a: i32, b: i32, frac: u32, answer: &mut AnswerI32) -> i32
+    ensures { AnswersI32
+        (at_fraction 32 frac (row_or ZeroDivisor (row_div_euclid a b frac)))
+        answer.old answer.new result }
+{
+    quotients::div_euclid(a, b, frac, &mut answer.bits, &mut answer.side)
+}
+
+/// The quotient of the Euclidean pair of `a` and `k 2^frac`, a whole number, times `2^frac`.
+#[unsafe(no_mangle)]
+pub extern "C" fn fixed_i32_div_euclid_int(a: i32, k: i32, frac: u32, answer: &mut AnswerI32) -> i32
+    ensures { AnswersI32
+        (at_fraction 32 frac (row_or ZeroDivisor (row_div_euclid_int a k frac)))
+        answer.old answer.new result }
+{
+    quotients::div_euclid_int(a, k, frac, &mut answer.bits, &mut answer.side)
+}
+
+/// `a - b q`, with the quotient q of `a` and `b` rounded toward zero.
+#[unsafe(no_mangle)]
+pub extern "C" fn fixed_i32_rem(a: i32, b: i32, answer: &mut AnswerI32) -> i32
+    ensures { AnswersI32 (row_or ZeroDivisor (row_rem a b)) answer.old answer.new result }
+{
+    remainders::rem(a, b, &mut answer.bits, &mut answer.side)
+}
+
+/// `a - d q` for `d = k 2^frac`, with the quotient q of `a` and d rounded toward zero.
+#[unsafe(no_mangle)]
+pub extern "C" fn fixed_i32_rem_int(a: i32, k: i32, frac: u32, answer: &mut AnswerI32) -> i32
+    ensures { AnswersI32
+        (at_fraction 32 frac (row_or ZeroDivisor (row_rem_int a k frac)))
+        answer.old answer.new result }
+{
+    remainders::rem_int(a, k, frac, &mut answer.bits, &mut answer.side)
+}
+
+/// The remainder of the Euclidean pair of `a` and `b`.
+#[unsafe(no_mangle)]
+pub extern "C" fn fixed_i32_rem_euclid(a: i32, b: i32, answer: &mut AnswerI32) -> i32
+    ensures { AnswersI32 (row_or ZeroDivisor (row_rem_euclid a b)) answer.old answer.new result }
+{
+    remainders::rem_euclid(a, b, &mut answer.bits, &mut answer.side)
+}
+
+/// The remainder of the Euclidean pair of `a` and `k 2^frac`.
+#[unsafe(no_mangle)]
+pub extern "C" fn fixed_i32_rem_euclid_int(a: i32, k: i32, frac: u32, answer: &mut AnswerI32) -> i32
+    ensures { AnswersI32
+        (at_fraction 32 frac (row_or ZeroDivisor (row_rem_euclid_int a k frac)))
+        answer.old answer.new result }
+{
+    remainders::rem_euclid_int(a, k, frac, &mut answer.bits, &mut answer.side)
+}
+
+/// The least multiple of `b` that is at least `a` where `b` is above 0, and the greatest that is at most `a`
+/// where `b` is below 0.
+#[unsafe(no_mangle)]
+pub extern "C" fn fixed_i32_next_multiple_of(a: i32, b: i32, answer: &mut AnswerI32) -> i32
+    ensures { AnswersI32 (row_or ZeroDivisor (row_next_multiple_of a b)) answer.old answer.new result }
+{
+    remainders::next_multiple_of(a, b, &mut answer.bits, &mut answer.side)
+}
+
+/// The root of `a 2^frac`, rounded down.
+#[unsafe(no_mangle)]
+pub extern "C" fn fixed_i32_sqrt(a: i32, frac: u32, answer: &mut AnswerI32) -> i32
+    ensures { AnswersI32 (at_fraction 32 frac (row_or NegativeRoot (row_sqrt a frac))) answer.old answer.new result }
+{
+    powers::sqrt(a, frac, &mut answer.bits, &mut answer.side)
+}

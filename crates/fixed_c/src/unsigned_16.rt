@@ -1,0 +1,214 @@
+//! The calls of `u16`.
+
+ghost use Rattle.std.specs.Prelude.{Ok, pos};
+ghost use Rattle.fixed_kernel.specs.Rows.{exact_add, exact_add_prod, exact_dist, exact_mul, exact_mul_add, exact_mul_int, exact_neg, exact_next_power_of_two, exact_sub, row_div, row_div_euclid, row_div_euclid_int, row_div_int, row_next_multiple_of, row_recip, row_rem, row_rem_euclid, row_rem_euclid_int, row_rem_int, row_sqrt};
+ghost use Rattle.fixed_c.specs.declared.answer.Code.TheVariants.{ZeroDivisor, NegativeRoot};
+ghost use Rattle.fixed_c.specs.Answers.{at_fraction, row_or};
+ghost use Rattle.fixed_c.specs.Words.{AnswersU16};
+
+use crate::answer::AnswerU16;
+use crate::{powers, products, quotients, remainders, sums};
+
+/// `-a`
+#[unsafe(no_mangle)]
+pub extern "C" fn fixed_u16_neg(a: u16, answer: &mut AnswerU16) -> i32
+    ensures { AnswersU16 (Ok (exact_neg (pos a))) answer.old answer.new result }
+{
+    sums::neg(a, &mut answer.bits, &mut answer.side)
+}
+
+/// `a + b`
+#[unsafe(no_mangle)]
+pub extern "C" fn fixed_u16_add(a: u16, b: u16, answer: &mut AnswerU16) -> i32
+    ensures { AnswersU16 (Ok (exact_add (pos a) (pos b))) answer.old answer.new result }
+{
+    sums::add(a, b, &mut answer.bits, &mut answer.side)
+}
+
+/// `a - b`
+#[unsafe(no_mangle)]
+pub extern "C" fn fixed_u16_sub(a: u16, b: u16, answer: &mut AnswerU16) -> i32
+    ensures { AnswersU16 (Ok (exact_sub (pos a) (pos b))) answer.old answer.new result }
+{
+    sums::sub(a, b, &mut answer.bits, &mut answer.side)
+}
+
+/// The magnitude of `a - b`.
+#[unsafe(no_mangle)]
+pub extern "C" fn fixed_u16_dist(a: u16, b: u16, answer: &mut AnswerU16) -> i32
+    ensures { AnswersU16 (Ok (exact_dist (pos a) (pos b))) answer.old answer.new result }
+{
+    sums::dist(a, b, &mut answer.bits, &mut answer.side)
+}
+
+/// `a b / 2^frac`, rounded down.
+#[unsafe(no_mangle)]
+pub extern "C" fn fixed_u16_mul(a: u16, b: u16, frac: u32, answer: &mut AnswerU16) -> i32
+    ensures { AnswersU16 (at_fraction 16 frac (Ok (exact_mul (pos a) (pos b) frac))) answer.old answer.new result }
+{
+    products::mul(a, b, frac, &mut answer.bits, &mut answer.side)
+}
+
+/// `a k`, for an integer `k`.
+#[unsafe(no_mangle)]
+pub extern "C" fn fixed_u16_mul_int(a: u16, k: u16, answer: &mut AnswerU16) -> i32
+    ensures { AnswersU16 (Ok (exact_mul_int (pos a) (pos k))) answer.old answer.new result }
+{
+    products::mul_int(a, k, &mut answer.bits, &mut answer.side)
+}
+
+/// `a mul / 2^mul_frac`, rounded down, plus `add`.
+#[unsafe(no_mangle)]
+pub extern "C" fn fixed_u16_mul_add(
+    a: u16,
+    mul: u16,
+    add: u16,
+    mul_frac: u32,
+    answer: &mut AnswerU16,
+) -> i32
+    ensures { AnswersU16
+        (at_fraction 16 mul_frac (Ok (exact_mul_add (pos a) (pos mul) (pos add) mul_frac)))
+        answer.old answer.new result }
+{
+    products::mul_add(a, mul, add, mul_frac, &mut answer.bits, &mut answer.side)
+}
+
+/// `c` plus the product of `a` and `b`, each of a fraction of its own; the product is brought to that of `c` and
+/// rounded down.
+#[unsafe(no_mangle)]
+pub extern "C" fn fixed_u16_add_prod(
+    c: u16,
+    a: u16,
+    b: u16,
+    c_frac: u32,
+    a_frac: u32,
+    b_frac: u32,
+    answer: &mut AnswerU16,
+) -> i32
+    ensures { AnswersU16
+        (at_fraction 16 c_frac (at_fraction 16 a_frac (at_fraction 16 b_frac
+        (Ok (exact_add_prod (pos c) (pos a) (pos b) c_frac a_frac b_frac)))))
+        answer.old answer.new result }
+{
+    products::add_prod(
+        c,
+        a,
+        b,
+        c_frac,
+        a_frac,
+        b_frac,
+        &mut answer.bits,
+        &mut answer.side,
+    )
+}
+
+/// `a 2^frac / b`, rounded toward zero.
+#[unsafe(no_mangle)]
+pub extern "C" fn fixed_u16_div(a: u16, b: u16, frac: u32, answer: &mut AnswerU16) -> i32
+    ensures { AnswersU16
+        (at_fraction 16 frac (row_or ZeroDivisor (row_div (pos a) (pos b) frac)))
+        answer.old answer.new result }
+{
+    quotients::div(a, b, frac, &mut answer.bits, &mut answer.side)
+}
+
+/// `a / k`, rounded toward zero, for an integer `k`.
+#[unsafe(no_mangle)]
+pub extern "C" fn fixed_u16_div_int(a: u16, k: u16, answer: &mut AnswerU16) -> i32
+    ensures { AnswersU16 (row_or ZeroDivisor (row_div_int (pos a) (pos k))) answer.old answer.new result }
+{
+    quotients::div_int(a, k, &mut answer.bits, &mut answer.side)
+}
+
+/// `2^(2 frac) / a`, rounded toward zero.
+#[unsafe(no_mangle)]
+pub extern "C" fn fixed_u16_recip(a: u16, frac: u32, answer: &mut AnswerU16) -> i32
+    ensures { AnswersU16
+        (at_fraction 16 frac (row_or ZeroDivisor (row_recip (pos a) frac)))
+        answer.old answer.new result }
+{
+    quotients::recip(a, frac, &mut answer.bits, &mut answer.side)
+}
+
+/// The quotient of the Euclidean pair of `a` and `b`, a whole number, times `2^frac`.
+#[unsafe(no_mangle)]
+pub extern "C" fn fixed_u16_div_euclid(a: u16, b: u16, frac: u32, answer: &mut AnswerU16) -> i32
+    ensures { AnswersU16
+        (at_fraction 16 frac (row_or ZeroDivisor (row_div_euclid (pos a) (pos b) frac)))
+        answer.old answer.new result }
+{
+    quotients::div_euclid(a, b, frac, &mut answer.bits, &mut answer.side)
+}
+
+/// The quotient of the Euclidean pair of `a` and `k 2^frac`, a whole number, times `2^frac`.
+#[unsafe(no_mangle)]
+pub extern "C" fn fixed_u16_div_euclid_int(a: u16, k: u16, frac: u32, answer: &mut AnswerU16) -> i32
+    ensures { AnswersU16
+        (at_fraction 16 frac (row_or ZeroDivisor (row_div_euclid_int (pos a) (pos k) frac)))
+        answer.old answer.new result }
+{
+    quotients::div_euclid_int(a, k, frac, &mut answer.bits, &mut answer.side)
+}
+
+/// `a - b q`, with the quotient q of `a` and `b` rounded toward zero.
+#[unsafe(no_mangle)]
+pub extern "C" fn fixed_u16_rem(a: u16, b: u16, answer: &mut AnswerU16) -> i32
+    ensures { AnswersU16 (row_or ZeroDivisor (row_rem (pos a) (pos b))) answer.old answer.new result }
+{
+    remainders::rem(a, b, &mut answer.bits, &mut answer.side)
+}
+
+/// `a - d q` for `d = k 2^frac`, with the quotient q of `a` and d rounded toward zero.
+#[unsafe(no_mangle)]
+pub extern "C" fn fixed_u16_rem_int(a: u16, k: u16, frac: u32, answer: &mut AnswerU16) -> i32
+    ensures { AnswersU16
+        (at_fraction 16 frac (row_or ZeroDivisor (row_rem_int (pos a) (pos k) frac)))
+        answer.old answer.new result }
+{
+    remainders::rem_int(a, k, frac, &mut answer.bits, &mut answer.side)
+}
+
+/// The remainder of the Euclidean pair of `a` and `b`.
+#[unsafe(no_mangle)]
+pub extern "C" fn fixed_u16_rem_euclid(a: u16, b: u16, answer: &mut AnswerU16) -> i32
+    ensures { AnswersU16 (row_or ZeroDivisor (row_rem_euclid (pos a) (pos b))) answer.old answer.new result }
+{
+    remainders::rem_euclid(a, b, &mut answer.bits, &mut answer.side)
+}
+
+/// The remainder of the Euclidean pair of `a` and `k 2^frac`.
+#[unsafe(no_mangle)]
+pub extern "C" fn fixed_u16_rem_euclid_int(a: u16, k: u16, frac: u32, answer: &mut AnswerU16) -> i32
+    ensures { AnswersU16
+        (at_fraction 16 frac (row_or ZeroDivisor (row_rem_euclid_int (pos a) (pos k) frac)))
+        answer.old answer.new result }
+{
+    remainders::rem_euclid_int(a, k, frac, &mut answer.bits, &mut answer.side)
+}
+
+/// The least multiple of `b` that is at least `a` where `b` is above 0, and the greatest that is at most `a`
+/// where `b` is below 0.
+#[unsafe(no_mangle)]
+pub extern "C" fn fixed_u16_next_multiple_of(a: u16, b: u16, answer: &mut AnswerU16) -> i32
+    ensures { AnswersU16 (row_or ZeroDivisor (row_next_multiple_of (pos a) (pos b))) answer.old answer.new result }
+{
+    remainders::next_multiple_of(a, b, &mut answer.bits, &mut answer.side)
+}
+
+/// The root of `a 2^frac`, rounded down.
+#[unsafe(no_mangle)]
+pub extern "C" fn fixed_u16_sqrt(a: u16, frac: u32, answer: &mut AnswerU16) -> i32
+    ensures { AnswersU16
+        (at_fraction 16 frac (row_or NegativeRoot (row_sqrt (pos a) frac)))
+        answer.old answer.new result }
+{
+    powers::sqrt(a, frac, &mut answer.bits, &mut answer.side)
+}
+
+/// The least power of two that is at least `a`.
+#[unsafe(no_mangle)]
+pub extern "C" fn fixed_u16_next_power_of_two(a: u16, answer: &mut AnswerU16) -> i32
+    ensures { AnswersU16 (Ok (exact_next_power_of_two (pos a))) answer.old answer.new result }
+{
+    powers::next_power_of_two(a, &mut answer.bits, &mut answer.side)
+}
