@@ -9,6 +9,8 @@
 #[cfg(not(target_os = "none"))]
 extern crate std;
 
+use zugyelmas::*;
+
 include!(concat!(env!("OUT_DIR"), "/face.rs"));
 
 #[cfg(target_os = "none")]

@@ -186,7 +186,7 @@ fn begins(line: &str, starts: &[&str]) -> bool {
 /// The name of the function that a line begins.
 fn function_name(line: &str) -> Option<&str> {
     let (before, after) = line.trim_start().split_once("fn ")?;
-    let is_modifier = |sign: char| sign.is_alphanumeric() || " ()".contains(sign);
+    let is_modifier = |sign: char| sign.is_alphanumeric() || " ()\"".contains(sign);
     let is_function = before.chars().all(is_modifier);
     after.split(['(', '<']).next().filter(|_| is_function)
 }

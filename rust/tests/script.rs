@@ -279,7 +279,7 @@ fn what_belongs_to_no_function() {
     let unended = "fn f() -> u8 { 1 } // one\npub fn g() {}\n";
     let error = "a function without an end above pub fn g() {}";
     assert_eq!(library(unended), Err(error.to_string()));
-    let modified = "pub const fn f(x: u8)\n    requires { x ≡ 7 }\n{}\n";
+    let modified = "pub extern \"C\" fn f(x: u8)\n    requires { x ≡ 7 }\n{}\n";
     assert!(library(modified).is_err());
 }
 
