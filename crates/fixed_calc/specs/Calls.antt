@@ -1,6 +1,4 @@
--- Which calls a run makes of its source, its sink and its errors, in words of what one read or write may do:
--- `gives s room result s'` of a read into a buffer of that many bytes, and `gives s bytes result s'` of a write that
--- offers those bytes. Either answers `result` and leads from s to s'.
+-- Which calls a run makes of its source, its sink and its errors, in words of what one read or write may do.
 use Rattle.std.specs.Prelude.{◌≡◌, ℕ, zero, suc, ◌+◌, ◌<◌, ◌≤◌, ◌⊎◌, List, length, drop, Result, Ok, Err}
 use Rattle.fixed_calc.specs.Headline.{limit}
 use Rattle.fixed_calc.specs.declared.outside.Failed.{Failed}
@@ -11,68 +9,76 @@ use Rattle.fixed_calc.specs.declared.status.Status.TheVariants.{Done, ReadFault,
 
 -- ---- reads
 
+-- `gives s room result s'`: a read into a buffer of so many bytes answers this, and leads from s to s'
+abbrev pub Reads : Type 0 → Type 1
+Reads S = S → ℕ → Result ℕ Failed → S → Type 0
+
 -- how many bytes the buffer of each read has
 abbrev pub buffer_size : ℕ
 buffer_size = 4096
 
-module _ {S : Type 0} (gives : S → ℕ → Result ℕ Failed → S → Type 0) where
-  -- so many reads in a row led from s to s'. Each gave some bytes, and all together `total`
-  abbrev pub GaveBytes : ℕ → ℕ → S → S → Type 0
-  GaveBytes zero total s s' = (total ≡ 0) × (s' ≡ s)
-  GaveBytes (suc calls) total s s' = (before : ℕ) × (count : ℕ) × (t : S)
-      × GaveBytes calls before s t × (0 < count) × (total ≡ before + count) × gives t buffer_size (Ok count) s'
+-- so many reads in a row led from s to s'. Each gave some bytes, and all together `total`
+abbrev pub GaveBytes : {S : Type 0} → Reads S → ℕ → ℕ → S → S → Type 0
+GaveBytes gives zero total s s' = (total ≡ 0) × (s' ≡ s)
+GaveBytes {S} gives (suc calls) total s s' = (before : ℕ) × (count : ℕ) × (t : S)
+    × GaveBytes gives calls before s t × (0 < count) × (total ≡ before + count) × gives t buffer_size (Ok count) s'
 
-  -- no read met the end or failed, and the limit was not passed
-  abbrev pub ReadsSome : S → S → Type 0
-  ReadsSome s s' = (calls : ℕ) × (total : ℕ) × GaveBytes calls total s s' × (total ≤ limit)
+-- no read met the end or failed, and the limit was not passed
+abbrev pub ReadsSome : {S : Type 0} → Reads S → S → S → Type 0
+ReadsSome gives s s' = (calls : ℕ) × (total : ℕ) × GaveBytes gives calls total s s' × (total ≤ limit)
 
-  -- so many reads gave `total` bytes, within the limit, and the next and last met the end
-  abbrev pub ReadsToEnd : ℕ → ℕ → S → S → Type 0
-  ReadsToEnd calls total s s' = (t : S) × GaveBytes calls total s t × (total ≤ limit) × gives t buffer_size (Ok 0) s'
+-- so many reads gave `total` bytes, within the limit, and the next and last met the end
+abbrev pub ReadsToEnd : {S : Type 0} → Reads S → ℕ → ℕ → S → S → Type 0
+ReadsToEnd {S} gives calls total s s' = (t : S)
+    × GaveBytes gives calls total s t × (total ≤ limit) × gives t buffer_size (Ok 0) s'
 
-  -- within the limit, the last read failed
-  abbrev pub ReadsToFault : S → S → Type 0
-  ReadsToFault s s' = (t : S) × (failed : Failed) × ReadsSome s t × gives t buffer_size (Err failed) s'
+-- within the limit, the last read failed
+abbrev pub ReadsToFault : {S : Type 0} → Reads S → S → S → Type 0
+ReadsToFault {S} gives s s' = (t : S) × (failed : Failed) × ReadsSome gives s t × gives t buffer_size (Err failed) s'
 
-  -- the last read passed the limit
-  abbrev pub ReadsPastLimit : S → S → Type 0
-  ReadsPastLimit s s' = (calls : ℕ) × (before : ℕ) × (count : ℕ) × (t : S)
-      × GaveBytes calls before s t × (before ≤ limit) × (limit < before + count) × gives t buffer_size (Ok count) s'
+-- the last read passed the limit
+abbrev pub ReadsPastLimit : {S : Type 0} → Reads S → S → S → Type 0
+ReadsPastLimit {S} gives s s' = (calls : ℕ) × (before : ℕ) × (count : ℕ) × (t : S)
+    × GaveBytes gives calls before s t × (before ≤ limit) × (limit < before + count) × gives t buffer_size (Ok count) s'
 
-  -- the reads of a run with this status
-  abbrev pub ReadsTell : S → S → Status → Type 0
-  ReadsTell s s' ReadFault = ReadsToFault s s'
-  ReadsTell s s' TooLong = ReadsPastLimit s s'
-  ReadsTell s s' Memory = ReadsSome s s' ⊎ ((calls : ℕ) × (total : ℕ) × ReadsToEnd calls total s s')
-  ReadsTell s s' _ = (calls : ℕ) × (total : ℕ) × ReadsToEnd calls total s s'
+-- the reads of a run with this status
+abbrev pub ReadsTell : {S : Type 0} → Reads S → S → S → Status → Type 0
+ReadsTell gives s s' ReadFault = ReadsToFault gives s s'
+ReadsTell gives s s' TooLong = ReadsPastLimit gives s s'
+ReadsTell gives s s' Memory = ReadsSome gives s s' ⊎ ((calls : ℕ) × (total : ℕ) × ReadsToEnd gives calls total s s')
+ReadsTell gives s s' _ = (calls : ℕ) × (total : ℕ) × ReadsToEnd gives calls total s s'
 
 -- ---- writes
 
-module _ {S : Type 0} (gives : S → List ℕ → Result ℕ Refusal → S → Type 0) where
-  -- so many writes in a row led from s to s', and took `total` bytes. Each offered all that was left of the bytes, and
-  -- some were
-  abbrev pub TookBytes : List ℕ → ℕ → ℕ → S → S → Type 0
-  TookBytes bytes zero total s s' = (total ≡ 0) × (s' ≡ s)
-  TookBytes bytes (suc calls) total s s' = (before : ℕ) × (count : ℕ) × (t : S)
-      × TookBytes bytes calls before s t × (before < length bytes) × (total ≡ before + count)
-      × gives t (drop before bytes) (Ok count) s'
+-- `gives s bytes result s'`: a write that offers these bytes answers this, and leads from s to s'
+abbrev pub Writes : Type 0 → Type 1
+Writes S = S → List ℕ → Result ℕ Refusal → S → Type 0
 
-  -- so many writes took all the bytes
-  abbrev pub WritesAll : List ℕ → ℕ → S → S → Type 0
-  WritesAll bytes calls s s' = TookBytes bytes calls (length bytes) s s'
+-- so many writes in a row led from s to s', and took `total` bytes. Each offered all that was left of the bytes, and
+-- some were
+abbrev pub TookBytes : {S : Type 0} → Writes S → List ℕ → ℕ → ℕ → S → S → Type 0
+TookBytes gives bytes zero total s s' = (total ≡ 0) × (s' ≡ s)
+TookBytes {S} gives bytes (suc calls) total s s' = (before : ℕ) × (count : ℕ) × (t : S)
+    × TookBytes gives bytes calls before s t × (before < length bytes) × (total ≡ before + count)
+    × gives t (drop before bytes) (Ok count) s'
 
-  -- the last write, of all that was left, was refused so
-  abbrev pub WritesToRefusal : List ℕ → Refusal → S → S → Type 0
-  WritesToRefusal bytes refusal s s' = (calls : ℕ) × (before : ℕ) × (t : S)
-      × TookBytes bytes calls before s t × (before < length bytes) × gives t (drop before bytes) (Err refusal) s'
+-- so many writes took all the bytes
+abbrev pub WritesAll : {S : Type 0} → Writes S → List ℕ → ℕ → S → S → Type 0
+WritesAll gives bytes calls s s' = TookBytes gives bytes calls (length bytes) s s'
 
-  -- the writes of a run with this status, whose output is bytes of which P holds; with the other statuses there are none
-  abbrev pub WritesTell : (List ℕ → Type 0) → S → S → Status → Type 0
-  WritesTell P s s' Done = (bytes : List ℕ) × (calls : ℕ) × P bytes × WritesAll bytes calls s s'
-  WritesTell P s s' WriteFault = (bytes : List ℕ) × P bytes × WritesToRefusal bytes RefusedFailed s s'
-  WritesTell P s s' Memory = (s' ≡ s) ⊎ ((bytes : List ℕ) × P bytes × WritesToRefusal bytes RefusedMemory s s')
-  WritesTell P s s' _ = s' ≡ s
+-- the last write, of all that was left, was refused so
+abbrev pub WritesToRefusal : {S : Type 0} → Writes S → List ℕ → Refusal → S → S → Type 0
+WritesToRefusal {S} gives bytes refusal s s' = (calls : ℕ) × (before : ℕ) × (t : S)
+    × TookBytes gives bytes calls before s t × (before < length bytes) × gives t (drop before bytes) (Err refusal) s'
 
-  -- the writes of the line for the errors
-  abbrev pub LineWritesTell : List ℕ → S → S → Type 0
-  LineWritesTell line s s' = ((calls : ℕ) × WritesAll line calls s s') ⊎ ((refusal : Refusal) × WritesToRefusal line refusal s s')
+-- the writes of a run with this status, whose output is bytes of which P holds; with the other statuses there are none
+abbrev pub WritesTell : {S : Type 0} → Writes S → (List ℕ → Type 0) → S → S → Status → Type 0
+WritesTell gives P s s' Done = (bytes : List ℕ) × (calls : ℕ) × P bytes × WritesAll gives bytes calls s s'
+WritesTell gives P s s' WriteFault = (bytes : List ℕ) × P bytes × WritesToRefusal gives bytes RefusedFailed s s'
+WritesTell gives P s s' Memory = (s' ≡ s) ⊎ ((bytes : List ℕ) × P bytes × WritesToRefusal gives bytes RefusedMemory s s')
+WritesTell gives P s s' _ = s' ≡ s
+
+-- the writes of the line for the errors
+abbrev pub LineWritesTell : {S : Type 0} → Writes S → List ℕ → S → S → Type 0
+LineWritesTell gives line s s' =
+    ((calls : ℕ) × WritesAll gives line calls s s') ⊎ ((refusal : Refusal) × WritesToRefusal gives line refusal s s')
