@@ -12,9 +12,9 @@
  * what is left of the exact number in the word, and the side of the word's range on which that number lies. One of
  * five policies then makes a number of it: checked, saturating, wrapping, overflowing or strict.
  *
- * What C has to guarantee, since nothing checks it: `result` points to a whole, aligned result, which no other thread
- * reads or writes during the call, and no other argument of the call points into it. An array is of as many elements
- * as the count beside it says, and the same holds of it. No call takes memory, locks or keeps a pointer. */
+ * What C has to guarantee, since nothing checks it: `result` points to a whole, aligned result, and nothing else reads
+ * or writes that during the call. Its fields may hold anything before, as those of an earlier call. No call takes
+ * memory, locks or keeps a pointer. */
 #ifndef FIXED_H
 #define FIXED_H
 
