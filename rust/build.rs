@@ -65,6 +65,7 @@ fn library(top: PathBuf) -> Result<String, String> {
 fn tests(top: PathBuf) -> Result<String, String> {
     let mut names = names(&LIBRARY, "crate");
     names.extend(self::names(&[EXAMPLE], "crate"));
+    names.push(("fixed".to_string(), "crate".to_string()));
     let mut writing = Writing::new(top, names);
     let mut text = writing.library_crate(EXAMPLE, Reading::Inside)?;
     for folder in TESTS {
