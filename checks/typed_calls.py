@@ -1,5 +1,5 @@
 #!/usr/bin/env python3
-"""Compares the calls that docs/POLICIES.md and docs/NUMBERS.md list with those of the sources.
+"""Compares the calls that docs/GUIDE.md and the page of fixed_num list with those of the sources.
 
     python3 checks/typed_calls.py
 
@@ -11,12 +11,14 @@ import sys
 from pathlib import Path
 
 TOP = Path(__file__).resolve().parent.parent
+GUIDE = "docs/GUIDE.md"
+NUMBERS = "crates/fixed_num/README.md"
 POLICIES = ["checked", "overflowing", "wrapping", "saturating", "strict", "unwrapped"]
 
 
 def table_rows(page):
     """The rows of the page's tables, each as a list of cells, without the rulers."""
-    for line in (TOP / "docs" / page).read_text().splitlines():
+    for line in (TOP / page).read_text().splitlines():
         if line.startswith("| ") and not line.startswith("|-"):
             yield [cell.strip() for cell in line.strip("|").split("|")]
 
@@ -34,7 +36,7 @@ def listed_calls():
     """The calls of the table of operations, with their parameters."""
     calls = {}
     columns = None
-    for cells in table_rows("POLICIES.md"):
+    for cells in table_rows(GUIDE):
         if cells[0] == "Operation":
             columns = [[word for word in POLICIES if word in cell] for cell in cells]
         elif columns and len(cells) == len(columns):
@@ -57,8 +59,8 @@ def written_calls():
 
 
 def listed_numbers():
-    """The names of the first column, but for operators."""
-    return {name for cells in table_rows("NUMBERS.md") for name in re.findall(r"`(\w+)`", cells[0])}
+    """The names of the second column."""
+    return {name for cells in table_rows(NUMBERS) for name in re.findall(r"`(\w+)`", cells[1])}
 
 
 def written_numbers():
@@ -71,16 +73,16 @@ def written_numbers():
 
 
 def differences(page, listed, written):
-    lines = [f"{name}: in docs/{page} alone" for name in sorted(set(listed) - set(written))]
+    lines = [f"{name}: in {page} alone" for name in sorted(set(listed) - set(written))]
     return lines + [f"{name}: in the source alone" for name in sorted(set(written) - set(listed))]
 
 
 def main():
     listed, written = listed_calls(), written_calls()
-    wrong = differences("POLICIES.md", listed, written)
-    wrong += [f"{name}: takes ({written[name]}), and ({listed[name]}) in docs/POLICIES.md"
+    wrong = differences(GUIDE, listed, written)
+    wrong += [f"{name}: takes ({written[name]}), and ({listed[name]}) in {GUIDE}"
               for name in sorted(set(listed) & set(written)) if listed[name] != written[name]]
-    wrong += differences("NUMBERS.md", listed_numbers(), written_numbers())
+    wrong += differences(NUMBERS, listed_numbers(), written_numbers())
     if not listed or not listed_numbers():
         wrong.append("a page lists no calls")
     print("\n".join(wrong), end="\n" if wrong else "")

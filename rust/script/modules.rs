@@ -12,8 +12,8 @@ pub const LIBRARY: [&str; 9] = [
 /// The files that no crate offers: their public calls are made by the proved code beside them alone.
 const INSIDE: [&str; 3] = ["kernel/whole", "kernel/wide", "logs/exact"];
 
-/// The example that stands on a crate which takes memory, and so beside the library.
-const LEFT_OUT: &str = "sine";
+/// The examples that stand on a crate which takes memory, and so beside the library.
+const LEFT_OUT: [&str; 3] = ["arriving", "desk", "sine"];
 
 /// Crates as modules, each file with an `ending`. The names of other crates stand in `use` items and in links alone.
 pub fn modules(crates: &[&str], ending: &str) -> Result<String, String> {
@@ -30,7 +30,9 @@ pub fn modules(crates: &[&str], ending: &str) -> Result<String, String> {
         if LIBRARY.contains(name) {
             text = text.replace("use std::", "use core::");
         }
+        // The front crate `fixed` is the package itself.
         text = text.replace("use fixed_", "use crate::");
+        text = text.replace("use fixed::", "use crate::");
         out += &format!("pub mod {name} {{\n{text}}}\n");
     }
     Ok(out.replace("](fixed_", "](crate::"))
@@ -49,7 +51,7 @@ fn file(krate: &str, name: &str, ending: &str, erasing: &mut Erasing) -> Result<
     for line in text.lines() {
         let declared = line.strip_suffix(';');
         match declared.and_then(|line| line.split_once("mod ")) {
-            Some((_, LEFT_OUT)) => {}
+            Some((_, name)) if LEFT_OUT.contains(&name) => {}
             Some((public @ ("" | "pub "), name)) => {
                 let text = file(krate, name, ending, erasing)?;
                 out += &format!("{public}mod {name} {{\n{text}}}\n");

@@ -1,11 +1,10 @@
 //! A controller's step: held at the ends, never wrapped.
 
 ghost use Rattle.std.specs.Prelude.{◌≡◌, Some, true};
-ghost use Rattle.fixed_word.specs.Policies.{saturating};
-ghost use Rattle.fixed_kernel.specs.Rows.{exact_mul_add};
+ghost use Rattle.fixed.specs.Policies.{saturating};
+ghost use Rattle.fixed.specs.Rows.{exact_mul_add};
 
-use fixed_num::FixedI16;
-use fixed_strict::SaturatingMulAdd;
+use fixed::{FixedI16, SaturatingMulAdd};
 
 /// An error, a bias or an output, in units of `2^-8`.
 pub type Signal = FixedI16<8>;

@@ -1,13 +1,12 @@
 //! A low-pass filter that never overshoots.
 
 ghost use Rattle.std.specs.Prelude.{◌≡◌, ◌^◌, ◌≤ℤ◌, ◌-ℤ◌, Some, pos, true};
-ghost use Rattle.fixed_word.specs.Format.{clamp};
-ghost use Rattle.fixed_word.specs.Policies.{saturating};
-ghost use Rattle.fixed_kernel.specs.Rows.{exact_add_prod};
+ghost use Rattle.fixed.specs.Format.{clamp};
+ghost use Rattle.fixed.specs.Policies.{saturating};
+ghost use Rattle.fixed.specs.Rows.{exact_add_prod};
 ghost use Rattle.fixed_guide.specs.Between.{IsBetween};
 
-use fixed_num::FixedI32;
-use fixed_strict::{Saturating, SaturatingProducts};
+use fixed::{FixedI32, Saturating, SaturatingProducts};
 
 /// A level or a sample, in units of `2^-16`.
 pub type Level = FixedI32<16>;

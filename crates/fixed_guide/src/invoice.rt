@@ -2,7 +2,7 @@
 
 ghost use Rattle.std.specs.Prelude.{◌≡◌, ◌^◌, ◌<◌, ◌≤◌, ◌+◌, ◌*◌};
 
-use fixed_num::FixedU32;
+use fixed::FixedU32;
 
 /// An amount of at least 0, in units of 1/256.
 pub type Amount = FixedU32<8>;

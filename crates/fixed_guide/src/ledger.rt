@@ -1,10 +1,9 @@
 //! A ledger in which money is neither made nor lost.
 
 ghost use Rattle.std.specs.Prelude.{◌≡◌, ◌⊎◌, ◌↔◌, ◌+ℤ◌, ◌-ℤ◌, false, IsNone, IsSome, true};
-ghost use Rattle.fixed_word.specs.Format.{fits};
+ghost use Rattle.fixed.specs.Format.{fits};
 
-use fixed_num::FixedI64;
-use fixed_policy::Checked;
+use fixed::{Checked, FixedI64};
 
 /// An amount, in units of 1/256.
 pub type Money = FixedI64<8>;

@@ -4,7 +4,7 @@ ghost use Rattle.std.specs.Prelude.{◌≡◌, ◌-◌, ◌*◌, ◌^◌, ◌≤
 ghost use Rattle.fixed_poly.specs.Exact.{shortfall};
 ghost use Rattle.fixed_guide.specs.Sine.{sine_coefficients};
 
-use fixed_num::FixedI32;
+use fixed::FixedI32;
 use fixed_poly::{PolyReply, horner};
 
 /// A part of a quarter turn, or the sine of one, in units of `2^-29`.

@@ -1,0 +1,26 @@
+//! The calculator as a library: one room for many scripts.
+
+ghost use Rattle.std.specs.Prelude.{◌≡◌, IfErr, OnOk, Some};
+ghost use Rattle.fixed_calc.specs.Meaning.{Fault, Output, meaning};
+
+use fixed_calc::{Cause, Room, RunFault, run_in};
+use std::alloc::Global;
+
+/// Runs a script in the room, or in a larger one that takes its place, and leaves its answers there. Memory is
+/// asked for only where the room does not suffice.
+pub fn run_again(alloc: Global, script: &[u8], room: &mut Room) -> Result<(), RunFault>
+    ensures ok { OnOk result (meaning script.now ≡ Output room.new.answers) }
+    ensures cause { (cause : Cause) → result ≡ Err (RunFault.Script cause)
+        → meaning script.now ≡ Fault cause }
+{
+    if !room.suffices(script) {
+        match Room::for_script(alloc, script) {
+            Ok(larger) => *room = larger,
+            Err(_) => return Err(RunFault::Memory),
+        }
+    }
+    match run_in(script, room) {
+        Ok(()) => Ok(()),
+        Err(cause) => Err(RunFault::Script(cause)),
+    }
+}
