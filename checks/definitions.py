@@ -183,7 +183,7 @@ def is_marked_public(part):
 
 
 def name_after(keyword, part):
-    match = re.match(rf"\s*{VISIBLE}(?:const |final )*{keyword} (\w+)", part)
+    match = re.match(rf'\s*{VISIBLE}(?:const |final |extern "C" )*{keyword} (\w+)', part)
     return match and match.group(1)
 
 
@@ -221,7 +221,9 @@ class Source:
                 yield from self.type_items(part)
 
     def is_offered(self, part, name):
-        return is_marked_public(part) and (self.offered is None or name in self.offered)
+        """A call for C is offered by its own name, whatever module it stands in."""
+        is_named = self.offered is None or name in self.offered or part.startswith('pub extern "C" ')
+        return is_marked_public(part) and is_named
 
     def type_items(self, part):
         """The members of a trait, a struct or an enum, which are as public as it is."""
