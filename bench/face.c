@@ -1,24 +1,11 @@
 /* Each operation of the face for C in a loop over arrays, beside the same operation by hand (bench/by_hand.c), which
  * it has to answer alike. bench/face.py compiles both, and runs this. */
+#include "draws.h"
 #include "fixed.h"
 #include <stdio.h>
-#include <time.h>
 
 #define COUNT 1024
 #define PASSES 2001
-
-static uint64_t state = 42;
-
-static uint64_t draw(void) {
-  state = state * 6364136223846793005u + 1442695040888963407u;
-  return state ^ (state >> 29);
-}
-
-static double now(void) {
-  struct timespec t;
-  clock_gettime(CLOCK_MONOTONIC, &t);
-  return (double)t.tv_sec * 1e9 + (double)t.tv_nsec;
-}
 
 /* One row: the least nanoseconds a call of each side, in turn. One loop, compiled once, makes the calls of both. */
 #define ROW(name, operation, W, PARAMETERS, ...)                                                        \

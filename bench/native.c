@@ -1,9 +1,8 @@
 /* The loops of bench/runs.py by hand: filters, polynomials and intervals on plain integers. gcc -O2. */
-#include <stdint.h>
+#include "draws.h"
 #include <stdio.h>
 #include <stdlib.h>
 #include <string.h>
-#include <time.h>
 
 #define PASSES 2001
 #define SAMPLES 256
@@ -11,19 +10,6 @@
 #define LINES 1000000
 #define PAIRS 1024
 #define PAIR_PASSES 501
-
-static uint64_t state;
-
-static uint64_t draw(void) {
-  state = state * 6364136223846793005u + 1442695040888963407u;
-  return state ^ (state >> 29);
-}
-
-static double now(void) {
-  struct timespec t;
-  clock_gettime(CLOCK_MONOTONIC, &t);
-  return t.tv_sec * 1e9 + t.tv_nsec;
-}
 
 /* A channel: its taps, its past samples, and the places by which a product moves down. */
 struct channel {
