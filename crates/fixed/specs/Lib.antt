@@ -11,7 +11,7 @@ pub use Rattle.fixed_bits.specs.Digits
 pub use Rattle.fixed_kernel.specs.Rows
 pub use Rattle.fixed_kernel.specs.Rounded
 pub use Rattle.fixed_kernel.specs.RoundedRows
-pub use Rattle.fixed_kernel.specs.Laws
+pub use Rattle.fixed_kernel.specs.RowLaws
 pub use Rattle.fixed_num.specs.Sizes
 pub use Rattle.fixed_policy.specs.DotProduct
 pub use Rattle.fixed_ops.specs.Folds

@@ -3,12 +3,13 @@ use Rattle.std.proofs.Common.{◌≡◌, ℕ, Bool, true, false, [], ◌∷◌, 
 use Rattle.fixed_calc.specs.Types.{WordName, I8, I16, I32, I64, U8, U16, U32, U64, Policy, Op}
 use Rattle.fixed_calc.specs.declared.answer.Answer.{Answer}
 use Rattle.fixed_calc.specs.Text.{ThreeRegisters}
-use Rattle.fixed_calc.specs.Machine.{State, Taken, row_of, answer, is_signed, width}
+use Rattle.fixed_calc.specs.Machine.{State, OperandValues, row_of, answer}
+use Rattle.fixed_calc.specs.Words.{is_signed, width}
 use Rattle.fixed_calc.specs.Projection.{project}
 use Rattle.fixed_word.specs.Format.{IsWidth}
 use Rattle.fixed_agree.specs.Agreement.{MachineAnswers}
 
-pub projected : (signed : Bool) (n : ℕ) (policy : Policy) (op : Op) (operands : Taken) (result : Answer) → result ≡ project policy signed n (row_of op operands) → MachineAnswers signed n policy op operands result
+pub projected : (signed : Bool) (n : ℕ) (policy : Policy) (op : Op) (operands : OperandValues) (result : Answer) → result ≡ project policy signed n (row_of op operands) → MachineAnswers signed n policy op operands result
 unfolding MachineAnswers answer
 projected signed n policy op operands result e s dest xs f g h = rw (f, g, h) (sym e)
 
@@ -29,7 +30,7 @@ has_word false n (inr (inr (inl e))) = record { word = U32; sign = refl; bits = 
 has_word false n (inr (inr (inr e))) = record { word = U64; sign = refl; bits = sym e }
 
 -- the line on three registers that hold the operands
-pub projection_of : (signed : Bool) (n : ℕ) (policy : Policy) (op : Op) (operands : Taken) (result : Answer) → IsWidth n → MachineAnswers signed n policy op operands result → result ≡ project policy signed n (row_of op operands)
+pub projection_of : (signed : Bool) (n : ℕ) (policy : Policy) (op : Op) (operands : OperandValues) (result : Answer) → IsWidth n → MachineAnswers signed n policy op operands result → result ≡ project policy signed n (row_of op operands)
 unfolding MachineAnswers answer
 projection_of signed n policy op operands result w h =
     let found = has_word signed n w in

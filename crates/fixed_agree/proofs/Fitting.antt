@@ -3,7 +3,7 @@ use Rattle.std.proofs.Common.{◌≡◌, ℕ, ℤ, Bool, true, false, Option, So
 use Rattle.fixed_word.specs.Format.{IsWidth, fits}
 use Rattle.fixed_calc.specs.Types.{Checked, Op}
 use Rattle.fixed_calc.specs.declared.answer.Answer.TheVariants.{Bits}
-use Rattle.fixed_calc.specs.Machine.{Taken, row_of}
+use Rattle.fixed_calc.specs.Machine.{OperandValues, row_of}
 use Rattle.fixed_calc.specs.Projection.{plain, project}
 use Rattle.fixed_calc.proofs.Fits.{in_range}
 use Rattle.fixed_agree.specs.Agreement.{MachineAnswers, RowFits}
@@ -17,6 +17,6 @@ number_fits : (signed : Bool) (n : ℕ) (row : Option ℤ) (v : ℤ) → Bits v 
 number_fits signed n None v e = cc
 number_fits signed n (Some x) v e = in_range signed n x (value_where (fits signed n x) x v e)
 
-pub value_fits : (signed : Bool) (n : ℕ) (op : Op) (operands : Taken) (v : ℤ) → IsWidth n → MachineAnswers signed n Checked op operands (Bits v) → RowFits signed n (row_of op operands)
+pub value_fits : (signed : Bool) (n : ℕ) (op : Op) (operands : OperandValues) (v : ℤ) → IsWidth n → MachineAnswers signed n Checked op operands (Bits v) → RowFits signed n (row_of op operands)
 value_fits signed n op operands v w h =
     number_fits signed n (row_of op operands) v (projection_of signed n Checked op operands (Bits v) w h)

@@ -4,7 +4,7 @@ use Rattle.std.specs.Prelude.{IsSome}
 use Rattle.fixed_calc.specs.Types.{Checked, Saturating, Wrapping, Overflowing, Op, MulAdd, AddProd}
 use Rattle.fixed_calc.specs.Rows.{exact}
 use Rattle.fixed_calc.specs.declared.answer.Answer.TheVariants.{Absent, Bits}
-use Rattle.fixed_calc.specs.Machine.{Taken, row_of}
+use Rattle.fixed_calc.specs.Machine.{OperandValues, row_of}
 use Rattle.fixed_calc.specs.Projection.{flagged, plain, project}
 use Rattle.fixed_calc.proofs.Fits.{in_range}
 use Rattle.fixed_word.specs.Format.{IsWidth, fits, wrap}
@@ -42,7 +42,7 @@ pub typed : (signed : Bool) (n : ℕ) (x : ℤ) (forms : Forms) (kept : Option �
 typed signed n x forms kept wrapped held flag w c kept_is o flag_is r wrapped_is s held_is =
     of_row signed n (Some x) forms w refl (c ∙ ap plain kept_is) (o ∙ ap flagged flag_is) (r ∙ ap plain wrapped_is) (s ∙ ap plain held_is)
 
-pub forms_agree : (signed : Bool) (n : ℕ) (op : Op) (operands : Taken) (forms : Forms) → IsWidth n → IsSome (row_of op operands) → MachineAnswers signed n Checked op operands forms.checked
+pub forms_agree : (signed : Bool) (n : ℕ) (op : Op) (operands : OperandValues) (forms : Forms) → IsWidth n → IsSome (row_of op operands) → MachineAnswers signed n Checked op operands forms.checked
     → MachineAnswers signed n Overflowing op operands forms.overflowing → MachineAnswers signed n Wrapping op operands forms.wrapping → MachineAnswers signed n Saturating op operands forms.saturating
     → FormsAgree signed n (row_of op operands) forms
 forms_agree signed n op operands forms w d c o r s =
@@ -50,10 +50,10 @@ forms_agree signed n op operands forms w d c o r s =
     (projection_of signed n Wrapping op operands forms.wrapping w r) (projection_of signed n Saturating op operands forms.saturating w s)
 
 -- the two operations on three operands have a number everywhere
-pub mul_add_defined : (operands : Taken) → IsSome (row_of MulAdd operands)
+pub mul_add_defined : (operands : OperandValues) → IsSome (row_of MulAdd operands)
 unfolding exact
 mul_add_defined operands = refl
 
-pub add_prod_defined : (operands : Taken) → IsSome (row_of AddProd operands)
+pub add_prod_defined : (operands : OperandValues) → IsSome (row_of AddProd operands)
 unfolding exact
 add_prod_defined operands = refl

@@ -4,7 +4,7 @@ use Rattle.std.specs.Prelude.{IsSome}
 use Rattle.fixed_calc.specs.Types.{Checked, Saturating, Wrapping, Overflowing, Strict, Op}
 use Rattle.fixed_calc.specs.declared.answer.Answer.{Answer}
 use Rattle.fixed_calc.specs.declared.answer.Answer.TheVariants.{Bits, Flagged}
-use Rattle.fixed_calc.specs.Machine.{Taken, row_of}
+use Rattle.fixed_calc.specs.Machine.{OperandValues, row_of}
 use Rattle.fixed_calc.specs.Projection.{flagged, plain, project}
 use Rattle.fixed_word.specs.Policies.{checked, overflowing, saturating, wrapping}
 use Rattle.fixed_kernel.specs.Rows.{by_divisor, by_sign}
@@ -32,7 +32,7 @@ fit_rooted signed n (pos a) x fits = refl
 fit_rooted signed n (negsuc a) x fits = absurd fits
 
 -- ---- the policies
-module _ (signed : Bool) (n : ℕ) (op : Op) (operands : Taken) (result : Answer) where
+module _ (signed : Bool) (n : ℕ) (op : Op) (operands : OperandValues) (result : Answer) where
   pub by_checked : (kept : Option ℤ) → result ≡ plain kept → kept ≡ checked signed n (row_of op operands) → MachineAnswers signed n Checked op operands result
   by_checked kept told is = projected signed n Checked op operands result (told ∙ ap plain is ∙ plain_checked signed n (row_of op operands))
 

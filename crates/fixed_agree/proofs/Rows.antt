@@ -2,7 +2,7 @@
 use Rattle.std.proofs.Common.{◌≡◌, ℕ, ℤ, Bool, Option, Some, None, refl, sym, ap, ◌∙◌}
 use Rattle.fixed_calc.specs.Types.{Checked, Saturating, Strict, Op}
 use Rattle.fixed_calc.specs.declared.answer.Answer.TheVariants.{Bits}
-use Rattle.fixed_calc.specs.Machine.{Taken, row_of}
+use Rattle.fixed_calc.specs.Machine.{OperandValues, row_of}
 use Rattle.fixed_calc.specs.Projection.{plain, project}
 use Rattle.fixed_word.specs.Format.{clamp}
 use Rattle.fixed_word.specs.Policies.{checked}
@@ -13,14 +13,14 @@ pub plain_checked : (signed : Bool) (n : ℕ) (row : Option ℤ) → plain (chec
 plain_checked signed n None = refl
 plain_checked signed n (Some x) = refl
 
-pub checked_row : (signed : Bool) (n : ℕ) (op : Op) (operands : Taken) (kept : Option ℤ) → kept ≡ checked signed n (row_of op operands) → MachineAnswers signed n Checked op operands (plain kept)
+pub checked_row : (signed : Bool) (n : ℕ) (op : Op) (operands : OperandValues) (kept : Option ℤ) → kept ≡ checked signed n (row_of op operands) → MachineAnswers signed n Checked op operands (plain kept)
 checked_row signed n op operands kept is =
     projected signed n Checked op operands (plain kept) (ap plain is ∙ plain_checked signed n (row_of op operands))
 
-pub saturating_row : (signed : Bool) (n : ℕ) (op : Op) (operands : Taken) (x : ℤ) → row_of op operands ≡ Some x → MachineAnswers signed n Saturating op operands (Bits (clamp signed n x))
+pub saturating_row : (signed : Bool) (n : ℕ) (op : Op) (operands : OperandValues) (x : ℤ) → row_of op operands ≡ Some x → MachineAnswers signed n Saturating op operands (Bits (clamp signed n x))
 saturating_row signed n op operands x row =
     projected signed n Saturating op operands (Bits (clamp signed n x)) (sym (ap (project Saturating signed n) row))
 
-pub strict_row : (signed : Bool) (n : ℕ) (op : Op) (operands : Taken) (x : ℤ) → row_of op operands ≡ Some x → MachineAnswers signed n Strict op operands (Bits x)
+pub strict_row : (signed : Bool) (n : ℕ) (op : Op) (operands : OperandValues) (x : ℤ) → row_of op operands ≡ Some x → MachineAnswers signed n Strict op operands (Bits x)
 strict_row signed n op operands x row =
     projected signed n Strict op operands (Bits x) (sym (ap (project Strict signed n) row))

@@ -3,31 +3,32 @@ use Rattle.std.specs.Prelude.{◌≡◌, ℕ, ℤ, pos, Bool, true, false, Optio
 use Rattle.fixed_calc.specs.Types.{Policy, Op}
 use Rattle.fixed_calc.specs.declared.answer.Answer.{Answer}
 use Rattle.fixed_calc.specs.Text.{Operands, OneRegister, TwoRegisters, RegisterAndInt, Apply, shape, shape_of}
-use Rattle.fixed_calc.specs.Machine.{State, Cell, Taken, taken, empty_cell, integer, is_signed, width, answer}
+use Rattle.fixed_calc.specs.Machine.{State, Cell, OperandValues, operand_values, empty_cell, integer, answer}
+use Rattle.fixed_calc.specs.Words.{is_signed, width}
 use Rattle.fixed_calc.specs.Offered.{is_offered}
 use Rattle.fixed_word.specs.Format.{InRange}
 
 -- in every state of a word of that sign and width, the machine answers `result` to every line of the policy and the
 -- operation that takes these operands and names no rounding
-unfoldable pub MachineAnswers : Bool → ℕ → Policy → Op → Taken → Answer → Type 0
+unfoldable pub MachineAnswers : Bool → ℕ → Policy → Op → OperandValues → Answer → Type 0
 MachineAnswers signed n policy op operands result =
-    (s : State) (dest : ℕ) (xs : Operands) → is_signed s.word ≡ signed → width s.word ≡ n → taken s.registers xs ≡ operands → answer s (Apply dest policy op xs None) ≡ result
+    (s : State) (dest : ℕ) (xs : Operands) → is_signed s.word ≡ signed → width s.word ≡ n → operand_values s.registers xs ≡ operands → answer s (Apply dest policy op xs None) ≡ result
 
 -- ---- operands, by their bits and fractions
 abbrev pub holding : ℤ → ℕ → Cell
 holding a f = record { bits = a; fraction = f }
 
-abbrev pub one_operand : ℤ → ℕ → Taken
+abbrev pub one_operand : ℤ → ℕ → OperandValues
 one_operand a f = record { a = holding a f; b = empty_cell; c = empty_cell }
 
-abbrev pub two_operands : ℤ → ℤ → ℕ → Taken
+abbrev pub two_operands : ℤ → ℤ → ℕ → OperandValues
 two_operands a b f = record { a = holding a f; b = holding b f; c = empty_cell }
 
-abbrev pub with_integer : ℤ → ℤ → ℕ → Taken
+abbrev pub with_integer : ℤ → ℤ → ℕ → OperandValues
 with_integer a k f = record { a = holding a f; b = integer k; c = empty_cell }
 
 -- three operands, and then their fractions
-abbrev pub three_operands : ℤ → ℤ → ℤ → ℕ → ℕ → ℕ → Taken
+abbrev pub three_operands : ℤ → ℤ → ℤ → ℕ → ℕ → ℕ → OperandValues
 three_operands a b c f g h = record { a = holding a f; b = holding b g; c = holding c h }
 
 -- ---- operations, by the operands that they take

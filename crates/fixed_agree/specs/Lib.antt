@@ -1,3 +1,3 @@
 pub mod Agreement
 pub mod Forms
-pub mod Laws
+pub mod AgreementLaws

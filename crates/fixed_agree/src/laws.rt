@@ -1,6 +1,6 @@
 //! Laws of the agreement. These functions do nothing: each contract is the law.
 
-ghost use Rattle.fixed_agree.specs.Laws.{AnswersTheProjection, NoCauseExactly};
+ghost use Rattle.fixed_agree.specs.AgreementLaws.{AnswersTheProjection, NoCauseExactly};
 
 /// For each sign and width, the machine's answer to a line is the policy's projection of the row of the
 /// line's operands, and nothing else. So the machine and the typed calls name the same projection of the

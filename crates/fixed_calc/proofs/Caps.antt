@@ -7,8 +7,8 @@ use Rattle.fixed_script.specs.Text.{ScriptLine, SetTo, Apply, OneRegister, TwoRe
 use Rattle.fixed_text.specs.Numerals.{cap}
 use Rattle.fixed_script.specs.Capped.{cap_whole, capped}
 use Rattle.fixed_calc.specs.Machine.{State, Cell, cause, answer, move, first_of, causes_of, is_unoffered, is_out_of_range, is_mismatched, is_value}
-use Rattle.fixed_calc.specs.Caps.{CapsAlike}
-use Rattle.fixed_calc.specs.Step.{StepTells}
+use Rattle.fixed_calc.specs.CapLaw.{CapsAlike}
+use Rattle.fixed_calc.specs.Step.{IsStepOfLine}
 use Rattle.fixed_calc.specs.declared.answer.Answer.{Answer}
 use Rattle.fixed_calc.specs.declared.cause.Cause.{Cause}
 use Rattle.fixed_calc.specs.declared.cause.Cause.TheVariants.{Syntax, OutOfRange, FractionMismatch}
@@ -118,13 +118,13 @@ caps_alike s l k h = (
 )
 
 -- what a step says of the capped form it says of the line
-pub step_capped : (s : State) (l : ScriptLine) (k : ℕ) (r : Result Answer Cause) (cells : List Cell) (o : Option ScriptLine) → length s.registers ≤ 2 ^ 64 → o ≡ Some (capped l) → StepTells s o k r cells → StepTells s (Some l) k r cells
+pub step_capped : (s : State) (l : ScriptLine) (k : ℕ) (r : Result Answer Cause) (cells : List Cell) (o : Option ScriptLine) → length s.registers ≤ 2 ^ 64 → o ≡ Some (capped l) → IsStepOfLine s o k r cells → IsStepOfLine s (Some l) k r cells
 step_capped s l k (Ok a) cells o h is t =
-    let u : StepTells s (Some (capped l)) k (Ok a) cells = subst (λ (p : Option ScriptLine). StepTells s p k (Ok a) cells) is t in
+    let u : IsStepOfLine s (Some (capped l)) k (Ok a) cells = subst (λ (p : Option ScriptLine). IsStepOfLine s p k (Ok a) cells) is t in
     let alike = caps_alike s l k h in
     let none = sym alike.0 ∙ u.0 in
     let same = alike.1 none in
     (none, u.1 ∙ same.0, u.2 ∙ ap (λ (x : State). x.registers) same.1)
 step_capped s l k (Err c) cells o h is t =
-    let u : StepTells s (Some (capped l)) k (Err c) cells = subst (λ (p : Option ScriptLine). StepTells s p k (Err c) cells) is t in
+    let u : IsStepOfLine s (Some (capped l)) k (Err c) cells = subst (λ (p : Option ScriptLine). IsStepOfLine s p k (Err c) cells) is t in
     (sym (caps_alike s l k h).0 ∙ u.0, u.1)

@@ -20,10 +20,11 @@ use Rattle.fixed_calc.specs.declared.answer.Answer.TheVariants.{Absent, Bits, Fl
 use Rattle.fixed_script.specs.Text.{ScriptLine, SetTo, Apply, Operands, OneRegister, TwoRegisters, RegisterAndInt, ThreeRegisters}
 use Rattle.fixed_calc.specs.Projection.{plain, project}
 use Rattle.fixed_calc.specs.Offered.{is_offered}
-use Rattle.fixed_calc.specs.Machine.{State, Cell, cell_at, empty_cell, destination, registers_of, cause, integer, Taken, first_of, causes_of, row_causes, row_by, taken, is_unoffered, is_out_of_range, is_mismatched, is_value, is_signed, width, answer}
-use Rattle.fixed_calc.specs.inside.Stepping.{AnswerTells, RowTells, IsApplied, TakenTells, taken_of}
+use Rattle.fixed_calc.specs.Machine.{State, Cell, cell_at, empty_cell, destination, registers_of, cause, integer, OperandValues, first_of, causes_of, row_causes, row_by, operand_values, is_unoffered, is_out_of_range, is_mismatched, is_value, answer}
+use Rattle.fixed_text.specs.Words.{is_signed, width}
+use Rattle.fixed_calc.specs.inside.Stepping.{IsAnswerOfLine, IsAnswerOfRow, IsApplied, HoldsOperands, values_of}
 use Rattle.fixed_calc.specs.Step.{IsCell}
-use Rattle.fixed_calc.specs.declared.register.Taken.{Taken as RegistersTaken}
+use Rattle.fixed_calc.specs.declared.register.OperandRegisters.{OperandRegisters}
 use Rattle.fixed_calc.specs.declared.cause.Cause.{Cause}
 use Rattle.fixed_calc.specs.declared.cause.Cause.TheVariants.{Syntax, OutOfRange, FractionMismatch, ZeroDivisor, NegativeRoot, Overflow}
 use Rattle.fixed_calc.proofs.Fits.{wrap_fits, clamp_fits, value_small}
@@ -37,7 +38,7 @@ pub record PassesTests (s : State) (line : ScriptLine) : Type 0 where
 pub after_tests : (s : State) (line : ScriptLine) (k : ℕ) → PassesTests s line → cause s line k ≡ first_of (causes_of s line k)
 after_tests s line k t = rw (t.offered, t.in_range, t.one_fraction) refl
 
-apply_answer : (s : State) (dest : ℕ) (policy : Policy) (op : Op) (xs : Operands) (how : Option Rounding) → answer s (Apply dest policy op xs how) ≡ project policy (is_signed s.word) (width s.word) (row_by how op (taken s.registers xs))
+apply_answer : (s : State) (dest : ℕ) (policy : Policy) (op : Op) (xs : Operands) (how : Option Rounding) → answer s (Apply dest policy op xs how) ≡ project policy (is_signed s.word) (width s.word) (row_by how op (operand_values s.registers xs))
 unfolding answer
 apply_answer s dest policy op xs how = refl
 
@@ -47,11 +48,11 @@ set_answer s dest k = refl
 
 -- what the policy makes of the row is what the line asks for
 pub apply_tells : (s : State) (line : ScriptLine) (dest : ℕ) (policy : Policy) (op : Op) (xs : Operands) (how : Option Rounding) (k : ℕ) (r : Result Answer Cause) → line ≡ Apply dest policy op xs how → PassesTests s line
-    → RowTells (is_signed s.word) (width s.word) policy op (row_by how op (taken s.registers xs)) k r → AnswerTells s line k r
+    → IsAnswerOfRow (is_signed s.word) (width s.word) policy op (row_by how op (operand_values s.registers xs)) k r → IsAnswerOfLine s line k r
 apply_tells s line dest policy op xs how k (Ok a) is t h = (after_tests s line k t ∙ ap (λ (l : ScriptLine). first_of (causes_of s l k)) is ∙ h.0, h.1 ∙ sym (ap (answer s) is ∙ apply_answer s dest policy op xs how))
 apply_tells s line dest policy op xs how k (Err c) is t h = after_tests s line k t ∙ ap (λ (l : ScriptLine). first_of (causes_of s l k)) is ∙ h
 
-pub set_tells : (s : State) (line : ScriptLine) (dest : ℕ) (x : ℤ) (k : ℕ) → line ≡ SetTo dest x → PassesTests s line → AnswerTells s line k (Ok (Bits x))
+pub set_tells : (s : State) (line : ScriptLine) (dest : ℕ) (x : ℤ) (k : ℕ) → line ≡ SetTo dest x → PassesTests s line → IsAnswerOfLine s line k (Ok (Bits x))
 set_tells s line dest x k is t = (after_tests s line k t ∙ ap (λ (l : ScriptLine). first_of (causes_of s l k)) is, sym (ap (answer s) is ∙ set_answer s dest x))
 
 -- ---- what holds of a line in range
@@ -138,7 +139,7 @@ project_valued w Strict op (Some x) k h = not_not (is_value w x) (no_overflow fa
 pub answer_valued : (s : State) (line : ScriptLine) (k : ℕ) → cause s line k ≡ None → IsValued s.word (answer s line)
 unfolding answer
 answer_valued s (SetTo dest x) k h = set_value s dest x (no_cause s (SetTo dest x) k h).0.in_range
-answer_valued s (Apply dest policy op xs how) k h = project_valued s.word policy op (row_by how op (taken s.registers xs)) k (no_cause s (Apply dest policy op xs how) k h).1
+answer_valued s (Apply dest policy op xs how) k h = project_valued s.word policy op (row_by how op (operand_values s.registers xs)) k (no_cause s (Apply dest policy op xs how) k h).1
 
 -- what a line stores, and where
 pub record Stores (s : State) (line : ScriptLine) (a : Answer) : Type 0 where
@@ -178,12 +179,12 @@ cell_is w cells r all = elim (cases_lt r (length cells)) [
 ]
 
 -- three operands of a word
-pub record TakenCells (w : WordName) (t : Taken) : Type 0 where
+pub record TakenCells (w : WordName) (t : OperandValues) : Type 0 where
   pub a : IsCell w t.a
   pub b : IsCell w t.b
   pub c : IsCell w t.c
 
-pub taken_cells : (s : State) (dest : ℕ) (policy : Policy) (op : Op) (xs : Operands) (how : Option Rounding) → All (IsCell s.word) s.registers → is_out_of_range s (Apply dest policy op xs how) ≡ false → TakenCells s.word (taken s.registers xs)
+pub taken_cells : (s : State) (dest : ℕ) (policy : Policy) (op : Op) (xs : Operands) (how : Option Rounding) → All (IsCell s.word) s.registers → is_out_of_range s (Apply dest policy op xs how) ≡ false → TakenCells s.word (operand_values s.registers xs)
 taken_cells s dest policy op (OneRegister a) how all h = record { a = cell_is s.word s.registers a all; b = empty_is s.word; c = empty_is s.word }
 taken_cells s dest policy op (TwoRegisters a b) how all h = record { a = cell_is s.word s.registers a all; b = cell_is s.word s.registers b all; c = empty_is s.word }
 taken_cells s dest policy op (RegisterAndInt a k) how all h =
@@ -196,22 +197,22 @@ unfolding is_unoffered
 apply_offered w dest policy op xs how h = not_not (is_offered (is_signed w) policy op) h
 
 -- the registers that were taken for a line are those of its operands
-pub record Ready (s : State) (policy : Policy) (op : Op) (t : Taken) : Type 0 where
+pub record Ready (s : State) (policy : Policy) (op : Op) (t : OperandValues) : Type 0 where
   pub offered : is_offered (is_signed s.word) policy op ≡ true
   pub cells : TakenCells s.word t
 
-pub ready : (s : State) (line : ScriptLine) (policy : Policy) (op : Op) (how : Option Rounding) (t : RegistersTaken) → IsApplied line policy op how → PassesTests s line → All (IsCell s.word) s.registers → TakenTells s.registers line t → Ready s policy op (taken_of t)
+pub ready : (s : State) (line : ScriptLine) (policy : Policy) (op : Op) (how : Option Rounding) (t : OperandRegisters) → IsApplied line policy op how → PassesTests s line → All (IsCell s.word) s.registers → HoldsOperands s.registers line t → Ready s policy op (values_of t)
 ready s (SetTo dest x) policy op how t is tests all tells = absurd is
 ready s (Apply dest q r xs m) policy op how t is tests all tells = record {
   offered = apply_offered s.word dest policy op xs m (rw (is.0, is.1) at tests.offered);
   cells = subst (TakenCells s.word) (sym tells) (taken_cells s dest q r xs m all tests.in_range);
 }
 
-pub applied_tells : (s : State) (line : ScriptLine) (policy : Policy) (op : Op) (how : Option Rounding) (t : RegistersTaken) (k : ℕ) (r : Result Answer Cause) → IsApplied line policy op how → PassesTests s line → TakenTells s.registers line t
-    → RowTells (is_signed s.word) (width s.word) policy op (row_by how op (taken_of t)) k r → AnswerTells s line k r
+pub applied_tells : (s : State) (line : ScriptLine) (policy : Policy) (op : Op) (how : Option Rounding) (t : OperandRegisters) (k : ℕ) (r : Result Answer Cause) → IsApplied line policy op how → PassesTests s line → HoldsOperands s.registers line t
+    → IsAnswerOfRow (is_signed s.word) (width s.word) policy op (row_by how op (values_of t)) k r → IsAnswerOfLine s line k r
 applied_tells s (SetTo dest x) policy op how t k r is tests tells h = absurd is
 applied_tells s (Apply dest q o xs m) policy op how t k r is tests tells h =
-    apply_tells s (Apply dest q o xs m) dest policy op xs how k r (λ i. Apply dest (is.0 i) (is.1 i) xs (is.2 i)) tests (subst (λ (u : Taken). RowTells (is_signed s.word) (width s.word) policy op (row_by how op u) k r) tells h)
+    apply_tells s (Apply dest q o xs m) dest policy op xs how k r (λ i. Apply dest (is.0 i) (is.1 i) xs (is.2 i)) tests (subst (λ (u : OperandValues). IsAnswerOfRow (is_signed s.word) (width s.word) policy op (row_by how op u) k r) tells h)
 
 pub valued_bits : (w : WordName) (a : Answer) (x : ℤ) → a ≡ Bits x → IsValued w a → is_value w x ≡ true
 valued_bits w a x is h = rw is at h

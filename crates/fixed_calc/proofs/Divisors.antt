@@ -9,10 +9,10 @@ use Rattle.fixed_kernel.specs.Rows.{by_divisor}
 use Rattle.fixed_script.specs.Text.{takes_rounding}
 use Rattle.fixed_calc.specs.Rows.{exact, exact_by, exact_rounded}
 use Rattle.fixed_calc.specs.inside.Groups.{group, ByDivisor}
-use Rattle.fixed_calc.specs.inside.Stepping.{OutcomeTells}
+use Rattle.fixed_calc.specs.inside.Stepping.{IsOutcomeOfRow}
 
 -- where the divisor is not 0, the row is its number
-pub divided : {T : Type 0} (value : T → ℤ) (signed : Bool) (n : ℕ) (d x : ℤ) (outcome : Outcome T) → d ≢ pos 0 → StandsFor value signed n x outcome → OutcomeTells value signed n (by_divisor d x) (Some outcome)
+pub divided : {T : Type 0} (value : T → ℤ) (signed : Bool) (n : ℕ) (d x : ℤ) (outcome : Outcome T) → d ≢ pos 0 → StandsFor value signed n x outcome → IsOutcomeOfRow value signed n (by_divisor d x) (Some outcome)
 divided value signed n (pos zero) x outcome some stands = absurd (some refl)
 divided value signed n (pos (suc d)) x outcome some stands = (x, refl, stands)
 divided value signed n (negsuc d) x outcome some stands = (x, refl, stands)

@@ -5,7 +5,7 @@ pub mod Caps
 pub mod Runs
 pub mod Short
 pub mod Twice
-pub mod OneNumber
+pub mod PolicyLaws
 pub mod Letters
 pub mod Drawn
 pub mod Ended

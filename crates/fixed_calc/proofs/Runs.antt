@@ -11,11 +11,12 @@ use Rattle.fixed_calc.specs.Answers.{answer_text}
 use Rattle.fixed_word.specs.Pieces.{pieces}
 use Rattle.fixed_text.specs.Numerals.{cap}
 use Rattle.fixed_script.specs.Text.{ScriptHeader, ScriptLine}
-use Rattle.fixed_calc.specs.Machine.{State, Cell, answer, move, width}
+use Rattle.fixed_calc.specs.Machine.{State, Cell, answer, move}
+use Rattle.fixed_text.specs.Words.{width}
 use Rattle.fixed_calc.specs.Meaning.{Run, after, stopped, by_cause, step_then, run_lines, run_of, run_pieces, run_from, start, has_wide, fractions_of, zeros}
 use Rattle.fixed_script.specs.Lines.{line_of_piece, header_of_piece}
-use Rattle.fixed_calc.specs.Rooms.{Space, RunTells, HoldsState}
-use Rattle.fixed_calc.specs.Step.{StepTells, state_in, IsCell}
+use Rattle.fixed_calc.specs.Rooms.{Space, IsAnswerOfRun, HoldsState}
+use Rattle.fixed_calc.specs.Step.{IsStepOfLine, state_in, IsCell}
 use Rattle.fixed_calc.specs.declared.cause.Cause.{Cause}
 use Rattle.fixed_calc.specs.declared.cause.Cause.TheVariants.{Syntax, OutOfRange}
 use Rattle.fixed_calc.proofs.Causes.{zero_fits}
@@ -34,15 +35,15 @@ unfolding run_lines
 run_ends answers s k = λ i. record { state = Some s; output = append-nil answers i; fault = None }
 
 -- a piece with a cause
-fault_step : (s : State) (k : ℕ) (o : Option ScriptLine) (next : State → Run) (c : Cause) (cells : List Cell) → StepTells s o k (Err c) cells → step_then s k o next ≡ stopped (Some s) c
+fault_step : (s : State) (k : ℕ) (o : Option ScriptLine) (next : State → Run) (c : Cause) (cells : List Cell) → IsStepOfLine s o k (Err c) cells → step_then s k o next ≡ stopped (Some s) c
 fault_step s k None next c cells h = ap (stopped (Some s)) (sym h.0)
 fault_step s k (Some l) next c cells h = ap (λ o. by_cause o s (answer_text (answer s l)) (next (move s l))) h.0
 
-fault_cells : (s : State) (k : ℕ) (o : Option ScriptLine) (c : Cause) (cells : List Cell) → StepTells s o k (Err c) cells → cells ≡ s.registers
+fault_cells : (s : State) (k : ℕ) (o : Option ScriptLine) (c : Cause) (cells : List Cell) → IsStepOfLine s o k (Err c) cells → cells ≡ s.registers
 fault_cells s k None c cells h = h.1
 fault_cells s k (Some l) c cells h = h.1
 
-pub run_fault : (answers : List ℕ) (s : State) (k : ℕ) (rest p : List ℕ) (ps : List (List ℕ)) (c : Cause) (cells : List Cell) → pieces rest ≡ p ∷ ps → StepTells s (line_of_piece p) k (Err c) cells
+pub run_fault : (answers : List ℕ) (s : State) (k : ℕ) (rest p : List ℕ) (ps : List (List ℕ)) (c : Cause) (cells : List Cell) → pieces rest ≡ p ∷ ps → IsStepOfLine s (line_of_piece p) k (Err c) cells
     → after answers (run_lines s k (pieces rest)) ≡ record { state = Some s; output = answers; fault = Some c }
 run_fault answers s k rest p ps c cells cut h =
     ap (λ qs. after answers (run_lines s k qs)) cut
@@ -50,13 +51,13 @@ run_fault answers s k rest p ps c cells cut h =
     ∙ (λ i. record { state = Some s; output = append-nil answers i; fault = Some c })
 
 -- a piece that moves
-move_step : (word : WordName) (cells cells' : List Cell) (k : ℕ) (o : Option ScriptLine) (next : State → Run) (a : Answer) → StepTells (state_in word cells) o k (Ok a) cells' → step_then (state_in word cells) k o next ≡ after (answer_text a) (next (state_in word cells'))
+move_step : (word : WordName) (cells cells' : List Cell) (k : ℕ) (o : Option ScriptLine) (next : State → Run) (a : Answer) → IsStepOfLine (state_in word cells) o k (Ok a) cells' → step_then (state_in word cells) k o next ≡ after (answer_text a) (next (state_in word cells'))
 move_step word cells cells' k None next a h = absurd h
 move_step word cells cells' k (Some l) next a h =
     let s = state_in word cells in
     ap (λ o. by_cause o s (answer_text (answer s l)) (next (move s l))) h.0 ∙ (λ i. after (answer_text (sym h.1 i)) (next (state_in word (sym h.2 i))))
 
-pub run_moves : (answers : List ℕ) (word : WordName) (cells cells' : List Cell) (k : ℕ) (rest p rest' : List ℕ) (a : Answer) → pieces rest ≡ p ∷ pieces rest' → StepTells (state_in word cells) (line_of_piece p) k (Ok a) cells'
+pub run_moves : (answers : List ℕ) (word : WordName) (cells cells' : List Cell) (k : ℕ) (rest p rest' : List ℕ) (a : Answer) → pieces rest ≡ p ∷ pieces rest' → IsStepOfLine (state_in word cells) (line_of_piece p) k (Ok a) cells'
     → after answers (run_lines (state_in word cells) k (pieces rest)) ≡ after (answers ++ answer_text a) (run_lines (state_in word cells') (k + 1) (pieces rest'))
 run_moves answers word cells cells' k rest p rest' a cut h =
     let s = state_in word cells in
@@ -66,18 +67,18 @@ run_moves answers word cells cells' k rest p rest' a cut h =
     ∙ after-after answers (answer_text a) (run_lines (state_in word cells') (k + 1) ps)
 
 -- an answer has room
-short_step : (s : State) (k : ℕ) (p : List ℕ) (o : Option ScriptLine) (a : Answer) (cells : List Cell) → line_of_piece p ≡ o → StepTells s o k (Ok a) cells → length (answer_text a) ≤ 2 * length p
+short_step : (s : State) (k : ℕ) (p : List ℕ) (o : Option ScriptLine) (a : Answer) (cells : List Cell) → line_of_piece p ≡ o → IsStepOfLine s o k (Ok a) cells → length (answer_text a) ≤ 2 * length p
 short_step s k p None a cells is h = absurd h
 short_step s k p (Some l) a cells is h = omega (arith, answer_fits s p l k is h.0, ap (λ (b : Answer). length (answer_text b)) h.1)
 
-pub move_short : (s : State) (k : ℕ) (p : List ℕ) (a : Answer) (cells : List Cell) → StepTells s (line_of_piece p) k (Ok a) cells → length (answer_text a) ≤ 2 * length p
+pub move_short : (s : State) (k : ℕ) (p : List ℕ) (a : Answer) (cells : List Cell) → IsStepOfLine s (line_of_piece p) k (Ok a) cells → length (answer_text a) ≤ 2 * length p
 move_short s k p a cells h = short_step s k p (line_of_piece p) a cells refl h
 
 -- what a room says that stands where a run ends
-pub told_end : (r : Run) (s : State) (answers : List ℕ) (room : Space) → r ≡ record { state = Some s; output = answers; fault = None } → room.answers ≡ answers → room.word ≡ Some s.word → room.registers ≡ s.registers → RunTells r (Ok (tt {0})) room
+pub told_end : (r : Run) (s : State) (answers : List ℕ) (room : Space) → r ≡ record { state = Some s; output = answers; fault = None } → room.answers ≡ answers → room.word ≡ Some s.word → room.registers ≡ s.registers → IsAnswerOfRun r (Ok (tt {0})) room
 told_end r s answers room e a w g = (ap (λ (x : Run). x.fault) e, record { its_answers = a ∙ sym (ap (λ (x : Run). x.output) e); its_state = subst (λ (st : Option State). HoldsState st room) (sym (ap (λ (x : Run). x.state) e)) (w, g) })
 
-pub told_fault : (r : Run) (s : State) (k : ℕ) (p : List ℕ) (answers : List ℕ) (c : Cause) (room : Space) → r ≡ record { state = Some s; output = answers; fault = Some c } → room.answers ≡ answers → room.word ≡ Some s.word → StepTells s (line_of_piece p) k (Err c) room.registers → RunTells r (Err c) room
+pub told_fault : (r : Run) (s : State) (k : ℕ) (p : List ℕ) (answers : List ℕ) (c : Cause) (room : Space) → r ≡ record { state = Some s; output = answers; fault = Some c } → room.answers ≡ answers → room.word ≡ Some s.word → IsStepOfLine s (line_of_piece p) k (Err c) room.registers → IsAnswerOfRun r (Err c) room
 told_fault r s k p answers c room e a w h =
     (ap (λ (x : Run). x.fault) e, record { its_answers = a ∙ sym (ap (λ (x : Run). x.output) e); its_state = subst (λ (st : Option State). HoldsState st room) (sym (ap (λ (x : Run). x.state) e)) (w, fault_cells s k (line_of_piece p) c room.registers h) })
 
@@ -98,14 +99,14 @@ pub run_of_lines : (script p : List ℕ) (ps : List (List ℕ)) (h : ScriptHeade
 unfolding run_of
 run_of_lines script p ps h cut is narrow = ap run_pieces cut ∙ ap (λ o. run_from o ps) is ∙ ap (λ (b : Bool). if b then stopped None (OutOfRange 1) else run_lines (start h) 2 ps) narrow
 
-pub told_none : (r : Run) (c : Cause) (room : Space) → r ≡ stopped None c → room.answers ≡ [] → room.word ≡ None → room.registers ≡ [] → RunTells r (Err c) room
+pub told_none : (r : Run) (c : Cause) (room : Space) → r ≡ stopped None c → room.answers ≡ [] → room.word ≡ None → room.registers ≡ [] → IsAnswerOfRun r (Err c) room
 told_none r c room e a w g = (ap (λ (x : Run). x.fault) e, record { its_answers = a ∙ sym (ap (λ (x : Run). x.output) e); its_state = subst (λ (st : Option State). HoldsState st room) (sym (ap (λ (x : Run). x.state) e)) (w, g) })
 
 -- what the lines say, from a started room, is what the script says
 pub told_started : (script rest : List ℕ) (h : ScriptHeader) (word : WordName) (r : Result (Unit {0}) Cause) (started room : Space) → run_of script ≡ run_lines (start h) 2 (pieces rest) → word ≡ h.word → started.answers ≡ [] → started.registers ≡ (start h).registers
-    → RunTells (after started.answers (run_lines (state_in word started.registers) 2 (pieces rest))) r room → RunTells (run_of script) r room
+    → IsAnswerOfRun (after started.answers (run_lines (state_in word started.registers) 2 (pieces rest))) r room → IsAnswerOfRun (run_of script) r room
 told_started script rest h word r started room e v a g tells =
-    subst (λ (x : Run). RunTells x r room) (sym (e ∙ (λ i. after (sym a i) (run_lines (state_in (sym v i) (sym g i)) 2 (pieces rest))))) tells
+    subst (λ (x : Run). IsAnswerOfRun x r room) (sym (e ∙ (λ i. after (sym a i) (run_lines (state_in (sym v i) (sym g i)) 2 (pieces rest))))) tells
 
 -- ---- capped fractions
 width_small : (w : WordName) → width w ≤ 64

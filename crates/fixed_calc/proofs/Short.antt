@@ -19,7 +19,8 @@ use Rattle.fixed_script.proofs.HeaderLaws.{tokens_of_header}
 use Rattle.std.proofs.lemmas.List.Sums.{sum_by-take-le}
 use Rattle.fixed_word.specs.Format.{wrap, clamp}
 use Rattle.fixed_calc.specs.Projection.{plain, project}
-use Rattle.fixed_calc.specs.Machine.{State, cause, answer, is_signed, width, is_value, row_by, taken}
+use Rattle.fixed_calc.specs.Machine.{State, cause, answer, is_value, row_by, operand_values}
+use Rattle.fixed_text.specs.Words.{is_signed, width}
 use Rattle.fixed_script.specs.Lines.{line_of, header_of, then_of, line_of_piece, header_of_piece}
 use Rattle.fixed_calc.specs.Meaning.{fractions_of}
 use Rattle.fixed_calc.specs.Rooms.{spaces_in}
@@ -60,7 +61,7 @@ pub answer_short : (s : State) (l : ScriptLine) (k : ℕ) → cause s l k ≡ No
 unfolding answer
 answer_short s (SetTo dest x) k h = simp length-append (omega arith)
 answer_short s (Apply dest policy op xs how) k h =
-    let short = project_short s.word policy (row_by how op (taken s.registers xs)) (answer_valued s (Apply dest policy op xs how) k h) in
+    let short = project_short s.word policy (row_by how op (operand_values s.registers xs)) (answer_valued s (Apply dest policy op xs how) k h) in
     omega (arith, short, line_length dest policy op xs how)
 
 pub body_length : (p q : List ℕ) → body p ≡ Some q → length q + 1 ≤ length p

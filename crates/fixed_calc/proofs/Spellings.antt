@@ -18,19 +18,20 @@ use Rattle.fixed_script.specs.declared.line.Line.{Line}
 use Rattle.fixed_script.specs.declared.line.Line.TheVariants.{Set, One, Two, Int, Three}
 use Rattle.fixed_script.specs.Names.{policy_name, op_name, rounding_name}
 use Rattle.fixed_script.specs.Text.{ScriptHeader, ScriptLine, SetTo, Apply, Operands, OneRegister, TwoRegisters, RegisterAndInt, ThreeRegisters, IsLine, shape, may_round, register_text, operand_tokens, header_text, line_text}
-use Rattle.fixed_script.specs.Capped.{capped, denoted, literal_value, of_shape}
+use Rattle.fixed_script.specs.Capped.{capped, checked_script_line, literal_value, of_shape}
 use Rattle.fixed_script.specs.Lines.{then_of, line_of, line_of_piece, header_of_piece}
 use Rattle.fixed_script.proofs.TextsRead.{reads_lines}
 use Rattle.fixed_calc.specs.Answers.{answer_text}
 use Rattle.fixed_calc.specs.Demo.{ended}
-use Rattle.fixed_calc.specs.Machine.{State, Taken, taken, row_by, row_causes, causes_of, first_of, literals_of, registers_of, is_value, is_unoffered, is_out_of_range, is_mismatched, is_signed, width, stored, cause, answer, move}
+use Rattle.fixed_calc.specs.Machine.{State, OperandValues, operand_values, row_by, row_causes, causes_of, first_of, literals_of, registers_of, is_value, is_unoffered, is_out_of_range, is_mismatched, stored, cause, answer, move}
+use Rattle.fixed_text.specs.Words.{is_signed, width}
 use Rattle.fixed_calc.specs.Rows.{exact, exact_rounded}
 use Rattle.fixed_calc.specs.Projection.{project}
 use Rattle.fixed_calc.specs.Meaning.{Run, by_cause, step_then, run_lines, run_from, run_pieces, run_of, start, fractions_of, has_wide, stopped, meaning_with}
 use Rattle.fixed_calc.specs.declared.cause.Cause.TheVariants.{Syntax, OutOfRange, FractionMismatch}
 use Rattle.fixed_calc.specs.Spelled.{default_rounding, spelled_line, Spelling, Written, NoForm, in_front, spell_then, spelled_lines, spelled_from, spelled_pieces, spelled, KeepsMeaning}
 use Rattle.fixed_calc.specs.inside.Spelling.{added_to, with_end}
-use Rattle.fixed_calc.specs.inside.Stepping.{seen}
+use Rattle.fixed_calc.specs.inside.Stepping.{script_line_of}
 use Rattle.fixed_calc.proofs.Before.{join_last}
 use Rattle.fixed_calc.proofs.Ended.{pieces_ended, line_read, header_read}
 use Rattle.fixed_calc.proofs.Headed.{body_by, header_piece}
@@ -60,7 +61,7 @@ round_seen : (b : Bool) (s t : Shape) (l x : ScriptLine) → (if b then of_shape
 round_seen true s t l x e = same_Some l x (sym (shape_seen s t l x e) ∙ e)
 round_seen false s t l x e = cc
 
-line_seen : (line : Line) (x : ScriptLine) → denoted line ≡ Some x → seen line ≡ x
+line_seen : (line : Line) (x : ScriptLine) → checked_script_line line ≡ Some x → script_line_of line ≡ x
 line_seen (Set dest l) x e = same_Some (SetTo dest (literal_value l)) x e
 line_seen (One dest policy op a r) x e = round_seen (may_round op r) (shape op) Unary (Apply dest policy op (OneRegister a) r) x e
 line_seen (Two dest policy op a b r) x e = round_seen (may_round op r) (shape op) Binary (Apply dest policy op (TwoRegisters a b) r) x e
@@ -72,7 +73,7 @@ added_capped (SetTo dest k) = refl
 added_capped (Apply dest policy op xs None) = refl
 added_capped (Apply dest policy op xs (Some r)) = refl
 
-pub added_seen : (line : Line) (x : ScriptLine) → denoted line ≡ Some (capped x) → added_to (seen line) ≡ added_to x
+pub added_seen : (line : Line) (x : ScriptLine) → checked_script_line line ≡ Some (capped x) → added_to (script_line_of line) ≡ added_to x
 added_seen line x e = ap added_to (line_seen line (capped x) e) ∙ added_capped x
 
 -- ---- the text that is written
@@ -142,7 +143,7 @@ add_prod_down : (c a b s : ℤ) → rounded_add_prod_at c a b s Down ≡ exact_a
 add_prod_down c a b (pos n) = refl
 add_prod_down c a b (negsuc n) = refl
 
-default_row : (op : Op) (t : Taken) → row_by (default_rounding op) op t ≡ row_by None op t
+default_row : (op : Op) (t : OperandValues) → row_by (default_rounding op) op t ≡ row_by None op t
 unfolding exact exact_rounded
 default_row Neg t = refl
 default_row Add t = refl
@@ -191,11 +192,11 @@ module _ (s : State) (k dest : ℕ) (policy : Policy) (op : Op) (xs : Operands) 
   same_cause =
       ap (λ b. first_of ((is_unoffered s.word plain, Syntax k) ∷ (b, OutOfRange k) ∷ (is_mismatched s plain, FractionMismatch k) ∷ causes_of s spelled_out k)) same_range
       ∙ ap (λ row. first_of ((is_unoffered s.word plain, Syntax k) ∷ (is_out_of_range s plain, OutOfRange k) ∷ (is_mismatched s plain, FractionMismatch k) ∷ row_causes (is_signed s.word) (width s.word) policy op row k))
-      (default_row op (taken s.registers xs))
+      (default_row op (operand_values s.registers xs))
 
   same_answer : answer s spelled_out ≡ answer s plain
   unfolding answer
-  same_answer = ap (project policy (is_signed s.word) (width s.word)) (default_row op (taken s.registers xs))
+  same_answer = ap (project policy (is_signed s.word) (width s.word)) (default_row op (operand_values s.registers xs))
 
   same_step : (next before : State → Run) → ((t : State) → next t ≡ before t) → step_then s k (Some spelled_out) next ≡ step_then s k (Some plain) before
   same_step next before same =

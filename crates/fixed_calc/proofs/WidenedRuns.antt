@@ -7,10 +7,10 @@ use Rattle.fixed_script.specs.Lines.{line_of_piece}
 use Rattle.fixed_text.specs.declared.names.WordName.{WordName}
 use Rattle.fixed_text.specs.declared.names.WordName.TheVariants.{I8, I16, I32, I64, U8, U16, U32, U64}
 use Rattle.fixed_calc.specs.declared.cause.Cause.{Cause}
-use Rattle.fixed_text.specs.Words.{word_name}
+use Rattle.fixed_text.specs.Words.{width, word_name}
 use Rattle.fixed_calc.specs.Answers.{answer_text}
 use Rattle.fixed_script.specs.Text.{ScriptHeader, header_text, header_tokens, ScriptLine}
-use Rattle.fixed_calc.specs.Machine.{State, width, cause, answer, move}
+use Rattle.fixed_calc.specs.Machine.{State, cause, answer, move}
 use Rattle.fixed_calc.specs.Meaning.{Run, Output, after, by_cause, step_then, run_lines, run_of, start, has_wide, fractions_of, meaning, meaning_with}
 use Rattle.fixed_calc.specs.Demo.{ended}
 use Rattle.fixed_calc.specs.Widening.{IsWider, script_of, with_word, row_fits, fits_then, rows_fit}

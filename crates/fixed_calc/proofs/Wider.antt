@@ -13,12 +13,13 @@ use Rattle.fixed_calc.specs.declared.cause.Cause.TheVariants.{ZeroDivisor, Negat
 use Rattle.fixed_script.specs.Text.{ScriptLine, SetTo, Apply}
 use Rattle.fixed_calc.specs.Offered.{is_offered}
 use Rattle.fixed_calc.specs.Projection.{plain, flagged, project, is_strict}
-use Rattle.fixed_calc.specs.Machine.{State, is_signed, width, is_value, is_unoffered, is_out_of_range, is_mismatched, literals_of, registers_of, lacks_row, is_sqrt, exceeds, row_by, taken, row_causes, causes_of, first_of, cause, answer, move, stored, destination}
-use Rattle.fixed_calc.specs.OneNumber.{WhereItFits}
+use Rattle.fixed_calc.specs.Machine.{State, is_value, is_unoffered, is_out_of_range, is_mismatched, literals_of, registers_of, lacks_row, is_sqrt, exceeds, row_by, operand_values, row_causes, causes_of, first_of, cause, answer, move, stored, destination}
+use Rattle.fixed_text.specs.Words.{is_signed, width}
+use Rattle.fixed_calc.specs.PolicyLaws.{WhereItFits}
 use Rattle.fixed_calc.specs.Step.{state_in}
 use Rattle.fixed_calc.specs.Widening.{IsWider, row_fits}
 use Rattle.fixed_calc.proofs.Fits.{in_range, fit_true, is_width}
-use Rattle.fixed_calc.proofs.OneNumber.{where_it_fits}
+use Rattle.fixed_calc.proofs.PolicyLaws.{where_it_fits}
 use Rattle.fixed_calc.proofs.Causes.{PassesTests, after_tests, no_cause, either_false}
 
 -- ---- numbers
@@ -113,7 +114,7 @@ module _ (s : State) (wide : WordName) (wider : IsWider s.word wide) where
   same_causes : (line : ScriptLine) (k : ℕ) → row_fits s line ≡ true → causes_of (widened wide s) line k ≡ causes_of s line k
   same_causes (SetTo dest x) k e = refl
   same_causes (Apply dest policy op xs how) k e =
-      let row = row_by how op (taken s.registers xs) in
+      let row = row_by how op (operand_values s.registers xs) in
       ap (λ (b : Bool). row_causes b (width wide) policy op row k) wider.same_sign
       ∙ same_row_causes (is_signed s.word) (width s.word) (width wide) more_or_equal policy op row k (not_true (exceeds (is_signed s.word) (width s.word) row) e)
 
@@ -126,7 +127,7 @@ module _ (s : State) (wide : WordName) (wider : IsWider s.word wide) where
   unfolding answer
   same_answer (SetTo dest x) e = refl
   same_answer (Apply dest policy op xs how) e =
-      let row = row_by how op (taken s.registers xs) in
+      let row = row_by how op (operand_values s.registers xs) in
       ap (λ (b : Bool). project policy b (width wide) row) wider.same_sign
       ∙ same_projection (is_signed s.word) (width s.word) (width wide) more_or_equal policy row (is_width s.word) (is_width wide) (not_true (exceeds (is_signed s.word) (width s.word) row) e)
 

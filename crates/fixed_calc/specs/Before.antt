@@ -15,7 +15,8 @@ use Rattle.fixed_calc.specs.declared.cause.Cause.{Cause}
 use Rattle.fixed_calc.specs.declared.cause.Cause.TheVariants.{Syntax, OutOfRange, FractionMismatch}
 use Rattle.fixed_calc.specs.Answers.{answer_text}
 use Rattle.fixed_calc.specs.Projection.{project}
-use Rattle.fixed_calc.specs.Machine.{State, is_signed, width, taken, row_of, row_causes, first_of, is_unoffered, is_out_of_range, is_mismatched, destination, stored}
+use Rattle.fixed_calc.specs.Machine.{State, operand_values, row_of, row_causes, first_of, is_unoffered, is_out_of_range, is_mismatched, destination, stored}
+use Rattle.fixed_text.specs.Words.{is_signed, width}
 use Rattle.fixed_calc.specs.Meaning.{Run, Meaning, stopped, by_cause, start, fractions_of, has_wide, meaning, meaning_with}
 
 -- ---- reading
@@ -38,7 +39,7 @@ old_line_of_piece piece = then_of (body piece) old_line_of
 -- ---- the machine
 abbrev pub old_row_causes : State → ScriptLine → ℕ → List (Bool × Cause)
 old_row_causes s (SetTo dest x) k = []
-old_row_causes s (Apply dest policy op xs rounding) k = row_causes (is_signed s.word) (width s.word) policy op (row_of op (taken s.registers xs)) k
+old_row_causes s (Apply dest policy op xs rounding) k = row_causes (is_signed s.word) (width s.word) policy op (row_of op (operand_values s.registers xs)) k
 
 abbrev pub old_cause : State → ScriptLine → ℕ → Option Cause
 old_cause s line k =
@@ -46,7 +47,7 @@ old_cause s line k =
 
 abbrev pub old_answer : State → ScriptLine → Answer
 old_answer s (SetTo dest k) = Bits k
-old_answer s (Apply dest policy op xs rounding) = project policy (is_signed s.word) (width s.word) (row_of op (taken s.registers xs))
+old_answer s (Apply dest policy op xs rounding) = project policy (is_signed s.word) (width s.word) (row_of op (operand_values s.registers xs))
 
 abbrev pub old_move : State → ScriptLine → State
 old_move s line = record { word = s.word; registers = stored s.registers (destination line) (old_answer s line) }

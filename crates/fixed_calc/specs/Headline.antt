@@ -71,33 +71,33 @@ HasNoFault before now = (now ≡ before) × (now ≢ last_count)
 -- ---- the facts
 
 -- Done: the script was read whole, its meaning is an output, the sink took it whole, and no count rose
-abbrev pub DoneTells : SourceState → SourceState → SinkState → SinkState → Status → Type 0
-DoneTells source source' sink sink' status = status ≡ Done →
+abbrev pub WhenDone : SourceState → SourceState → SinkState → SinkState → Status → Type 0
+WhenDone source source' sink sink' status = status ≡ Done →
     ReadWhole source.left source'.left (λ input. IsOutput (meaning input) (Appends sink.taken sink'.taken))
     × (source'.faults ≡ source.faults) × (sink'.faults ≡ sink.faults) × (sink'.shortages ≡ sink.shortages)
 
 -- Script: the script was read whole, its meaning is that fault, and the source did not fail
-abbrev pub ScriptTells : SourceState → SourceState → Status → Type 0
-ScriptTells source source' status = (cause : Cause) → status ≡ Script cause →
+abbrev pub WhenScript : SourceState → SourceState → Status → Type 0
+WhenScript source source' status = (cause : Cause) → status ≡ Script cause →
     ReadWhole source.left source'.left (λ input. meaning input ≡ Fault cause) × (source'.faults ≡ source.faults)
 
 -- ReadFault: only where the source's count rose in this call, or stands at its last value; where it rose, no other
 -- status comes
-abbrev pub ReadFaultTells : SourceState → SourceState → Status → Type 0
-ReadFaultTells source source' status =
+abbrev pub WhenReadFault : SourceState → SourceState → Status → Type 0
+WhenReadFault source source' status =
     (status ≡ ReadFault → RoseOrLast source.faults source'.faults) × (source.faults < source'.faults → status ≡ ReadFault)
 
 -- TooLong: exactly where more than the limit was taken, and the source did not fail
-abbrev pub TooLongTells : SourceState → SourceState → Status → Type 0
-TooLongTells source source' status =
+abbrev pub WhenTooLong : SourceState → SourceState → Status → Type 0
+WhenTooLong source source' status =
     IfTold source.left source'.left (λ input rest. status ≡ TooLong ↔ TookTooMuch input rest)
     × (status ≡ TooLong → source'.faults ≡ source.faults)
 
 -- WriteFault: only where the sink's count rose in this call, or stands at its last value;
 -- the script was read whole, its meaning is an output, and the sink took a prefix of it. Where that count alone rose,
 -- no other status comes
-abbrev pub WriteFaultTells : SourceState → SourceState → SinkState → SinkState → Status → Type 0
-WriteFaultTells source source' sink sink' status =
+abbrev pub WhenWriteFault : SourceState → SourceState → SinkState → SinkState → Status → Type 0
+WhenWriteFault source source' sink sink' status =
     (status ≡ WriteFault →
     RoseOrLast sink.faults sink'.faults
     × ReadWhole source.left source'.left (λ input. IsOutput (meaning input) (AppendsPrefix sink.taken sink'.taken))
@@ -106,8 +106,8 @@ WriteFaultTells source source' sink sink' status =
 
 -- Memory: the sink took a prefix of the output, or nothing where the meaning is a fault; no read failed, and no write was
 -- refused but for want of memory
-abbrev pub MemoryTells : SourceState → SourceState → SinkState → SinkState → Status → Type 0
-MemoryTells source source' sink sink' status = status ≡ Memory →
+abbrev pub WhenMemory : SourceState → SourceState → SinkState → SinkState → Status → Type 0
+WhenMemory source source' sink sink' status = status ≡ Memory →
     IfSome source.left (λ input. TookPrefixOf sink.taken sink'.taken (meaning input))
     × (source'.faults ≡ source.faults) × IsUnrefusedOrShort sink sink'
 
@@ -124,27 +124,27 @@ IsComplete sink sink' (Output bytes) status = (status ≡ Memory) ⊎ ((status �
 IsComplete sink sink' (Fault cause) status = (status ≡ Memory) ⊎ (status ≡ Script cause)
 
 -- where neither count of faults rose or stands at its last value, a script of at most the limit has that status
-abbrev pub CompleteTells : SourceState → SourceState → SinkState → SinkState → Status → Type 0
-CompleteTells source source' sink sink' status =
+abbrev pub WhenComplete : SourceState → SourceState → SinkState → SinkState → Status → Type 0
+WhenComplete source source' sink sink' status =
     HasNoFault source.faults source'.faults → HasNoFault sink.faults sink'.faults
     → IfSome source.left (λ input. length input ≤ limit → IsComplete sink sink' (meaning input) status)
 
 -- ---- the facts of a call with the words `demo N`, where n is N
 -- Done: the sink took the summary whole, and none of its counts rose
-abbrev pub DemoDoneTells : ℕ → SinkState → SinkState → Status → Type 0
-DemoDoneTells n sink sink' status = status ≡ Done →
+abbrev pub WhenDemoDone : ℕ → SinkState → SinkState → Status → Type 0
+WhenDemoDone n sink sink' status = status ≡ Done →
     Appends sink.taken sink'.taken (summary n) × (sink'.faults ≡ sink.faults) × (sink'.shortages ≡ sink.shortages)
 
 -- WriteFault: only where the sink's count rose in this call, or stands at its last value; the sink took a prefix of the
 -- summary. Where that count alone rose, no other status comes
-abbrev pub DemoWriteFaultTells : ℕ → SinkState → SinkState → Status → Type 0
-DemoWriteFaultTells n sink sink' status =
+abbrev pub WhenDemoWriteFault : ℕ → SinkState → SinkState → Status → Type 0
+WhenDemoWriteFault n sink sink' status =
     (status ≡ WriteFault → RoseOrLast sink.faults sink'.faults × AppendsPrefix sink.taken sink'.taken (summary n))
     × (FaultsAlone sink sink' → status ≡ WriteFault)
 
 -- Memory: the sink took a prefix of the summary, and no write was refused but for want of memory
-abbrev pub DemoMemoryTells : ℕ → SinkState → SinkState → Status → Type 0
-DemoMemoryTells n sink sink' status = status ≡ Memory →
+abbrev pub WhenDemoMemory : ℕ → SinkState → SinkState → Status → Type 0
+WhenDemoMemory n sink sink' status = status ≡ Memory →
     AppendsPrefix sink.taken sink'.taken (summary n) × IsUnrefusedOrShort sink sink'
 
 -- no other status comes
@@ -173,8 +173,8 @@ error_line TooLong = codes "too long\n"
 error_line Memory = codes "out of memory\n"
 
 -- the errors took the line whole, or a proper prefix of it where a count rose or stands at its last value
-abbrev pub LineTells : SinkState → SinkState → Status → Type 0
-LineTells errors errors' status =
+abbrev pub WritesErrorLine : SinkState → SinkState → Status → Type 0
+WritesErrorLine errors errors' status =
     Appends errors.taken errors'.taken (error_line status)
     ⊎ (AppendsProperPrefix errors.taken errors'.taken (error_line status) × (RoseOrLast errors.faults errors'.faults ⊎ RoseOrLast errors.shortages errors'.shortages))
 

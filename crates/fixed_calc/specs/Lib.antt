@@ -10,8 +10,8 @@ pub mod Outside
 pub mod Memory
 pub mod Headline
 pub mod Calls
-pub mod Caps
-pub mod OneNumber
+pub mod CapLaw
+pub mod PolicyLaws
 pub mod Widening
 pub mod Before
 pub mod Spelled
@@ -24,7 +24,7 @@ pub use Rattle.fixed_script.specs.Text
 pub use Rattle.fixed_script.specs.Capped
 pub use Rattle.fixed_script.specs.Headers
 pub use Rattle.fixed_script.specs.Lines
-pub use Rattle.fixed_script.specs.Readings
+pub use Rattle.fixed_script.specs.ReadPieces
 pub use Rattle.fixed_script.specs.TextLaws
 pub use Rattle.fixed_text.specs.Numerals
 pub use Rattle.fixed_text.specs.Tokens

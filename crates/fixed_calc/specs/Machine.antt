@@ -3,7 +3,7 @@ use Rattle.std.specs.Prelude.{ℕ, ◌==◌, nat_le, ◌||◌, ◌&&◌, not, Bo
 use Rattle.std.specs.List.{list_any}
 use Rattle.fixed_word.specs.declared.rounding.Rounding.{Rounding}
 use Rattle.fixed_text.specs.declared.names.WordName.{WordName}
-use Rattle.fixed_text.specs.declared.names.WordName.TheVariants.{I8, I16, I32, I64, U8, U16, U32, U64}
+use Rattle.fixed_text.specs.Words.{is_signed, width}
 use Rattle.fixed_script.specs.declared.names.Policy.{Policy}
 use Rattle.fixed_script.specs.declared.names.Op.{Op}
 use Rattle.fixed_script.specs.declared.names.Op.TheVariants.{AddProd, Sqrt}
@@ -16,26 +16,6 @@ use Rattle.fixed_calc.specs.Projection.{project, is_checked, is_strict}
 use Rattle.fixed_calc.specs.Offered.{is_offered}
 use Rattle.fixed_calc.specs.declared.cause.Cause.{Cause}
 use Rattle.fixed_calc.specs.declared.cause.Cause.TheVariants.{Syntax, OutOfRange, FractionMismatch, ZeroDivisor, NegativeRoot, Overflow}
-
-abbrev pub is_signed : WordName → Bool
-is_signed I8 = true
-is_signed I16 = true
-is_signed I32 = true
-is_signed I64 = true
-is_signed U8 = false
-is_signed U16 = false
-is_signed U32 = false
-is_signed U64 = false
-
-abbrev pub width : WordName → ℕ
-width I8 = 8
-width I16 = 16
-width I32 = 32
-width I64 = 64
-width U8 = 8
-width U16 = 16
-width U32 = 32
-width U64 = 64
 
 abbrev pub is_value : WordName → ℤ → Bool
 is_value word x = fits (is_signed word) (width word) x
@@ -93,7 +73,7 @@ tied_registers (Apply dest policy op xs rounding) = tied op xs
 
 -- ---- the row of a line
 -- three operands, of which a line takes the first ones; an integer has no fraction
-pub record Taken : Type 0 where
+pub record OperandValues : Type 0 where
   pub a : Cell
   pub b : Cell
   pub c : Cell
@@ -101,17 +81,17 @@ pub record Taken : Type 0 where
 abbrev pub integer : ℤ → Cell
 integer k = record { bits = k; fraction = 0 }
 
-abbrev pub taken : List Cell → Operands → Taken
-taken cells (OneRegister a) = record { a = cell_at cells a; b = empty_cell; c = empty_cell }
-taken cells (TwoRegisters a b) = record { a = cell_at cells a; b = cell_at cells b; c = empty_cell }
-taken cells (RegisterAndInt a k) = record { a = cell_at cells a; b = integer k; c = empty_cell }
-taken cells (ThreeRegisters a b c) = record { a = cell_at cells a; b = cell_at cells b; c = cell_at cells c }
+abbrev pub operand_values : List Cell → Operands → OperandValues
+operand_values cells (OneRegister a) = record { a = cell_at cells a; b = empty_cell; c = empty_cell }
+operand_values cells (TwoRegisters a b) = record { a = cell_at cells a; b = cell_at cells b; c = empty_cell }
+operand_values cells (RegisterAndInt a k) = record { a = cell_at cells a; b = integer k; c = empty_cell }
+operand_values cells (ThreeRegisters a b c) = record { a = cell_at cells a; b = cell_at cells b; c = cell_at cells c }
 
-abbrev pub row_of : Op → Taken → Option ℤ
+abbrev pub row_of : Op → OperandValues → Option ℤ
 row_of op t = exact op t.a.bits t.b.bits t.c.bits t.a.fraction t.b.fraction t.c.fraction
 
 -- with the rounding that a line names, if it names one
-abbrev pub row_by : Option Rounding → Op → Taken → Option ℤ
+abbrev pub row_by : Option Rounding → Op → OperandValues → Option ℤ
 row_by rounding op t = exact_by rounding op t.a.bits t.b.bits t.c.bits t.a.fraction t.b.fraction t.c.fraction
 
 -- ---- causes
@@ -143,7 +123,7 @@ row_causes signed n policy op row k =
 
 abbrev pub causes_of : State → ScriptLine → ℕ → List (Bool × Cause)
 causes_of s (SetTo dest x) k = []
-causes_of s (Apply dest policy op xs rounding) k = row_causes (is_signed s.word) (width s.word) policy op (row_by rounding op (taken s.registers xs)) k
+causes_of s (Apply dest policy op xs rounding) k = row_causes (is_signed s.word) (width s.word) policy op (row_by rounding op (operand_values s.registers xs)) k
 
 -- the first that holds
 abbrev pub first_of : List (Bool × Cause) → Option Cause
@@ -157,7 +137,7 @@ cause s line k =
 -- ---- moves
 unfoldable pub answer : State → ScriptLine → Answer
 answer s (SetTo dest k) = Bits k
-answer s (Apply dest policy op xs rounding) = project policy (is_signed s.word) (width s.word) (row_by rounding op (taken s.registers xs))
+answer s (Apply dest policy op xs rounding) = project policy (is_signed s.word) (width s.word) (row_by rounding op (operand_values s.registers xs))
 
 abbrev pub stored : List Cell → ℕ → Answer → List Cell
 stored cells dest Absent = cells

@@ -6,7 +6,8 @@ use Rattle.fixed_script.specs.Text.{ScriptHeader, ScriptLine}
 use Rattle.fixed_script.specs.Lines.{line_of_piece, header_of_piece}
 use Rattle.fixed_word.specs.Pieces.{pieces}
 use Rattle.fixed_calc.specs.Answers.{answer_text}
-use Rattle.fixed_calc.specs.Machine.{Cell, State, width, cause, answer, move}
+use Rattle.fixed_calc.specs.Machine.{Cell, State, cause, answer, move}
+use Rattle.fixed_text.specs.Words.{width}
 use Rattle.fixed_calc.specs.declared.cause.Cause.{Cause}
 use Rattle.fixed_calc.specs.declared.cause.Cause.TheVariants.{Syntax, OutOfRange}
 

@@ -78,12 +78,12 @@ pub record Holds (run : Run) (room : Space) : Type 0 where
   pub its_state : HoldsState run.state room
 
 -- Ok exactly where the run has no fault, and the first cause exactly where it has one
-abbrev pub RunTells : Run → Result (Unit {0}) Cause → Space → Type 0
-RunTells run (Ok _) room = (run.fault ≡ None) × Holds run room
-RunTells run (Err c) room = (run.fault ≡ Some c) × Holds run room
+abbrev pub IsAnswerOfRun : Run → Result (Unit {0}) Cause → Space → Type 0
+IsAnswerOfRun run (Ok _) room = (run.fault ≡ None) × Holds run room
+IsAnswerOfRun run (Err c) room = (run.fault ≡ Some c) × Holds run room
 
 -- what a run says of the meaning
-abbrev pub MeaningTells : Meaning → Result (List ℕ) RunFault → Type 0
-MeaningTells m (Ok bytes) = m ≡ Output bytes
-MeaningTells m (Err (Script cause)) = m ≡ Fault cause
-MeaningTells m (Err Memory) = ⊤
+abbrev pub IsAnswerOfMeaning : Meaning → Result (List ℕ) RunFault → Type 0
+IsAnswerOfMeaning m (Ok bytes) = m ≡ Output bytes
+IsAnswerOfMeaning m (Err (Script cause)) = m ≡ Fault cause
+IsAnswerOfMeaning m (Err Memory) = ⊤

@@ -58,10 +58,10 @@ abbrev pub spelled : List ℕ → Spelling
 spelled script = spelled_pieces (pieces script)
 
 -- the script spelled out, or the piece without the form; want of memory comes in the place of either
-abbrev pub SpellingTells : Spelling → Result (List ℕ) ExplicitFault → Type 0
-SpellingTells spelling (Ok script) = spelling ≡ Written script
-SpellingTells spelling (Err (Syntax k)) = spelling ≡ NoForm k
-SpellingTells spelling (Err Memory) = ⊤
+abbrev pub IsAnswerOfSpelling : Spelling → Result (List ℕ) ExplicitFault → Type 0
+IsAnswerOfSpelling spelling (Ok script) = spelling ≡ Written script
+IsAnswerOfSpelling spelling (Err (Syntax k)) = spelling ≡ NoForm k
+IsAnswerOfSpelling spelling (Err Memory) = ⊤
 
 -- the law: what is spelled out means the same, faults and their lines included
 abbrev pub KeepsMeaning : Type 0

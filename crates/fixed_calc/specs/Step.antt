@@ -4,7 +4,8 @@ use Rattle.fixed_text.specs.declared.names.WordName.{WordName}
 use Rattle.fixed_calc.specs.declared.answer.Answer.{Answer}
 use Rattle.fixed_script.specs.Text.{ScriptLine}
 use Rattle.fixed_word.specs.Format.{with_sign, fits}
-use Rattle.fixed_calc.specs.Machine.{Cell, State, is_signed, width, cause, answer, move}
+use Rattle.fixed_calc.specs.Machine.{Cell, State, cause, answer, move}
+use Rattle.fixed_text.specs.Words.{is_signed, width}
 use Rattle.fixed_calc.specs.declared.cause.Cause.{Cause}
 use Rattle.fixed_calc.specs.declared.cause.Cause.TheVariants.{Syntax}
 use Rattle.fixed_calc.specs.declared.register.Register.{Register}
@@ -28,8 +29,8 @@ abbrev pub IsCell : WordName → Cell → Type 0
 IsCell word cell = FitsFormat (is_signed word) (width word) cell
 
 -- the answer of the move and its registers, or the line's cause and the registers as they were
-abbrev pub StepTells : State → Option ScriptLine → ℕ → Result Answer Cause → List Cell → Type 0
-StepTells s None k (Ok a) cells = ⊥
-StepTells s None k (Err c) cells = (c ≡ Syntax k) × (cells ≡ s.registers)
-StepTells s (Some line) k (Ok a) cells = (cause s line k ≡ None) × (a ≡ answer s line) × (cells ≡ (move s line).registers)
-StepTells s (Some line) k (Err c) cells = (cause s line k ≡ Some c) × (cells ≡ s.registers)
+abbrev pub IsStepOfLine : State → Option ScriptLine → ℕ → Result Answer Cause → List Cell → Type 0
+IsStepOfLine s None k (Ok a) cells = ⊥
+IsStepOfLine s None k (Err c) cells = (c ≡ Syntax k) × (cells ≡ s.registers)
+IsStepOfLine s (Some line) k (Ok a) cells = (cause s line k ≡ None) × (a ≡ answer s line) × (cells ≡ (move s line).registers)
+IsStepOfLine s (Some line) k (Err c) cells = (cause s line k ≡ Some c) × (cells ≡ s.registers)

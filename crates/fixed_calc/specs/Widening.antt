@@ -3,7 +3,8 @@ use Rattle.std.specs.Prelude.{◌≡◌, ◌<◌, ℕ, Bool, true, not, ◌&&◌
 use Rattle.fixed_script.specs.Lines.{line_of_piece}
 use Rattle.fixed_text.specs.declared.names.WordName.{WordName}
 use Rattle.fixed_script.specs.Text.{ScriptHeader, header_text, ScriptLine, SetTo, Apply}
-use Rattle.fixed_calc.specs.Machine.{State, is_signed, width, row_by, taken, exceeds, move}
+use Rattle.fixed_calc.specs.Machine.{State, row_by, operand_values, exceeds, move}
+use Rattle.fixed_text.specs.Words.{is_signed, width}
 
 -- a wider word of the same sign
 pub record IsWider (narrow wide : WordName) : Type 0 where
@@ -21,7 +22,7 @@ with_word word header = record header { word = word }
 -- the row of a line is undefined or a number that fits; `set` takes no row
 abbrev pub row_fits : State → ScriptLine → Bool
 row_fits s (SetTo dest k) = true
-row_fits s (Apply dest policy op xs rounding) = not (exceeds (is_signed s.word) (width s.word) (row_by rounding op (taken s.registers xs)))
+row_fits s (Apply dest policy op xs rounding) = not (exceeds (is_signed s.word) (width s.word) (row_by rounding op (operand_values s.registers xs)))
 
 abbrev pub fits_then : State → Option ScriptLine → (State → Bool) → Bool
 fits_then s None next = true

@@ -2,7 +2,7 @@
 pub mod Buffers
 pub mod Commands
 pub mod Moves
-pub mod Reading
+pub mod ReadFaults
 pub mod Stepping
 pub mod Groups
 pub mod Spelling

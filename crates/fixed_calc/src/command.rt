@@ -2,7 +2,7 @@
 
 ghost use Rattle.std.specs.Prelude.{◌≡◌, ◌≤◌, ◌↔◌, ℕ, IfNone, IfSome, IsTrue};
 ghost use Rattle.fixed_word.specs.Decimal.{natural_text};
-ghost use Rattle.fixed_calc.specs.inside.Commands.{CommandTells};
+ghost use Rattle.fixed_calc.specs.inside.Commands.{IsCommandOf};
 ghost use Rattle.fixed_calc.specs.CommandLine.{most_lines};
 
 use fixed_text::natural_of;
@@ -47,7 +47,7 @@ fn lines_of(word: &[u8]) -> Option<u32>
 
 /// What the words ask for; None where they are no form of the command.
 pub(crate) fn command_of(words: &[String]) -> Option<Command>
-    ensures { CommandTells words.now result }
+    ensures { IsCommandOf words.now result }
 {
     match words {
         [] => Some(Command::Script),

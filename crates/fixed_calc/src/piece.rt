@@ -3,7 +3,7 @@
 ghost use Rattle.std.specs.Prelude.{◌≡◌, None};
 ghost use Rattle.std.specs.List.{All};
 ghost use Rattle.fixed_script.specs.Lines.{line_of_piece};
-ghost use Rattle.fixed_calc.specs.Step.{IsCell, StepTells, cells_of, state_in};
+ghost use Rattle.fixed_calc.specs.Step.{IsCell, IsStepOfLine, cells_of, state_in};
 
 use crate::answer::Answer;
 use crate::cause::Cause;
@@ -20,7 +20,7 @@ pub(crate) fn read_and_step(
     number: u64,
 ) -> Result<Answer, Cause>
     requires { All (IsCell word) (cells_of registers.old) }
-    ensures tells { StepTells (state_in word (cells_of registers.old))
+    ensures tells { IsStepOfLine (state_in word (cells_of registers.old))
         (line_of_piece piece.now) number result (cells_of registers.new) }
     ensures kept { All (IsCell word) (cells_of registers.new) }
 {

@@ -4,13 +4,14 @@ ghost use Rattle.std.specs.Prelude.{◌≡◌, ◌≤◌, ◌<◌, ◌^◌, ℕ,
 ghost use Rattle.fixed_word.specs.Format.{fits};
 ghost use Rattle.fixed_word.specs.Standing.{StandsFor};
 ghost use Rattle.fixed_calc.specs.Offered.{is_offered};
-ghost use Rattle.fixed_calc.specs.Machine.{row_by, is_signed, width};
+ghost use Rattle.fixed_calc.specs.Machine.{row_by};
+ghost use Rattle.fixed_text.specs.Words.{is_signed, width};
 ghost use Rattle.fixed_calc.specs.Step.{FitsFormat, IsCell, cell_of};
-ghost use Rattle.fixed_calc.specs.inside.Stepping.{NumberTells, RowTells, taken_of};
+ghost use Rattle.fixed_calc.specs.inside.Stepping.{IsAnswerOfNumber, IsAnswerOfRow, values_of};
 
 use crate::answer::Answer;
 use crate::cause::Cause;
-use crate::register::{Register, Taken, with_sign};
+use crate::register::{OperandRegisters, Register, with_sign};
 use crate::rows::{Operand, outcome_by};
 use fixed_script::{Op, Policy};
 use fixed_text::WordName;
@@ -54,7 +55,7 @@ fn operand_of<T: Word>(register: Register) -> Operand<T>
 /// What the policy makes of the number that an outcome stands for.
 fn answered<T: Word>(policy: Policy, outcome: Outcome<T>, number: u64) -> Result<Answer, Cause>
     ensures { (x : ℤ) → StandsFor T.value T.SIGNED T.BITS x outcome
-        → NumberTells T.SIGNED T.BITS policy x number result }
+        → IsAnswerOfNumber T.SIGNED T.BITS policy x number result }
 {
     match policy {
         Policy::Checked => match checked_of(outcome) {
@@ -78,7 +79,7 @@ fn answered<T: Word>(policy: Policy, outcome: Outcome<T>, number: u64) -> Result
 #[tactic(auto, unfolding(crate::specs::Machine::row_causes))]
 fn unanswered(policy: Policy, op: Op, number: u64) -> Result<Answer, Cause>
     ensures { (signed : Bool) (n : ℕ) (row : Option ℤ) → row ≡ None
-        → RowTells signed n policy op row number result }
+        → IsAnswerOfRow signed n policy op row number result }
 {
     if policy == Policy::Checked {
         Ok(Answer::Absent)
@@ -95,14 +96,14 @@ fn answer_as<T: Word>(
     policy: Policy,
     op: Op,
     rounding: Option<Rounding>,
-    taken: &Taken,
+    taken: &OperandRegisters,
     number: u64,
 ) -> Result<Answer, Cause>
     requires offered { is_offered T.SIGNED policy op ≡ true }
     requires a { FitsFormat T.SIGNED T.BITS (cell_of taken.now.a) }
     requires b { FitsFormat T.SIGNED T.BITS (cell_of taken.now.b) }
     requires c { FitsFormat T.SIGNED T.BITS (cell_of taken.now.c) }
-    ensures { RowTells T.SIGNED T.BITS policy op (row_by rounding op (taken_of taken.now)) number result }
+    ensures { IsAnswerOfRow T.SIGNED T.BITS policy op (row_by rounding op (values_of taken.now)) number result }
 {
     let a = operand_of::<T>(taken.a);
     let b = operand_of::<T>(taken.b);
@@ -120,15 +121,15 @@ pub(crate) fn answer_in_word(
     policy: Policy,
     op: Op,
     rounding: Option<Rounding>,
-    taken: &Taken,
+    taken: &OperandRegisters,
     number: u64,
 ) -> Result<Answer, Cause>
     requires offered { is_offered (is_signed word) policy op ≡ true }
     requires a { IsCell word (cell_of taken.now.a) }
     requires b { IsCell word (cell_of taken.now.b) }
     requires c { IsCell word (cell_of taken.now.c) }
-    ensures { RowTells (is_signed word)
-        (width word) policy op (row_by rounding op (taken_of taken.now)) number result }
+    ensures { IsAnswerOfRow (is_signed word)
+        (width word) policy op (row_by rounding op (values_of taken.now)) number result }
 {
     match word {
         WordName::I8 => answer_as::<i8>(policy, op, rounding, taken, number),

@@ -2,7 +2,7 @@
 
 ghost use Rattle.std.specs.Prelude.{◌≡◌, ◌↔◌, IfOk, IsErrOf};
 ghost use Rattle.fixed_calc.specs.Headline.{IfTold, ReadWhole, TookTooMuch};
-ghost use Rattle.fixed_calc.specs.inside.Reading.{ReadTells, ReadsAs};
+ghost use Rattle.fixed_calc.specs.inside.ReadFaults.{RoseIfFailed, ReadsAs};
 
 use crate::outside::Source;
 use std::alloc::Global;
@@ -24,7 +24,7 @@ pub(crate) fn read_all<S: Source>(alloc: Global, source: &mut S) -> Result<Vec<u
         (S.state source.old).left (S.state source.new).left (λ input. script.items ≡ input)) }
     ensures too_long { IfTold (S.state source.old).left (S.state source.new).left (λ input rest.
         IsErrOf result Stop.TooLong ↔ TookTooMuch input rest) }
-    ensures faults { ReadTells (S.state source.old).faults (S.state source.new).faults result }
+    ensures faults { RoseIfFailed (S.state source.old).faults (S.state source.new).faults result }
     ensures reads { ReadsAs S.read_gives source.old source.new result }
 {
     let mut script = Vec::new(alloc);

@@ -2,11 +2,11 @@
 
 ghost use Rattle.std.specs.Prelude.{◌≡◌, ◌≤◌, ◌<◌, ◌*◌, ◌+◌, ◌++◌, [], length, vec_len, vec_capacity, IfOk, IfErr, OnOk, IsSome, IfSome, IsTrue, ◌↔◌, Some, None, true, false};
 ghost use Rattle.fixed_calc.specs.Answers.{answer_text};
-ghost use Rattle.fixed_calc.specs.Machine.{width as width_in};
+ghost use Rattle.fixed_text.specs.Words.{width as width_in};
 ghost use Rattle.fixed_calc.specs.Meaning.{has_wide as is_wide, zeros};
-ghost use Rattle.fixed_script.specs.Capped.{denoted};
+ghost use Rattle.fixed_script.specs.Capped.{checked_script_line};
 ghost use Rattle.fixed_calc.specs.Rooms.{KeepsTheRest, spaces, spaces_in};
-ghost use Rattle.fixed_calc.specs.Step.{StepTells, cell_of, cells_of, state_in};
+ghost use Rattle.fixed_calc.specs.Step.{IsStepOfLine, cell_of, cells_of, state_in};
 
 use crate::answer::Answer;
 use crate::buffer::Buffer;
@@ -125,10 +125,10 @@ impl Answers {
 
 impl Room {
     ghost use Rattle.fixed_script.specs.Lines.{line_of_piece};
-    ghost use Rattle.fixed_script.specs.Capped.{denoted};
+    ghost use Rattle.fixed_script.specs.Capped.{checked_script_line};
     ghost use Rattle.fixed_calc.specs.Machine.{cell_at};
     ghost use Rattle.fixed_calc.specs.Rooms.{IsEmptySpace, IsStarted, KeepsTheRest, KeepsRoom, Suffices, spaces};
-    ghost use Rattle.fixed_calc.specs.Step.{StepTells, state_in};
+    ghost use Rattle.fixed_calc.specs.Step.{IsStepOfLine, state_in};
 
     /// A room without a header, registers and answers, for as many registers as the script's first piece has
     /// spaces and for twice the script's length of answer bytes; or want of memory.
@@ -184,8 +184,8 @@ impl Room {
     /// Runs one line.
     pub(crate) fn step_line(&mut self, line: &Line, number: u64) -> Result<Answer, Cause>
         requires { IsSome self.old.word }
-        ensures tells { IfSome self.old.word (λ word. StepTells (state_in word self.old.registers)
-            (denoted line.now) number result self.new.registers) }
+        ensures tells { IfSome self.old.word (λ word. IsStepOfLine (state_in word self.old.registers)
+            (checked_script_line line.now) number result self.new.registers) }
         ensures kept { KeepsTheRest self.old self.new }
     {
         let word = self.word.unwrap();
@@ -195,7 +195,7 @@ impl Room {
     /// Runs one piece.
     pub(crate) fn step_piece(&mut self, piece: &[u8], number: u64) -> Result<Answer, Cause>
         requires { IsSome self.old.word }
-        ensures tells { IfSome self.old.word (λ word. StepTells (state_in word self.old.registers)
+        ensures tells { IfSome self.old.word (λ word. IsStepOfLine (state_in word self.old.registers)
             (line_of_piece piece.now) number result self.new.registers) }
         ensures kept { KeepsTheRest self.old self.new }
     {
@@ -281,8 +281,8 @@ impl Room {
 /// memory.
 pub fn step(room: &mut Room, line: &Line, number: u64) -> Result<Answer, Cause>
     requires { IsSome room.old.word }
-    ensures tells { IfSome room.old.word (λ word. StepTells
-        (state_in word room.old.registers) (denoted line.now) number result room.new.registers) }
+    ensures tells { IfSome room.old.word (λ word. IsStepOfLine
+        (state_in word room.old.registers) (checked_script_line line.now) number result room.new.registers) }
     ensures kept { KeepsTheRest room.old room.new }
 {
     room.step_line(line, number)

@@ -7,7 +7,7 @@ ghost use Rattle.fixed_kernel.specs.RoundedRows.{rounded_div, rounded_div_int, r
 ghost use Rattle.fixed_script.specs.Text.{takes_rounding as rounds};
 ghost use Rattle.fixed_calc.specs.Offered.{is_offered};
 ghost use Rattle.fixed_calc.specs.inside.Groups.{group, OfOne, SumOrProduct, ByDivisor};
-ghost use Rattle.fixed_calc.specs.inside.Stepping.{OutcomeTells};
+ghost use Rattle.fixed_calc.specs.inside.Stepping.{IsOutcomeOfRow};
 
 use fixed_kernel::{
     abs_of, add_of, add_prod_of, add_prod_round_of, dist_of, div_euclid_int_of, div_euclid_of,
@@ -64,7 +64,7 @@ fn outcome_of_one<T: Word>(policy: Policy, op: Op, x: T, frac: u32) -> Option<Ou
     requires group { group op ≡ OfOne }
     requires offered { is_offered T.SIGNED policy op ≡ true }
     requires frac { frac ≤ T.BITS }
-    ensures { (b c : ℤ) (g h : ℕ) → OutcomeTells T.value T.SIGNED T.BITS
+    ensures { (b c : ℤ) (g h : ℕ) → IsOutcomeOfRow T.value T.SIGNED T.BITS
         (exact_row op (T.value x) b c frac g h) result }
 {
     match op {
@@ -102,7 +102,7 @@ fn outcome_of_sum_or_product<T: Word>(
     requires a { a.fraction ≤ T.BITS }
     requires b { b.fraction ≤ T.BITS }
     requires c { c.fraction ≤ T.BITS }
-    ensures { OutcomeTells T.value T.SIGNED T.BITS
+    ensures { IsOutcomeOfRow T.value T.SIGNED T.BITS
         (exact_row op (T.value a.bits) (T.value b.bits) (T.value c.bits) a.fraction b.fraction c.fraction) result }
 {
     match op {
@@ -124,7 +124,7 @@ fn outcome_of_quotient<T: Word>(op: Op, x: T, y: T, frac: u32) -> Option<Outcome
     requires group { group op ≡ ByDivisor }
     requires divisor { T.value y ≢ pos 0 }
     requires frac { frac ≤ T.BITS }
-    ensures { (c : ℤ) (g h : ℕ) → OutcomeTells T.value T.SIGNED T.BITS
+    ensures { (c : ℤ) (g h : ℕ) → IsOutcomeOfRow T.value T.SIGNED T.BITS
         (exact_row op (T.value x) (T.value y) c frac g h) result }
 {
     match op {
@@ -145,7 +145,7 @@ fn outcome_of_quotient<T: Word>(op: Op, x: T, y: T, frac: u32) -> Option<Outcome
 fn outcome_by_divisor<T: Word>(op: Op, x: T, y: T, frac: u32) -> Option<Outcome<T>>
     requires group { group op ≡ ByDivisor }
     requires frac { frac ≤ T.BITS }
-    ensures { (c : ℤ) (g h : ℕ) → OutcomeTells T.value T.SIGNED T.BITS
+    ensures { (c : ℤ) (g h : ℕ) → IsOutcomeOfRow T.value T.SIGNED T.BITS
         (exact_row op (T.value x) (T.value y) c frac g h) result }
 {
     if y == T::ZERO {
@@ -167,7 +167,7 @@ fn outcome_as<T: Word>(
     requires a { a.fraction ≤ T.BITS }
     requires b { b.fraction ≤ T.BITS }
     requires c { c.fraction ≤ T.BITS }
-    ensures { OutcomeTells T.value T.SIGNED T.BITS
+    ensures { IsOutcomeOfRow T.value T.SIGNED T.BITS
         (exact_row op (T.value a.bits) (T.value b.bits) (T.value c.bits) a.fraction b.fraction c.fraction) result }
 {
     match group_of(op) {
@@ -180,7 +180,7 @@ fn outcome_as<T: Word>(
 /// The quotient with that rounding, and None where the divisor is 0.
 fn rounded_quotient<T: Word>(a: Operand<T>, b: T, rounding: Rounding) -> Option<Outcome<T>>
     requires { a.fraction ≤ T.BITS }
-    ensures { OutcomeTells T.value T.SIGNED T.BITS
+    ensures { IsOutcomeOfRow T.value T.SIGNED T.BITS
         (by_divisor (T.value b) (rounded_div (T.value a.bits) (T.value b) a.fraction rounding)) result }
 {
     if b == T::ZERO {
@@ -191,7 +191,7 @@ fn rounded_quotient<T: Word>(a: Operand<T>, b: T, rounding: Rounding) -> Option<
 
 /// The quotient by an integer with that rounding, and None where the integer is 0.
 fn rounded_quotient_by<T: Word>(a: T, k: T, rounding: Rounding) -> Option<Outcome<T>>
-    ensures { OutcomeTells T.value T.SIGNED T.BITS
+    ensures { IsOutcomeOfRow T.value T.SIGNED T.BITS
         (by_divisor (T.value k) (rounded_div_int (T.value a) (T.value k) rounding)) result }
 {
     if k == T::ZERO {
@@ -203,7 +203,7 @@ fn rounded_quotient_by<T: Word>(a: T, k: T, rounding: Rounding) -> Option<Outcom
 /// The reciprocal with that rounding, and None where the operand is 0.
 fn rounded_reciprocal<T: Word>(a: Operand<T>, rounding: Rounding) -> Option<Outcome<T>>
     requires { a.fraction ≤ T.BITS }
-    ensures { OutcomeTells T.value T.SIGNED T.BITS
+    ensures { IsOutcomeOfRow T.value T.SIGNED T.BITS
         (by_divisor (T.value a.bits) (rounded_recip (T.value a.bits) a.fraction rounding)) result }
 {
     if a.bits == T::ZERO {
@@ -226,7 +226,7 @@ fn rounded_outcome_as<T: Word>(
     requires a { a.fraction ≤ T.BITS }
     requires b { b.fraction ≤ T.BITS }
     requires c { c.fraction ≤ T.BITS }
-    ensures { OutcomeTells T.value T.SIGNED T.BITS
+    ensures { IsOutcomeOfRow T.value T.SIGNED T.BITS
         (exact_rounded rounding op (T.value a.bits) (T.value b.bits) (T.value c.bits) a.fraction b.fraction c.fraction) result }
 {
     match op {
@@ -256,7 +256,7 @@ pub(crate) fn outcome_by<T: Word>(
     requires a { a.fraction ≤ T.BITS }
     requires b { b.fraction ≤ T.BITS }
     requires c { c.fraction ≤ T.BITS }
-    ensures { OutcomeTells T.value T.SIGNED T.BITS
+    ensures { IsOutcomeOfRow T.value T.SIGNED T.BITS
         (exact_by rounding op (T.value a.bits) (T.value b.bits) (T.value c.bits) a.fraction b.fraction c.fraction) result }
 {
     match rounding {

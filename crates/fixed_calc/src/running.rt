@@ -4,7 +4,7 @@ ghost use Rattle.std.specs.Prelude.{◌≡◌, ◌≤◌, ◌<◌, ◌*◌, ◌+
 ghost use Rattle.fixed_word.specs.Pieces.{pieces};
 ghost use Rattle.fixed_calc.specs.Meaning.{after, meaning, run_lines, run_of};
 ghost use Rattle.fixed_calc.specs.inside.Moves.{HasMoved};
-ghost use Rattle.fixed_calc.specs.Rooms.{KeepsRoom, MeaningTells, RunTells, Suffices};
+ghost use Rattle.fixed_calc.specs.Rooms.{KeepsRoom, IsAnswerOfMeaning, IsAnswerOfRun, Suffices};
 ghost use Rattle.fixed_calc.specs.Step.{state_in};
 
 use crate::cause::{Cause, RunFault};
@@ -19,7 +19,7 @@ fn answer_line(word: WordName, rest: &[u8], number: u64, room: &mut Room) -> Res
     requires word { room.old.word ≡ Some word }
     requires space { length room.old.answers + 2 * length rest.now ≤ room.old.answer_room }
     ensures ok { IfOk result (λ end. HasMoved word number rest.now end room.old room.new) }
-    ensures err { IfErr result (λ cause. RunTells (after room.old.answers (run_lines
+    ensures err { IfErr result (λ cause. IsAnswerOfRun (after room.old.answers (run_lines
         (state_in word room.old.registers) number (pieces rest.now))) (Err cause) room.new) }
     ensures kept { KeepsRoom room.old room.new }
 {
@@ -37,7 +37,7 @@ fn answer_line(word: WordName, rest: &[u8], number: u64, room: &mut Room) -> Res
 fn answer_lines(word: WordName, lines: &[u8], room: &mut Room) -> Result<(), Cause>
     requires word { room.old.word ≡ Some word }
     requires space { length room.old.answers + 2 * length lines.now ≤ room.old.answer_room }
-    ensures tells { RunTells (after room.old.answers
+    ensures tells { IsAnswerOfRun (after room.old.answers
         (run_lines (state_in word room.old.registers) 2 (pieces lines.now))) result room.new }
     ensures kept { KeepsRoom room.old room.new }
 {
@@ -58,7 +58,7 @@ fn answer_lines(word: WordName, lines: &[u8], room: &mut Room) -> Result<(), Cau
 /// room.
 pub fn run_in(script: &[u8], room: &mut Room) -> Result<(), Cause>
     requires { Suffices script.now room.old }
-    ensures tells { RunTells (run_of script.now) result room.new }
+    ensures tells { IsAnswerOfRun (run_of script.now) result room.new }
     ensures kept { KeepsRoom room.old room.new }
 {
     room.clear();
@@ -78,7 +78,7 @@ pub fn run_in(script: &[u8], room: &mut Room) -> Result<(), Cause>
 
 /// Runs a script: its answers, its first cause, or want of memory. On a fault nothing is handed out.
 pub fn run(alloc: Global, script: &[u8]) -> Result<Answers, RunFault>
-    ensures { MeaningTells (meaning script.now) result }
+    ensures { IsAnswerOfMeaning (meaning script.now) result }
 {
     let mut room = match Room::for_script(alloc, script) {
         Ok(room) => room,

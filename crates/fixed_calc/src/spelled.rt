@@ -3,9 +3,9 @@
 ghost use Rattle.std.specs.Prelude.{◌≡◌, ◌<◌, ◌∷◌, ◌++◌, [], length, IfErr, IfOk, OnOk};
 ghost use Rattle.fixed_word.specs.Pieces.{pieces};
 ghost use Rattle.fixed_script.specs.Names.{rounding_name};
-ghost use Rattle.fixed_calc.specs.Spelled.{SpellingTells, default_rounding, in_front, spelled, spelled_lines};
-ghost use Rattle.fixed_calc.specs.inside.Spelling.{AllTells, HasSpelled, StopTells, added_to, with_end};
-ghost use Rattle.fixed_calc.specs.inside.Stepping.{seen};
+ghost use Rattle.fixed_calc.specs.Spelled.{IsAnswerOfSpelling, default_rounding, in_front, spelled, spelled_lines};
+ghost use Rattle.fixed_calc.specs.inside.Spelling.{SpellsAll, HasSpelled, StopsSpelling, added_to, with_end};
+ghost use Rattle.fixed_calc.specs.inside.Stepping.{script_line_of};
 
 use crate::demo::Script;
 use fixed_script::{Line, Op, Rounding, header_of_piece, line_of_piece};
@@ -37,7 +37,7 @@ fn default_of(op: Op) -> Option<Rounding>
 
 /// The rounding that is added to a line, if any is.
 fn added(line: &Line) -> Option<Rounding>
-    ensures { result ≡ added_to (seen line.now) }
+    ensures { result ≡ added_to (script_line_of line.now) }
 {
     match line {
         Line::Set { .. } => None,
@@ -66,7 +66,7 @@ fn end_of(rounding: Rounding) -> &'static [u8]
 fn push_spelled(script: &mut Vec<u8>, piece: &[u8], line: &Line) -> Result<(), AllocError>
     requires { 0 < length piece.now }
     ensures { OnOk result (script.new.items
-        ≡ script.old.items ++ with_end (added_to (seen line.now)) piece.now) }
+        ≡ script.old.items ++ with_end (added_to (script_line_of line.now)) piece.now) }
 {
     match added(line) {
         Some(rounding) => {
@@ -81,7 +81,7 @@ fn push_spelled(script: &mut Vec<u8>, piece: &[u8], line: &Line) -> Result<(), A
 fn spell_line(script: &mut Vec<u8>, rest: &[u8], number: u64) -> Result<usize, ExplicitFault>
     requires { 0 < length rest.now }
     ensures ok { IfOk result (λ end. HasSpelled number rest.now end script.old.items script.new.items) }
-    ensures err { IfErr result (λ fault. StopTells
+    ensures err { IfErr result (λ fault. StopsSpelling
         (in_front script.old.items (spelled_lines number (pieces rest.now))) fault) }
 {
     let end = piece_end(rest);
@@ -96,7 +96,7 @@ fn spell_line(script: &mut Vec<u8>, rest: &[u8], number: u64) -> Result<usize, E
 
 /// Adds the lines after the header, spelled out.
 fn spell_lines(script: &mut Vec<u8>, lines: &[u8]) -> Result<(), ExplicitFault>
-    ensures { AllTells (in_front script.old.items (spelled_lines 2 (pieces lines.now)))
+    ensures { SpellsAll (in_front script.old.items (spelled_lines 2 (pieces lines.now)))
         result script.new.items }
 {
     let mut at = 0;
@@ -116,7 +116,7 @@ fn spell_lines(script: &mut Vec<u8>, lines: &[u8]) -> Result<(), ExplicitFault>
 /// one, and 1 for no bytes at all; want of memory may come in the place of either, and nothing is handed out
 /// then.
 pub fn explicit(alloc: Global, script: &[u8]) -> Result<Script, ExplicitFault>
-    ensures { SpellingTells (spelled script.now) result }
+    ensures { IsAnswerOfSpelling (spelled script.now) result }
 {
     if script.is_empty() {
         return Err(ExplicitFault::Syntax(1));

@@ -2,18 +2,19 @@
 
 ghost use Rattle.std.specs.Prelude.{◌≡◌, ◌≤◌, ◌<◌, ◌^◌, nat_le, length, set, Some, None, true, false, IsTrue, unsigned_abs};
 ghost use Rattle.std.specs.List.{All};
-ghost use Rattle.fixed_script.specs.Capped.{denoted, literal_value};
+ghost use Rattle.fixed_script.specs.Capped.{checked_script_line, literal_value};
 ghost use Rattle.fixed_script.specs.Text.{may_round as rounds};
 ghost use Rattle.fixed_word.specs.Format.{fits};
 ghost use Rattle.fixed_calc.specs.Offered.{is_offered as offered};
-ghost use Rattle.fixed_calc.specs.Machine.{is_signed as signed, is_value, cell_at as cell_in, destination as destination_of, is_unoffered as unoffered, is_out_of_range as out_of_range, is_mismatched as mismatched, stored, integer};
-ghost use Rattle.fixed_calc.specs.inside.Stepping.{AnswerTells, IsApplied, TakenTells, seen, taken_of};
-ghost use Rattle.fixed_calc.specs.Step.{IsCell, StepTells, cell_of, cells_of, state_in};
+ghost use Rattle.fixed_calc.specs.Machine.{is_value, cell_at as cell_in, destination as destination_of, is_unoffered as unoffered, is_out_of_range as out_of_range, is_mismatched as mismatched, stored, integer};
+ghost use Rattle.fixed_text.specs.Words.{is_signed as signed};
+ghost use Rattle.fixed_calc.specs.inside.Stepping.{IsAnswerOfLine, IsApplied, HoldsOperands, script_line_of, values_of};
+ghost use Rattle.fixed_calc.specs.Step.{IsCell, IsStepOfLine, cell_of, cells_of, state_in};
 
 use crate::answer::Answer;
 use crate::cause::Cause;
 use crate::projected::answer_in_word;
-use crate::register::{Register, Taken, with_sign};
+use crate::register::{OperandRegisters, Register, with_sign};
 use fixed_script::{Line, Literal, Op, Policy, Shape, shape_of, takes_rounding};
 use fixed_text::WordName;
 use fixed_word::{Rounding, Side, Word, outcome_of};
@@ -27,8 +28,8 @@ fn may_round(op: Op, rounding: Option<Rounding>) -> bool
 
 /// Whether the operation takes the operands of the line, and its rounding.
 fn is_shaped(line: &Line) -> bool
-    ensures yes { result ≡ true → denoted line.now ≡ Some (seen line.now) }
-    ensures no { result ≡ false → denoted line.now ≡ None }
+    ensures yes { result ≡ true → checked_script_line line.now ≡ Some (script_line_of line.now) }
+    ensures no { result ≡ false → checked_script_line line.now ≡ None }
 {
     match line {
         Line::Set { .. } => true,
@@ -77,7 +78,7 @@ fn is_offered(word: WordName, policy: Policy, op: Op) -> bool
 /// Whether the operation of the line is not offered under its policy on the word.
 #[tactic(auto, unfolding(crate::specs::Machine::is_unoffered))]
 fn is_unoffered(word: WordName, line: &Line) -> bool
-    ensures { result ≡ unoffered word (seen line.now) }
+    ensures { result ≡ unoffered word (script_line_of line.now) }
 {
     match line {
         Line::Set { .. } => false,
@@ -119,7 +120,7 @@ fn is_missing(registers: &[Register], index: u128) -> bool
 
 #[tactic(auto, unfolding(crate::specs::Machine::is_out_of_range))]
 fn is_out_of_range(word: WordName, registers: &[Register], line: &Line) -> bool
-    ensures { result ≡ out_of_range (state_in word (cells_of registers.now)) (seen line.now) }
+    ensures { result ≡ out_of_range (state_in word (cells_of registers.now)) (script_line_of line.now) }
 {
     match line {
         Line::Set { dest, literal } => is_missing(registers, *dest) || !is_literal(word, *literal),
@@ -167,7 +168,7 @@ fn fraction_at(registers: &[Register], index: u128) -> u32
 
 #[tactic(auto, unfolding(crate::specs::Machine::is_mismatched))]
 fn is_mismatched(word: WordName, registers: &[Register], line: &Line) -> bool
-    ensures { result ≡ mismatched (state_in word (cells_of registers.now)) (seen line.now) }
+    ensures { result ≡ mismatched (state_in word (cells_of registers.now)) (script_line_of line.now) }
 {
     match line {
         Line::Set { .. } => false,
@@ -203,9 +204,9 @@ fn integer_of(literal: Literal) -> Register
 
 /// The operands of a line.
 #[inline(always)]
-fn taken_by(word: WordName, registers: &[Register], line: &Line) -> Taken
-    requires { out_of_range (state_in word (cells_of registers.now)) (seen line.now) ≡ false }
-    ensures { TakenTells (cells_of registers.now) (seen line.now) result }
+fn taken_by(word: WordName, registers: &[Register], line: &Line) -> OperandRegisters
+    requires { out_of_range (state_in word (cells_of registers.now)) (script_line_of line.now) ≡ false }
+    ensures { HoldsOperands (cells_of registers.now) (script_line_of line.now) result }
 {
     let empty = Register {
         magnitude: 0,
@@ -213,27 +214,27 @@ fn taken_by(word: WordName, registers: &[Register], line: &Line) -> Taken
         below_zero: false,
     };
     match line {
-        Line::Set { .. } => Taken {
+        Line::Set { .. } => OperandRegisters {
             a: empty,
             b: empty,
             c: empty,
         },
-        Line::One { a, .. } => Taken {
+        Line::One { a, .. } => OperandRegisters {
             a: register_at(registers, *a),
             b: empty,
             c: empty,
         },
-        Line::Two { a, b, .. } => Taken {
+        Line::Two { a, b, .. } => OperandRegisters {
             a: register_at(registers, *a),
             b: register_at(registers, *b),
             c: empty,
         },
-        Line::Int { a, literal, .. } => Taken {
+        Line::Int { a, literal, .. } => OperandRegisters {
             a: register_at(registers, *a),
             b: integer_of(*literal),
             c: empty,
         },
-        Line::Three { a, b, c, .. } => Taken {
+        Line::Three { a, b, c, .. } => OperandRegisters {
             a: register_at(registers, *a),
             b: register_at(registers, *b),
             c: register_at(registers, *c),
@@ -260,14 +261,14 @@ fn answer_of_operation(
     rounding: Option<Rounding>,
     number: u64,
 ) -> Result<Answer, Cause>
-    requires is { IsApplied (seen line.now) policy op rounding }
-    requires offered { unoffered word (seen line.now) ≡ false }
+    requires is { IsApplied (script_line_of line.now) policy op rounding }
+    requires offered { unoffered word (script_line_of line.now) ≡ false }
     requires in_range { out_of_range
-        (state_in word (cells_of registers.now)) (seen line.now) ≡ false }
+        (state_in word (cells_of registers.now)) (script_line_of line.now) ≡ false }
     requires one_fraction { mismatched
-        (state_in word (cells_of registers.now)) (seen line.now) ≡ false }
+        (state_in word (cells_of registers.now)) (script_line_of line.now) ≡ false }
     requires cells { All (IsCell word) (cells_of registers.now) }
-    ensures { AnswerTells (state_in word (cells_of registers.now)) (seen line.now) number result }
+    ensures { IsAnswerOfLine (state_in word (cells_of registers.now)) (script_line_of line.now) number result }
 {
     let taken = taken_by(word, registers, line);
     answer_in_word(word, policy, op, rounding, &taken, number)
@@ -280,13 +281,13 @@ fn answer_past_tests(
     line: &Line,
     number: u64,
 ) -> Result<Answer, Cause>
-    requires offered { unoffered word (seen line.now) ≡ false }
+    requires offered { unoffered word (script_line_of line.now) ≡ false }
     requires in_range { out_of_range
-        (state_in word (cells_of registers.now)) (seen line.now) ≡ false }
+        (state_in word (cells_of registers.now)) (script_line_of line.now) ≡ false }
     requires one_fraction { mismatched
-        (state_in word (cells_of registers.now)) (seen line.now) ≡ false }
+        (state_in word (cells_of registers.now)) (script_line_of line.now) ≡ false }
     requires cells { All (IsCell word) (cells_of registers.now) }
-    ensures { AnswerTells (state_in word (cells_of registers.now)) (seen line.now) number result }
+    ensures { IsAnswerOfLine (state_in word (cells_of registers.now)) (script_line_of line.now) number result }
 {
     match line {
         Line::Set { literal, .. } => Ok(Answer::Bits(whole_of(*literal))),
@@ -325,7 +326,7 @@ fn answer_or_cause(
     number: u64,
 ) -> Result<Answer, Cause>
     requires { All (IsCell word) (cells_of registers.now) }
-    ensures { AnswerTells (state_in word (cells_of registers.now)) (seen line.now) number result }
+    ensures { IsAnswerOfLine (state_in word (cells_of registers.now)) (script_line_of line.now) number result }
 {
     if is_unoffered(word, line) {
         return Err(Cause::Syntax(number));
@@ -340,7 +341,7 @@ fn answer_or_cause(
 }
 
 fn destination(line: &Line) -> u128
-    ensures { result ≡ destination_of (seen line.now) }
+    ensures { result ≡ destination_of (script_line_of line.now) }
 {
     match line {
         Line::Set { dest, .. }
@@ -371,8 +372,8 @@ pub(crate) fn step_registers(
     number: u64,
 ) -> Result<Answer, Cause>
     requires { All (IsCell word) (cells_of registers.old) }
-    ensures tells { StepTells (state_in word (cells_of registers.old))
-        (denoted line.now) number result (cells_of registers.new) }
+    ensures tells { IsStepOfLine (state_in word (cells_of registers.old))
+        (checked_script_line line.now) number result (cells_of registers.new) }
     ensures kept { All (IsCell word) (cells_of registers.new) }
 {
     if !is_shaped(line) {

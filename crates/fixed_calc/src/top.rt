@@ -1,7 +1,7 @@
 //! The top call, which does all that the program does.
 
 ghost use Rattle.std.specs.Prelude.{◌≡◌, ◌≢◌, ◌≤◌, ◌↔◌, ℕ, []};
-ghost use Rattle.fixed_calc.specs.Headline.{CompleteTells, DemoDoneTells, DemoMemoryTells, DemoWriteFaultTells, DoneTells, IsDemoStatus, IsOutputOf, LineTells, MemoryTells, ReadFaultTells, ScriptTells, TooLongTells, WriteFaultTells, WritesNothing, error_line};
+ghost use Rattle.fixed_calc.specs.Headline.{WhenComplete, WhenDemoDone, WhenDemoMemory, WhenDemoWriteFault, WhenDone, IsDemoStatus, IsOutputOf, WritesErrorLine, WhenMemory, WhenReadFault, WhenScript, WhenTooLong, WhenWriteFault, WritesNothing, error_line};
 ghost use Rattle.fixed_calc.specs.Calls.{LineWritesTell, ReadsTell, WritesTell};
 ghost use Rattle.fixed_calc.specs.Demo.{summary};
 ghost use Rattle.fixed_calc.specs.CommandLine.{IsDemo, IsNoCommand, most_lines};
@@ -19,18 +19,18 @@ use std::alloc::Global;
 
 /// Reads, runs and writes.
 fn read_run_write<S: Source, K: Sink>(alloc: Global, source: &mut S, sink: &mut K) -> Status
-    ensures done { DoneTells (S.state source.old)
+    ensures done { WhenDone (S.state source.old)
         (S.state source.new) (K.state sink.old) (K.state sink.new) result }
-    ensures script { ScriptTells (S.state source.old) (S.state source.new) result }
+    ensures script { WhenScript (S.state source.old) (S.state source.new) result }
     ensures no_usage { result ≢ Status.Usage }
-    ensures read_fault { ReadFaultTells (S.state source.old) (S.state source.new) result }
-    ensures too_long { TooLongTells (S.state source.old) (S.state source.new) result }
-    ensures write_fault { WriteFaultTells
+    ensures read_fault { WhenReadFault (S.state source.old) (S.state source.new) result }
+    ensures too_long { WhenTooLong (S.state source.old) (S.state source.new) result }
+    ensures write_fault { WhenWriteFault
         (S.state source.old) (S.state source.new) (K.state sink.old) (K.state sink.new) result }
-    ensures memory { MemoryTells (S.state source.old)
+    ensures memory { WhenMemory (S.state source.old)
         (S.state source.new) (K.state sink.old) (K.state sink.new) result }
     ensures nothing_written { WritesNothing result → sink.new ≡ sink.old }
-    ensures complete { CompleteTells
+    ensures complete { WhenComplete
         (S.state source.old) (S.state source.new) (K.state sink.old) (K.state sink.new) result }
     ensures reads { ReadsTell S.read_gives source.old source.new result }
     ensures writes { WritesTell K.write_gives
@@ -58,9 +58,9 @@ fn read_run_write<S: Source, K: Sink>(alloc: Global, source: &mut S, sink: &mut 
 fn demonstrate<K: Sink>(alloc: Global, lines: u32, sink: &mut K) -> Status
     requires some { 1 ≤ lines }
     requires most { lines ≤ most_lines }
-    ensures done { DemoDoneTells lines (K.state sink.old) (K.state sink.new) result }
-    ensures write_fault { DemoWriteFaultTells lines (K.state sink.old) (K.state sink.new) result }
-    ensures memory { DemoMemoryTells lines (K.state sink.old) (K.state sink.new) result }
+    ensures done { WhenDemoDone lines (K.state sink.old) (K.state sink.new) result }
+    ensures write_fault { WhenDemoWriteFault lines (K.state sink.old) (K.state sink.new) result }
+    ensures memory { WhenDemoMemory lines (K.state sink.old) (K.state sink.new) result }
     ensures statuses { IsDemoStatus result }
     ensures writes { WritesTell K.write_gives (λ bytes. bytes ≡ summary lines) sink.old sink.new result }
 {
@@ -82,29 +82,29 @@ fn status_of<S: Source, K: Sink>(
     source: &mut S,
     sink: &mut K,
 ) -> Status
-    ensures done { words.now ≡ [] → DoneTells
+    ensures done { words.now ≡ [] → WhenDone
         (S.state source.old) (S.state source.new) (K.state sink.old) (K.state sink.new) result }
-    ensures script { words.now ≡ [] → ScriptTells (S.state source.old) (S.state source.new) result }
+    ensures script { words.now ≡ [] → WhenScript (S.state source.old) (S.state source.new) result }
     ensures usage { result ≡ Status.Usage ↔ IsNoCommand words.now }
     ensures nothing_read { words.now ≢ [] → source.new ≡ source.old }
     ensures read_fault { words.now ≡ []
-        → ReadFaultTells (S.state source.old) (S.state source.new) result }
+        → WhenReadFault (S.state source.old) (S.state source.new) result }
     ensures too_long { words.now ≡ []
-        → TooLongTells (S.state source.old) (S.state source.new) result }
-    ensures write_fault { words.now ≡ [] → WriteFaultTells
+        → WhenTooLong (S.state source.old) (S.state source.new) result }
+    ensures write_fault { words.now ≡ [] → WhenWriteFault
         (S.state source.old) (S.state source.new) (K.state sink.old) (K.state sink.new) result }
     ensures memory { words.now ≡ []
-        → MemoryTells (S.state source.old)
+        → WhenMemory (S.state source.old)
         (S.state source.new) (K.state sink.old) (K.state sink.new) result }
     ensures nothing_written { WritesNothing result → sink.new ≡ sink.old }
-    ensures complete { words.now ≡ [] → CompleteTells
+    ensures complete { words.now ≡ [] → WhenComplete
         (S.state source.old) (S.state source.new) (K.state sink.old) (K.state sink.new) result }
     ensures demo_done { (n : ℕ) → IsDemo words.now n
-        → DemoDoneTells n (K.state sink.old) (K.state sink.new) result }
+        → WhenDemoDone n (K.state sink.old) (K.state sink.new) result }
     ensures demo_write_fault { (n : ℕ) → IsDemo words.now n
-        → DemoWriteFaultTells n (K.state sink.old) (K.state sink.new) result }
+        → WhenDemoWriteFault n (K.state sink.old) (K.state sink.new) result }
     ensures demo_memory { (n : ℕ) → IsDemo words.now n
-        → DemoMemoryTells n (K.state sink.old) (K.state sink.new) result }
+        → WhenDemoMemory n (K.state sink.old) (K.state sink.new) result }
     ensures demo_statuses { (n : ℕ) → IsDemo words.now n → IsDemoStatus result }
     ensures reads { words.now ≡ [] → ReadsTell S.read_gives source.old source.new result }
     ensures writes { words.now ≡ [] → WritesTell K.write_gives
@@ -140,36 +140,36 @@ pub fn calc_main<S: Source, K: Sink, E: Sink>(
     sink: &mut K,
     errors: &mut E,
 ) -> Status
-    ensures done { words.now ≡ [] → DoneTells
+    ensures done { words.now ≡ [] → WhenDone
         (S.state source.old) (S.state source.new) (K.state sink.old) (K.state sink.new) result }
-    ensures script { words.now ≡ [] → ScriptTells (S.state source.old) (S.state source.new) result }
+    ensures script { words.now ≡ [] → WhenScript (S.state source.old) (S.state source.new) result }
     ensures usage { result ≡ Status.Usage ↔ IsNoCommand words.now }
     ensures nothing_read { words.now ≢ [] → source.new ≡ source.old }
     ensures read_fault { words.now ≡ []
-        → ReadFaultTells (S.state source.old) (S.state source.new) result }
+        → WhenReadFault (S.state source.old) (S.state source.new) result }
     ensures too_long { words.now ≡ []
-        → TooLongTells (S.state source.old) (S.state source.new) result }
-    ensures write_fault { words.now ≡ [] → WriteFaultTells
+        → WhenTooLong (S.state source.old) (S.state source.new) result }
+    ensures write_fault { words.now ≡ [] → WhenWriteFault
         (S.state source.old) (S.state source.new) (K.state sink.old) (K.state sink.new) result }
     ensures memory { words.now ≡ []
-        → MemoryTells (S.state source.old)
+        → WhenMemory (S.state source.old)
         (S.state source.new) (K.state sink.old) (K.state sink.new) result }
     ensures nothing_written { WritesNothing result → sink.new ≡ sink.old }
-    ensures complete { words.now ≡ [] → CompleteTells
+    ensures complete { words.now ≡ [] → WhenComplete
         (S.state source.old) (S.state source.new) (K.state sink.old) (K.state sink.new) result }
     ensures demo_done { (n : ℕ) → IsDemo words.now n
-        → DemoDoneTells n (K.state sink.old) (K.state sink.new) result }
+        → WhenDemoDone n (K.state sink.old) (K.state sink.new) result }
     ensures demo_write_fault { (n : ℕ) → IsDemo words.now n
-        → DemoWriteFaultTells n (K.state sink.old) (K.state sink.new) result }
+        → WhenDemoWriteFault n (K.state sink.old) (K.state sink.new) result }
     ensures demo_memory { (n : ℕ) → IsDemo words.now n
-        → DemoMemoryTells n (K.state sink.old) (K.state sink.new) result }
+        → WhenDemoMemory n (K.state sink.old) (K.state sink.new) result }
     ensures demo_statuses { (n : ℕ) → IsDemo words.now n → IsDemoStatus result }
     ensures reads { words.now ≡ [] → ReadsTell S.read_gives source.old source.new result }
     ensures writes { words.now ≡ [] → WritesTell K.write_gives
         (IsOutputOf (S.state source.old).left) sink.old sink.new result }
     ensures demo_writes { (n : ℕ) → IsDemo words.now n
         → WritesTell K.write_gives (λ bytes. bytes ≡ summary n) sink.old sink.new result }
-    ensures line { LineTells (E.state errors.old) (E.state errors.new) result }
+    ensures line { WritesErrorLine (E.state errors.old) (E.state errors.new) result }
     ensures line_writes { LineWritesTell E.write_gives (error_line result) errors.old errors.new }
 {
     let status = status_of(alloc, words, source, sink);

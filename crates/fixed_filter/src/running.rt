@@ -5,14 +5,14 @@ ghost use Rattle.fixed_word.specs.Pieces.{pieces};
 ghost use Rattle.fixed_text.specs.Numerals.{cap};
 ghost use Rattle.fixed_text.specs.Numbers.{only_number, wholes_in};
 ghost use Rattle.fixed_text.specs.Runs.{Ending, Read, lines_from, then_by};
-ghost use Rattle.fixed_text.specs.Tells.{EndsBy, RunTells, StepTells};
+ghost use Rattle.fixed_text.specs.Answers.{EndsBy, IsAnswerOfRun, IsStepOfLine};
 ghost use Rattle.fixed_text.specs.Words.{is_signed, width};
 ghost use Rattle.fixed_filter.specs.Banks.{IsShape, change_at, with_sample};
 ghost use Rattle.fixed_filter.specs.declared.reply.Reply.TheVariants.{Overflow};
 ghost use Rattle.fixed_filter.specs.inside.Kept.{kept_line, kept_read, kept_reply, kept_sample, kept_taps, kept_text, lane_at};
 ghost use Rattle.fixed_filter.specs.Parser.{sample_of, taps_of};
 ghost use Rattle.fixed_filter.specs.Replies.{reply_map};
-ghost use Rattle.fixed_filter.specs.Runs.{FilterTells, filter_line, filter_output, reply_text, start, started};
+ghost use Rattle.fixed_filter.specs.Runs.{IsAnswerOfFilter, filter_line, filter_output, reply_text, start, started};
 
 use crate::bank::Bank;
 use crate::fault::FilterFault;
@@ -104,7 +104,7 @@ impl<T: Word> FilterRun<T> {
 
     /// Adds the channel whose taps the tokens are.
     fn take_taps(&mut self, tokens: Tokens<'_>) -> Result<(), Refusal>
-        ensures { StepTells (kept_read self.old (taps_of (wholes_in tokens.entry))) result self.new
+        ensures { IsStepOfLine (kept_read self.old (taps_of (wholes_in tokens.entry))) result self.new
             [] [] }
     {
         if tokens.is_empty() || self.begun {
@@ -153,7 +153,7 @@ impl<T: Word> FilterRun<T> {
     /// Answers for the sample of a channel.
     fn answer(&mut self, channel: usize, sample: T, output: &mut Output) -> Result<(), Refusal>
         requires { channel < length self.old.channels }
-        ensures { StepTells (Read (
+        ensures { IsStepOfLine (Read (
           kept_sample channel (T.value sample) self.old,
           kept_text self.old channel (T.value sample),
         )) result self.new output.old output.new }
@@ -172,7 +172,7 @@ impl<T: Word> FilterRun<T> {
         tokens: Tokens<'_>,
         output: &mut Output,
     ) -> Result<(), Refusal>
-        ensures { (j : ℕ) → channel ≡ cap j → StepTells
+        ensures { (j : ℕ) → channel ≡ cap j → IsStepOfLine
             (kept_read self.old (sample_of (Some j) (only_number tokens.entry))) result
             self.new output.old output.new }
     {
@@ -210,7 +210,7 @@ impl<T: Word> Run for FilterRun<T> {
 
 /// The fault of a script of filters.
 fn fault_of(fault: RunFault) -> FilterFault
-    ensures { (ending : Ending) → EndsBy ending fault → FilterTells ending (Err result) }
+    ensures { (ending : Ending) → EndsBy ending fault → IsAnswerOfFilter ending (Err result) }
 {
     match fault {
         RunFault::Syntax(number) => FilterFault::Syntax(number),
@@ -222,7 +222,7 @@ fn fault_of(fault: RunFault) -> FilterFault
 /// The lines after the header, at a word and a shape.
 fn run_shape<T: Word>(alloc: Global, shape: Shape, lines: &[u8]) -> Result<Output, RunFault>
     requires { IsShape T.BITS shape }
-    ensures { RunTells (lines_from filter_line (start T.SIGNED T.BITS shape) 2 (pieces lines.now))
+    ensures { IsAnswerOfRun (lines_from filter_line (start T.SIGNED T.BITS shape) 2 (pieces lines.now))
         result }
 {
     let run = FilterRun::<T> {
@@ -236,7 +236,7 @@ fn run_shape<T: Word>(alloc: Global, shape: Shape, lines: &[u8]) -> Result<Outpu
 
 /// The lines after the header, at a word.
 fn run_at<T: Word>(alloc: Global, header: Header, lines: &[u8]) -> Result<Output, FilterFault>
-    ensures { FilterTells (then_by 1 (started T.SIGNED T.BITS (record
+    ensures { IsAnswerOfFilter (then_by 1 (started T.SIGNED T.BITS (record
         { out_frac = header.out; coef_frac = header.coef; sample_frac = header.sample }))
         (λ state. lines_from filter_line state 2 (pieces lines.now))) result }
 {
@@ -257,7 +257,7 @@ fn run_at<T: Word>(alloc: Global, header: Header, lines: &[u8]) -> Result<Output
 
 /// The lines after the header, at the word of its name.
 fn run_word(alloc: Global, header: Header, lines: &[u8]) -> Result<Output, FilterFault>
-    ensures { FilterTells (then_by 1 (started (is_signed header.word) (width header.word) (record
+    ensures { IsAnswerOfFilter (then_by 1 (started (is_signed header.word) (width header.word) (record
         { out_frac = header.out; coef_frac = header.coef; sample_frac = header.sample }))
         (λ state. lines_from filter_line state 2 (pieces lines.now))) result }
 {
@@ -280,7 +280,7 @@ fn run_word(alloc: Global, header: Header, lines: &[u8]) -> Result<Output, Filte
 /// the form, also `taps` after a sample, and `OutOfRange` where a number is out of range or no such channel is
 /// there. Want of memory may come in the place of either, and nothing is handed out then.
 pub fn filter_run(alloc: Global, script: &[u8]) -> Result<Output, FilterFault>
-    ensures { FilterTells (filter_output script.now) result }
+    ensures { IsAnswerOfFilter (filter_output script.now) result }
 {
     let Some((piece, lines)) = open(script) else {
         return Err(FilterFault::Syntax(1));

@@ -9,6 +9,6 @@ pub mod desk;
 pub mod filter;
 pub mod generic;
 pub mod invoice;
-pub mod ledger;
 pub mod sine;
 pub mod stock;
+pub mod transfer;

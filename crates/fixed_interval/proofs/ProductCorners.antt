@@ -12,14 +12,7 @@ use Rattle.fixed_kernel.specs.inside.Size.{IsProduct}
 use Rattle.fixed_kernel.proofs.WholeRoom.{half_square, less_square, square}
 use Rattle.fixed_interval.specs.Ends.{Ends, ceiling_over, floor_over, greatest_corner, least_corner, product_of}
 use Rattle.fixed_interval.proofs.Lines.{times_le}
-use Rattle.fixed_interval.proofs.Rounded.{ceiling_above, floor_above, floor_below_ceiling}
-
--- rounding keeps the order
-floor_order : (x y d : ℤ) → pos 0 <ℤ d → x ≤ℤ y → floor_over x d ≤ℤ floor_over y d
-floor_order x y d s l = let k = (floor_above (floor_over x d) x d s).0 (omega (arith, ints)) in (floor_above (floor_over x d) y d s).1 (omega (arith, ints))
-
-ceiling_order : (x y d : ℤ) → pos 0 <ℤ d → x ≤ℤ y → ceiling_over x d ≤ℤ ceiling_over y d
-ceiling_order x y d s l = let k = (ceiling_above (ceiling_over y d) y d s).0 (omega (arith, ints)) in (ceiling_above (ceiling_over y d) x d s).1 (omega (arith, ints))
+use Rattle.fixed_interval.proofs.Rounded.{ceiling_above, ceiling_order, floor_below_ceiling, floor_order}
 
 floor_least : (x y d : ℤ) → pos 0 <ℤ d → floor_over (int_min x y) d ≡ int_min (floor_over x d) (floor_over y d)
 floor_least x y d s =

@@ -10,7 +10,7 @@ use Rattle.fixed_interval.specs.Ends.{Bounds, Ends, ends_of, ceiling_over, floor
 use Rattle.fixed_interval.specs.inside.OffZero.{IsOffZero}
 use Rattle.fixed_interval.proofs.Lines.{times_le}
 use Rattle.fixed_interval.proofs.Corners.{AtCorners, above_greatest_corner, below_least_corner, greatest_corner_above, least_corner_below}
-use Rattle.fixed_interval.proofs.Rounded.{below_floor, floor_above, floor_below}
+use Rattle.fixed_interval.proofs.Rounded.{below_floor, ceiling_order, floor_below, floor_order}
 
 -- ---- a divisor that is further from 0 brings a quotient nearer to it
 
@@ -66,7 +66,7 @@ floor_moves : Moves floor_over
 floor_moves = record {
   from_zero = floor_from_zero;
   to_zero = floor_to_zero;
-  above = λ x z y s l. let k = (floor_above (floor_over x y) x y s).0 (omega (arith, ints)) in (floor_above (floor_over x y) z y s).1 (omega (arith, ints));
+  above = floor_order;
   below = λ x z y s l. let k = (floor_below (floor_over z y) z y s).0 (omega (arith, ints)) in (floor_below (floor_over z y) x y s).1 (omega (arith, ints));
 }
 
@@ -74,7 +74,7 @@ ceiling_moves : Moves ceiling_over
 ceiling_moves = record {
   from_zero = λ x y w l o k. let m = floor_moves.to_zero (neg_ℤ x) y w l o (omega (arith, ints)) in omega (arith, ints);
   to_zero = λ x y w l o k. let m = floor_moves.from_zero (neg_ℤ x) y w l o (omega (arith, ints)) in omega (arith, ints);
-  above = λ x z y s l. let m = floor_moves.above (neg_ℤ z) (neg_ℤ x) y s (omega (arith, ints)) in omega (arith, ints);
+  above = ceiling_order;
   below = λ x z y s l. let m = floor_moves.below (neg_ℤ z) (neg_ℤ x) y s (omega (arith, ints)) in omega (arith, ints);
 }
 

@@ -6,11 +6,11 @@ ghost use Rattle.fixed_word.specs.Pieces.{pieces};
 ghost use Rattle.fixed_text.specs.Decimals.{decimal_of};
 ghost use Rattle.fixed_text.specs.Numerals.{cap};
 ghost use Rattle.fixed_text.specs.Runs.{Ending, lines_from, then_by};
-ghost use Rattle.fixed_text.specs.Tells.{EndsBy, StepTells};
+ghost use Rattle.fixed_text.specs.Answers.{EndsBy, IsStepOfLine};
 ghost use Rattle.fixed_text.specs.Words.{is_signed, width};
 ghost use Rattle.fixed_interval.specs.inside.Capped.{capped_request};
 ghost use Rattle.fixed_interval.specs.Ends.{ends_of};
-ghost use Rattle.fixed_interval.specs.Runs.{IntervalTells, answered, ends_text, interval_line, interval_output, made_by_root, made_of_two, request_read, set_ends, started, zero_ends};
+ghost use Rattle.fixed_interval.specs.Runs.{IsAnswerOfInterval, answered, ends_text, interval_line, interval_output, made_by_root, made_of_two, request_read, set_ends, started, zero_ends};
 ghost use Rattle.fixed_interval.specs.Text.{IntervalRequest};
 
 use crate::fault::IntervalFault;
@@ -109,7 +109,7 @@ impl<T: Word> IntervalRun<T> {
         output: &mut Output,
     ) -> Result<(), Refusal>
         requires { dest < length self.old.registers }
-        ensures { StepTells (answered self.old dest (option_map (ends_of T.value) made)) result
+        ensures { IsStepOfLine (answered self.old dest (option_map (ends_of T.value) made)) result
             self.new output.old output.new }
     {
         match made {
@@ -167,7 +167,7 @@ impl<T: Word> IntervalRun<T> {
     fn follow(&mut self, dest: usize, request: Request, output: &mut Output) -> Result<(), Refusal>
         requires { dest < length self.old.registers }
         ensures { (q : IntervalRequest) → request ≡ capped_request q
-            → StepTells (request_read self.old dest q) result self.new output.old output.new }
+            → IsStepOfLine (request_read self.old dest q) result self.new output.old output.new }
     {
         match request {
             Request::Set(low, high) => match self.stated(&low, &high) {
@@ -211,7 +211,7 @@ impl<T: Word> Run for IntervalRun<T> {
 
 /// The fault of a script of intervals.
 fn fault_of(fault: RunFault) -> IntervalFault
-    ensures { (ending : Ending) → EndsBy ending fault → IntervalTells ending (Err result) }
+    ensures { (ending : Ending) → EndsBy ending fault → IsAnswerOfInterval ending (Err result) }
 {
     match fault {
         RunFault::Syntax(number) => IntervalFault::Syntax(number),
@@ -227,7 +227,7 @@ fn run_at<T: Word>(
     count: u128,
     lines: &[u8],
 ) -> Result<Output, IntervalFault>
-    ensures { IntervalTells (then_by 1 (started T.SIGNED T.BITS frac count)
+    ensures { IsAnswerOfInterval (then_by 1 (started T.SIGNED T.BITS frac count)
         (λ state. lines_from interval_line state 2 (pieces lines.now))) result }
 {
     if frac > u128::from(T::BITS) || count < 1 || count > MOST_REGISTERS {
@@ -249,7 +249,7 @@ fn run_at<T: Word>(
 
 /// The lines after the header, at the word of that name.
 fn run_word(alloc: Global, header: Header, lines: &[u8]) -> Result<Output, IntervalFault>
-    ensures { IntervalTells (then_by 1
+    ensures { IsAnswerOfInterval (then_by 1
         (started (is_signed header.word) (width header.word) header.frac header.count)
         (λ state. lines_from interval_line state 2 (pieces lines.now))) result }
 {
@@ -274,7 +274,7 @@ fn run_word(alloc: Global, header: Header, lines: &[u8]) -> Result<Output, Inter
 /// number is out of range, also at no register or above 1,000,000 and at ends out of order. Want of memory may come in
 /// the place of either, and nothing is handed out then.
 pub fn interval_run(alloc: Global, script: &[u8]) -> Result<Output, IntervalFault>
-    ensures { IntervalTells (interval_output script.now) result }
+    ensures { IsAnswerOfInterval (interval_output script.now) result }
 {
     let Some((piece, lines)) = open(script) else {
         return Err(IntervalFault::Syntax(1));

@@ -10,7 +10,7 @@ use Rattle.fixed_word.specs.Quotient.{floor_quotient, euclidean_quotient, euclid
 use Rattle.fixed_word.proofs.Sides.{lowest_sign, highest_sign}
 use Rattle.fixed_word.proofs.QuotientLaws.{euclidean_is, euclid_unique}
 use Rattle.fixed_kernel.specs.Rows.{by_divisor, by_sign, exact_mul, exact_rem, exact_rem_euclid, exact_next_multiple_of}
-use Rattle.fixed_kernel.specs.Laws.{IsFromZero, IsNextMultiple, IsOffZero}
+use Rattle.fixed_kernel.specs.RowLaws.{IsFromZero, IsNextMultiple, IsOffZero}
 
 -- ---- remainders
 

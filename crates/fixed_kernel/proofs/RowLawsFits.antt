@@ -13,7 +13,7 @@ use Rattle.fixed_word.proofs.Sides.{lowest_sign, highest_sign}
 use Rattle.fixed_root.specs.Root.{IsRoot, root_of}
 use Rattle.fixed_root.proofs.RootLaws.{root_of_is}
 use Rattle.fixed_kernel.specs.Rows.{exact_abs, exact_dist, exact_div_euclid_int, exact_div_int, exact_neg, exact_rem_euclid_int, exact_signum, exact_sqrt}
-use Rattle.fixed_kernel.specs.Laws.{Misses}
+use Rattle.fixed_kernel.specs.RowLaws.{Misses}
 
 -- ---- in and out of the range
 

@@ -5,7 +5,7 @@ use Rattle.std.proofs.lemmas.Nat.{pow_pos}
 use Rattle.std.proofs.lemmas.Bool.{cases_lt}
 use Rattle.std.proofs.Math.Nat.{pow-le-pow_right, pow-suc}
 use Rattle.fixed_kernel.specs.Rows.{power_over, exact_next_power_of_two}
-use Rattle.fixed_kernel.specs.Laws.{IsNextPower}
+use Rattle.fixed_kernel.specs.RowLaws.{IsNextPower}
 use Rattle.fixed_kernel.proofs.PowersOfTwo.{IsOver, power_meets}
 
 -- no power of two from n on is less than a power over n

@@ -9,7 +9,7 @@ ghost use Rattle.fixed_word.specs.Format.{InRange, IsWidth, lowest};
 ghost use Rattle.fixed_word.specs.Quotient.{euclidean_quotient, truncated_quotient};
 ghost use Rattle.fixed_word.specs.declared.rounding.Rounding.{Rounding};
 ghost use Rattle.fixed_word.specs.declared.rounding.Rounding.TheVariants.{Down, Zero};
-ghost use Rattle.fixed_kernel.specs.Laws.{IsFromZero, IsNextMultiple, IsNextPower, IsOffZero, Misses};
+ghost use Rattle.fixed_kernel.specs.RowLaws.{IsFromZero, IsNextMultiple, IsNextPower, IsOffZero, Misses};
 ghost use Rattle.fixed_kernel.specs.Rounded.{IsRounded, rounded};
 ghost use Rattle.fixed_kernel.specs.RoundedRows.{rounded_add_prod, rounded_div, rounded_div_int, rounded_mul, rounded_mul_add, rounded_recip};
 ghost use Rattle.fixed_kernel.specs.Rows.{exact_abs, exact_add_prod, exact_dist, exact_div, exact_div_euclid, exact_div_euclid_int, exact_div_int, exact_mul, exact_mul_add, exact_neg, exact_next_multiple_of, exact_next_power_of_two, exact_recip, exact_rem, exact_rem_euclid, exact_rem_euclid_int, exact_rem_int, exact_signum, exact_sqrt};

@@ -7,8 +7,8 @@ ghost use Rattle.std.specs.Prelude.{◌≡◌, ◌≢◌, ◌≤◌, false, pos,
 ghost use Rattle.fixed_word.specs.Format.{InRange};
 ghost use Rattle.fixed_kernel.specs.Rows.{exact_div_int, exact_mul_int, exact_rem_int};
 
-use crate::exact::exact_number;
 use crate::format::Fixed;
+use crate::from_outcome::exact_number;
 use fixed_kernel::{div_int_of, mul_int_of, rem_int_of};
 use fixed_word::{RawWord, Word};
 use std::ops::{Div, DivAssign, Mul, MulAssign, Rem, RemAssign};

@@ -9,19 +9,19 @@
 mod bit_calls;
 mod bit_operators;
 mod counted;
-mod exact;
 mod format;
+mod from_outcome;
 mod integer_operators;
 pub mod laws;
 mod logarithms;
 mod magnitudes;
 mod operators;
 mod part;
-mod sides;
+mod sign_magnitude;
 mod wide;
 
-pub use exact::exact_number;
 pub use format::{
     Constants, Fixed, FixedI8, FixedI16, FixedI32, FixedI64, FixedU8, FixedU16, FixedU32, FixedU64,
     Held, Number,
 };
+pub use from_outcome::exact_number;

@@ -6,7 +6,7 @@ ghost use Rattle.fixed_word.specs.Quotient.{floor_quotient, truncated_quotient};
 ghost use Rattle.fixed_num.specs.Sizes.{HasSignedSize, HasSize, IsHighestOne, IsLeast, IsPower, mean_of};
 
 use crate::format::Fixed;
-use crate::sides::{bit_length, distance, highest_power};
+use crate::sign_magnitude::{bit_length, distance, highest_power};
 use fixed_kernel::round_to_zero_of;
 use fixed_word::{Arithmetic, Integer, RawWord, SignedWord, UnsignedWord, Word};
 

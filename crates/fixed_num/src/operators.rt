@@ -7,8 +7,8 @@ ghost use Rattle.std.specs.Prelude.{◌≡◌, ◌≢◌, ◌≤◌, pos};
 ghost use Rattle.fixed_word.specs.Format.{InRange};
 ghost use Rattle.fixed_kernel.specs.Rows.{exact_add, exact_div, exact_mul, exact_neg, exact_rem, exact_sub};
 
-use crate::exact::exact_number;
 use crate::format::Fixed;
+use crate::from_outcome::exact_number;
 use fixed_kernel::{add_of, div_of, mul_of, neg_of, rem_of, sub_of};
 use fixed_word::{RawWord, SignedWord, Word};
 use std::ops::{

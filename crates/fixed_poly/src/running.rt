@@ -5,11 +5,11 @@ ghost use Rattle.std.specs.Option.{option_map};
 ghost use Rattle.fixed_word.specs.Pieces.{pieces};
 ghost use Rattle.fixed_text.specs.Numbers.{only_number, wholes_in};
 ghost use Rattle.fixed_text.specs.Runs.{Ending, lines_from, then_by};
-ghost use Rattle.fixed_text.specs.Tells.{EndsBy, StepTells};
+ghost use Rattle.fixed_text.specs.Answers.{EndsBy, IsStepOfLine};
 ghost use Rattle.fixed_text.specs.Words.{is_signed, width};
 ghost use Rattle.fixed_poly.specs.Horner.{reply_map};
 ghost use Rattle.fixed_poly.specs.Parser.{coefs_of};
-ghost use Rattle.fixed_poly.specs.Runs.{PolyTells, line_read, poly_line, poly_output, reply_text, started};
+ghost use Rattle.fixed_poly.specs.Runs.{IsAnswerOfPoly, line_read, poly_line, poly_output, reply_text, started};
 ghost use Rattle.fixed_poly.specs.Text.{At};
 
 use crate::evaluation::horner_of;
@@ -68,7 +68,7 @@ fn append_reply<T: Word>(output: &mut Output, reply: PolyReply<T>) -> Result<(),
 impl<T: Word> PolyRun<T> {
     /// Takes the coefficients that the tokens are in the place of those before.
     fn take_coefs(&mut self, tokens: Tokens<'_>) -> Result<(), Refusal>
-        ensures { StepTells (line_read self.old (coefs_of (wholes_in tokens.entry))) result self.new
+        ensures { IsStepOfLine (line_read self.old (coefs_of (wholes_in tokens.entry))) result self.new
             [] [] }
     {
         if tokens.is_empty() {
@@ -85,7 +85,7 @@ impl<T: Word> PolyRun<T> {
 
     /// Answers for the number that the tokens are.
     fn answer(&self, tokens: Tokens<'_>, output: &mut Output) -> Result<(), Refusal>
-        ensures { StepTells (line_read self.now (option_map At (only_number tokens.entry))) result
+        ensures { IsStepOfLine (line_read self.now (option_map At (only_number tokens.entry))) result
             self.now output.old output.new }
     {
         let Some(number) = read_only_number(tokens) else {
@@ -124,7 +124,7 @@ impl<T: Word> Run for PolyRun<T> {
 
 /// The fault of a script of polynomials.
 fn fault_of(fault: RunFault) -> PolyFault
-    ensures { (ending : Ending) → EndsBy ending fault → PolyTells ending (Err result) }
+    ensures { (ending : Ending) → EndsBy ending fault → IsAnswerOfPoly ending (Err result) }
 {
     match fault {
         RunFault::Syntax(number) => PolyFault::Syntax(number),
@@ -135,7 +135,7 @@ fn fault_of(fault: RunFault) -> PolyFault
 
 /// The lines after the header, at a word.
 fn run_at<T: Word>(alloc: Global, frac: u128, lines: &[u8]) -> Result<Output, PolyFault>
-    ensures { PolyTells (then_by 1 (started T.SIGNED T.BITS frac)
+    ensures { IsAnswerOfPoly (then_by 1 (started T.SIGNED T.BITS frac)
         (λ state. lines_from poly_line state 2 (pieces lines.now))) result }
 {
     if frac > u128::from(T::BITS) {
@@ -154,7 +154,7 @@ fn run_at<T: Word>(alloc: Global, frac: u128, lines: &[u8]) -> Result<Output, Po
 
 /// The lines after the header, at the word of that name.
 fn run_word(alloc: Global, word: WordName, frac: u128, lines: &[u8]) -> Result<Output, PolyFault>
-    ensures { PolyTells (then_by 1 (started (is_signed word) (width word) frac)
+    ensures { IsAnswerOfPoly (then_by 1 (started (is_signed word) (width word) frac)
         (λ state. lines_from poly_line state 2 (pieces lines.now))) result }
 {
     match word {
@@ -175,7 +175,7 @@ fn run_word(alloc: Global, word: WordName, frac: u128, lines: &[u8]) -> Result<O
 /// `Syntax` where the piece lacks the form, also `at` before the first `coefs`, and `OutOfRange` where a number
 /// is out of range. Want of memory may come in the place of either, and nothing is handed out then.
 pub fn poly_run(alloc: Global, script: &[u8]) -> Result<Output, PolyFault>
-    ensures { PolyTells (poly_output script.now) result }
+    ensures { IsAnswerOfPoly (poly_output script.now) result }
 {
     let Some((piece, lines)) = open(script) else {
         return Err(PolyFault::Syntax(1));

@@ -18,7 +18,7 @@ use Rattle.fixed_word.specs.Decimal.{whole_text}
 use Rattle.fixed_script.specs.Names.{policy_name, policy_named, op_name, op_named, all_ops, rounding_name, rounding_named}
 use Rattle.fixed_script.specs.Text.{ScriptLine, SetTo, Apply, Operands, OneRegister, TwoRegisters, RegisterAndInt, ThreeRegisters, shape, shape_of, takes_rounding, may_round, IsLine, register_text, line_tokens, line_text, operand_tokens, rounding_tokens}
 use Rattle.fixed_text.specs.Numerals.{cap}
-use Rattle.fixed_script.specs.Capped.{cap_whole, cap_operands, capped, denoted, literal_value, of_shape, if_rounds}
+use Rattle.fixed_script.specs.Capped.{cap_whole, cap_operands, capped, checked_script_line, literal_value, of_shape, if_rounds}
 use Rattle.fixed_text.specs.Tokens.{◌>>=◌, next_by, at_end, tokens_of}
 use Rattle.fixed_script.specs.inside.Parser.{register_at, literal_at, set_at, named_at, rounding_at, ends_by, operands_at, apply_at, line_at}
 use Rattle.fixed_text.proofs.Steps.{guard_some, bind_some, next_some, end_some, named_takes}
@@ -27,15 +27,15 @@ use Rattle.fixed_script.proofs.Joined.{tokens_of_line}
 
 -- the line that was read, its tokens and what it denotes
 abbrev pub IsFound : List (List ℕ) → Line → Type 0
-IsFound ts line = (l : ScriptLine) × IsLine l × (line_tokens l ≡ ts) × (denoted line ≡ Some (capped l))
+IsFound ts line = (l : ScriptLine) × IsLine l × (line_tokens l ≡ ts) × (checked_script_line line ≡ Some (capped l))
 
-set_takes : (dest : ℕ) (ts : List (List ℕ)) (line : Line) → set_at dest ts ≡ Some line → (k : ℤ) × (whole_text k ∷ [] ≡ ts) × (denoted line ≡ Some (SetTo dest (cap_whole k)))
+set_takes : (dest : ℕ) (ts : List (List ℕ)) (line : Line) → set_at dest ts ≡ Some line → (k : ℤ) × (whole_text k ∷ [] ≡ ts) × (checked_script_line line ≡ Some (SetTo dest (cap_whole k)))
 unfolding set_at
 set_takes dest ts line e =
     let t = next_some literal_at ts (λ literal. at_end literal.1 (Set dest literal.0)) line e in
     let k = literal_takes t.token t.value t.reads in
     let done = end_some t.rest (Set dest t.value) line t.goes_on in
-    (k.0, ap (λ u. u ∷ []) k.1 ∙ ap (λ us. t.token ∷ us) (sym done.0) ∙ sym t.is, ap denoted (sym done.1) ∙ ap (λ v. Some (SetTo dest v)) k.2)
+    (k.0, ap (λ u. u ∷ []) k.1 ∙ ap (λ us. t.token ∷ us) (sym done.0) ∙ sym t.is, ap checked_script_line (sym done.1) ∙ ap (λ v. Some (SetTo dest v)) k.2)
 
 -- the rounding that was read, or none
 rounding_read : (op : Op) (ts : List (List ℕ)) (r : Option Rounding) → rounding_at op ts ≡ Some r → (may_round op r ≡ true) × (rounding_tokens r ≡ ts)
@@ -69,7 +69,7 @@ rounding_again op (Some Even) m = ap (λ b. cond b (Some Even) None >>= λ q. So
 -- the operands that were read, and the rounding
 abbrev AreOperands : ℕ → Policy → Op → ℕ → List (List ℕ) → Line → Type 0
 AreOperands dest policy op a ts line =
-    (xs : Operands) × (r : Option Rounding) × (shape op ≡ shape_of xs) × (may_round op r ≡ true) × (operand_tokens xs ++ rounding_tokens r ≡ register_text a ∷ ts) × (denoted line ≡ Some (Apply dest policy op (cap_operands xs) r))
+    (xs : Operands) × (r : Option Rounding) × (shape op ≡ shape_of xs) × (may_round op r ≡ true) × (operand_tokens xs ++ rounding_tokens r ≡ register_text a ∷ ts) × (checked_script_line line ≡ Some (Apply dest policy op (cap_operands xs) r))
 
 operands_takes : (s : Shape) (dest : ℕ) (policy : Policy) (op : Op) (a : ℕ) (ts : List (List ℕ)) (line : Line) → shape op ≡ s → operands_at s dest policy op (cap a) ts ≡ Some line → AreOperands dest policy op a ts line
 unfolding operands_at
@@ -80,7 +80,7 @@ operands_takes Unary dest policy op a ts line s e =
       s,
       d.1,
       ap (λ us. register_text a ∷ us) d.2,
-      ap denoted (sym d.3) ∙ rounds_some op d.0 (of_shape (shape op) Unary (Apply dest policy op (OneRegister (cap a)) d.0)) d.1 ∙ ap (λ s. of_shape s Unary (Apply dest policy op (OneRegister (cap a)) d.0)) s,
+      ap checked_script_line (sym d.3) ∙ rounds_some op d.0 (of_shape (shape op) Unary (Apply dest policy op (OneRegister (cap a)) d.0)) d.1 ∙ ap (λ s. of_shape s Unary (Apply dest policy op (OneRegister (cap a)) d.0)) s,
     )
 operands_takes Binary dest policy op a ts line s e =
     let t = next_some register_at ts (λ b. ends_by op b.1 (Two dest policy op (cap a) b.0)) line e in
@@ -91,7 +91,7 @@ operands_takes Binary dest policy op a ts line s e =
       s,
       d.1,
       ap (λ u. register_text a ∷ u ∷ rounding_tokens d.0) b.1 ∙ ap (λ us. register_text a ∷ t.token ∷ us) d.2 ∙ ap (λ us. register_text a ∷ us) (sym t.is),
-      ap denoted (sym d.3) ∙ rounds_some op d.0 (of_shape (shape op) Binary (Apply dest policy op (TwoRegisters (cap a) t.value) d.0)) d.1
+      ap checked_script_line (sym d.3) ∙ rounds_some op d.0 (of_shape (shape op) Binary (Apply dest policy op (TwoRegisters (cap a) t.value) d.0)) d.1
           ∙ ap (λ s. of_shape s Binary (Apply dest policy op (TwoRegisters (cap a) t.value) d.0)) s ∙ ap (λ v. Some (Apply dest policy op (TwoRegisters (cap a) v) d.0)) b.2,
     )
 operands_takes ByInteger dest policy op a ts line s e =
@@ -103,7 +103,7 @@ operands_takes ByInteger dest policy op a ts line s e =
       s,
       d.1,
       ap (λ u. register_text a ∷ u ∷ rounding_tokens d.0) k.1 ∙ ap (λ us. register_text a ∷ t.token ∷ us) d.2 ∙ ap (λ us. register_text a ∷ us) (sym t.is),
-      ap denoted (sym d.3) ∙ rounds_some op d.0 (of_shape (shape op) ByInteger (Apply dest policy op (RegisterAndInt (cap a) (literal_value t.value)) d.0)) d.1
+      ap checked_script_line (sym d.3) ∙ rounds_some op d.0 (of_shape (shape op) ByInteger (Apply dest policy op (RegisterAndInt (cap a) (literal_value t.value)) d.0)) d.1
           ∙ ap (λ s. of_shape s ByInteger (Apply dest policy op (RegisterAndInt (cap a) (literal_value t.value)) d.0)) s ∙ ap (λ v. Some (Apply dest policy op (RegisterAndInt (cap a) v) d.0)) k.2,
     )
 operands_takes Ternary dest policy op a ts line s e =
@@ -118,14 +118,14 @@ operands_takes Ternary dest policy op a ts line s e =
       d.1,
       ap (λ x. register_text a ∷ x ∷ register_text c.0 ∷ rounding_tokens d.0) b.1 ∙ ap (λ x. register_text a ∷ t.token ∷ x ∷ rounding_tokens d.0) c.1
           ∙ ap (λ us. register_text a ∷ t.token ∷ u.token ∷ us) d.2 ∙ ap (λ us. register_text a ∷ t.token ∷ us) (sym u.is) ∙ ap (λ us. register_text a ∷ us) (sym t.is),
-      ap denoted (sym d.3) ∙ rounds_some op d.0 (of_shape (shape op) Ternary (Apply dest policy op (ThreeRegisters (cap a) t.value u.value) d.0)) d.1
+      ap checked_script_line (sym d.3) ∙ rounds_some op d.0 (of_shape (shape op) Ternary (Apply dest policy op (ThreeRegisters (cap a) t.value u.value) d.0)) d.1
           ∙ ap (λ s. of_shape s Ternary (Apply dest policy op (ThreeRegisters (cap a) t.value u.value) d.0)) s
           ∙ ap (λ v. Some (Apply dest policy op (ThreeRegisters (cap a) v u.value) d.0)) b.2 ∙ ap (λ v. Some (Apply dest policy op (ThreeRegisters (cap a) (cap b.0) v) d.0)) c.2,
     )
 
 abbrev IsApplied : ℕ → Policy → List (List ℕ) → Line → Type 0
 IsApplied dest policy ts line =
-    (op : Op) × (xs : Operands) × (r : Option Rounding) × (shape op ≡ shape_of xs) × (may_round op r ≡ true) × (op_name op ∷ (operand_tokens xs ++ rounding_tokens r) ≡ ts) × (denoted line ≡ Some (Apply dest policy op (cap_operands xs) r))
+    (op : Op) × (xs : Operands) × (r : Option Rounding) × (shape op ≡ shape_of xs) × (may_round op r ≡ true) × (op_name op ∷ (operand_tokens xs ++ rounding_tokens r) ≡ ts) × (checked_script_line line ≡ Some (Apply dest policy op (cap_operands xs) r))
 
 apply_takes : (dest : ℕ) (policy : Policy) (ts : List (List ℕ)) (line : Line) → apply_at dest policy ts ≡ Some line → IsApplied dest policy ts line
 unfolding apply_at
@@ -200,7 +200,7 @@ read_none piece None e = λ l is text.
     none-some again.0 (e ∙ ap (λ b. line_at (tokens_of b)) (sym text) ∙ ap line_at (tokens_of_line l) ∙ again.1)
 read_none piece (Some line) e = tt
 
-pub read_some : (piece : List ℕ) (r : Option Line) → r ≡ line_at (tokens_of piece) → IfSome r (λ line. (l : ScriptLine) × IsLine l × (line_text l ≡ piece) × (denoted line ≡ Some (capped l)))
+pub read_some : (piece : List ℕ) (r : Option Line) → r ≡ line_at (tokens_of piece) → IfSome r (λ line. (l : ScriptLine) × IsLine l × (line_text l ≡ piece) × (checked_script_line line ≡ Some (capped l)))
 read_some piece None e = tt
 read_some piece (Some line) e =
     let f = line_takes (tokens_of piece) line (sym e) in

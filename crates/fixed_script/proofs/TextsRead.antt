@@ -21,11 +21,11 @@ use Rattle.fixed_script.proofs.Joined.{tokens_of_line}
 use Rattle.fixed_script.proofs.Lines.{not_set}
 use Rattle.fixed_script.proofs.HeaderLaws.{word_again, tokens_of_header}
 use Rattle.fixed_script.specs.declared.line.Line.{Line}
-use Rattle.fixed_script.specs.Capped.{capped, denoted}
+use Rattle.fixed_script.specs.Capped.{capped, checked_script_line}
 use Rattle.fixed_word.specs.Pieces.{body}
 use Rattle.fixed_script.specs.Headers.{CappedHeader, capped_header}
 use Rattle.fixed_script.specs.Lines.{then_of, line_of_piece, header_of_piece, natural_in, register_in, whole_in, operands_in, operand_count, rounding_in, apply_in, line_in, header_in, if_its_text, line_of, header_of, ReadsLines, ReadsHeaders, token}
-use Rattle.fixed_script.specs.Readings.{LineTells, HeaderTells}
+use Rattle.fixed_script.specs.ReadPieces.{ReadsLine, ReadsHeader}
 
 -- ---- what is read back
 natural_back : (n : ℕ) → natural_in (natural_text n) ≡ n
@@ -136,7 +136,7 @@ none_from piece None is h = refl
 none_from piece (Some l) is h = let p = (reads_lines piece l).0 is in absurd (h l p.0 p.1)
 
 pub line_tells : (piece front : List ℕ) (r : Option Line) → body piece ≡ Some front → IfNone r ((l : ScriptLine) → IsLine l → line_text l ≡ front → ⊥)
-    → IfSome r (λ read. (l : ScriptLine) × IsLine l × (line_text l ≡ front) × (denoted read ≡ Some (capped l))) → LineTells piece r
+    → IfSome r (λ read. (l : ScriptLine) × IsLine l × (line_text l ≡ front) × (checked_script_line read ≡ Some (capped l))) → ReadsLine piece r
 unfolding line_of_piece
 line_tells piece front None is none found = ap (λ o. then_of o line_of) is ∙ none_from front (line_of front) refl none
 line_tells piece front (Some read) is none found = (found.0, ap (λ o. then_of o line_of) is ∙ (reads_lines front found.0).1 (found.1, found.2), found.3)
@@ -150,7 +150,7 @@ no_header_from piece None is h = refl
 no_header_from piece (Some l) is h = absurd (h l ((reads_headers piece l).0 is))
 
 pub header_tells : (piece front : List ℕ) (r : Option CappedHeader) → body piece ≡ Some front → IfNone r ((h : ScriptHeader) → header_text h ≡ front → ⊥)
-    → IfSome r (λ read. (h : ScriptHeader) × (header_text h ≡ front) × (read ≡ capped_header h)) → HeaderTells piece r
+    → IfSome r (λ read. (h : ScriptHeader) × (header_text h ≡ front) × (read ≡ capped_header h)) → ReadsHeader piece r
 unfolding header_of_piece
 header_tells piece front None is none found = ap (λ o. then_of o header_of) is ∙ no_header_from front (header_of front) refl none
 header_tells piece front (Some read) is none found = (found.0, ap (λ o. then_of o header_of) is ∙ (reads_headers front found.0).1 found.1, found.2)

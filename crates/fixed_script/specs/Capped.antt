@@ -43,9 +43,9 @@ abbrev pub if_rounds : Op → Option Rounding → Option ScriptLine → Option S
 if_rounds op rounding line = if may_round op rounding then line else None
 
 -- the abstract line that a line of the code denotes, with its numbers and its rounding as they stand
-abbrev pub denoted : Line → Option ScriptLine
-denoted (Set dest literal) = Some (SetTo dest (literal_value literal))
-denoted (One dest policy op a r) = if_rounds op r (of_shape (shape op) Unary (Apply dest policy op (OneRegister a) r))
-denoted (Two dest policy op a b r) = if_rounds op r (of_shape (shape op) Binary (Apply dest policy op (TwoRegisters a b) r))
-denoted (Int dest policy op a literal r) = if_rounds op r (of_shape (shape op) ByInteger (Apply dest policy op (RegisterAndInt a (literal_value literal)) r))
-denoted (Three dest policy op a b c r) = if_rounds op r (of_shape (shape op) Ternary (Apply dest policy op (ThreeRegisters a b c) r))
+abbrev pub checked_script_line : Line → Option ScriptLine
+checked_script_line (Set dest literal) = Some (SetTo dest (literal_value literal))
+checked_script_line (One dest policy op a r) = if_rounds op r (of_shape (shape op) Unary (Apply dest policy op (OneRegister a) r))
+checked_script_line (Two dest policy op a b r) = if_rounds op r (of_shape (shape op) Binary (Apply dest policy op (TwoRegisters a b) r))
+checked_script_line (Int dest policy op a literal r) = if_rounds op r (of_shape (shape op) ByInteger (Apply dest policy op (RegisterAndInt a (literal_value literal)) r))
+checked_script_line (Three dest policy op a b c r) = if_rounds op r (of_shape (shape op) Ternary (Apply dest policy op (ThreeRegisters a b c) r))

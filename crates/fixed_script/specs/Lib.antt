@@ -3,6 +3,6 @@ pub mod Text
 pub mod Capped
 pub mod Headers
 pub mod Lines
-pub mod Readings
+pub mod ReadPieces
 pub mod TextLaws
 pub mod inside

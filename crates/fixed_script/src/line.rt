@@ -2,7 +2,7 @@
 
 ghost use Rattle.std.specs.Prelude.{◌≡◌, Some, IfSome, IfNone};
 ghost use Rattle.fixed_script.specs.Text.{shape, takes_rounding as rounds, ScriptLine, IsLine, line_text};
-ghost use Rattle.fixed_script.specs.Capped.{capped, denoted};
+ghost use Rattle.fixed_script.specs.Capped.{capped, checked_script_line};
 ghost use Rattle.fixed_text.specs.Tokens.{at_end, tokens_of};
 ghost use Rattle.fixed_script.specs.inside.Parser.{set_at, named_at, rounding_at, operands_at, apply_at, line_at};
 
@@ -228,7 +228,7 @@ pub fn parse_line(piece: &[u8]) -> Option<Line>
         ((line : ScriptLine) → IsLine line → line_text line ≡ piece.now → ⊥) }
     // Otherwise the capped form of the line whose text it is.
     ensures found { IfSome result (λ read. (line : ScriptLine)
-        × IsLine line × (line_text line ≡ piece.now) × (denoted read ≡ Some (capped line))) }
+        × IsLine line × (line_text line ≡ piece.now) × (checked_script_line read ≡ Some (capped line))) }
 {
     line_from(Tokens::new(piece))
 }

@@ -1,6 +1,6 @@
 //! The line, and the header, of a piece, which ends in a newline.
 
-ghost use Rattle.fixed_script.specs.Readings.{LineTells, HeaderTells};
+ghost use Rattle.fixed_script.specs.ReadPieces.{ReadsLine, ReadsHeader};
 
 use crate::header::{Header, parse_header};
 use crate::line::{Line, parse_line};
@@ -8,7 +8,7 @@ use fixed_text::body_of;
 
 /// The line of a piece.
 pub fn line_of_piece(piece: &[u8]) -> Option<Line>
-    ensures { LineTells piece.now result }
+    ensures { ReadsLine piece.now result }
 {
     match body_of(piece) {
         Some(body) => parse_line(body),
@@ -18,7 +18,7 @@ pub fn line_of_piece(piece: &[u8]) -> Option<Line>
 
 /// The header of a piece.
 pub fn header_of_piece(piece: &[u8]) -> Option<Header<'_>>
-    ensures { HeaderTells piece.now result }
+    ensures { ReadsHeader piece.now result }
 {
     match body_of(piece) {
         Some(body) => parse_header(body),

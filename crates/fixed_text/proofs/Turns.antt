@@ -8,8 +8,8 @@ use Rattle.fixed_text.specs.declared.fault.RunFault.TheVariants.{Syntax, OutOfRa
 use Rattle.fixed_text.specs.Runs.{Reading, Malformed, Misfit, Read, Ending, Printed, NoForm, NoRange, after, then_by, piece_by, lines_from, read_map}
 use Rattle.fixed_text.specs.declared.fault.Refusal.{Refusal}
 use Rattle.fixed_text.specs.declared.fault.Refusal.TheVariants.{Unformed, Unfit, Wanting}
-use Rattle.fixed_text.specs.Tells.{EndsBy, StepTells, RefusalTells}
-use Rattle.fixed_text.specs.inside.Pieces.{FaultTells}
+use Rattle.fixed_text.specs.Answers.{EndsBy, IsStepOfLine, IsRefusal}
+use Rattle.fixed_text.specs.inside.Pieces.{IsFaultOfPiece}
 
 -- what is left of a script
 pub whole_rest : (at : ℕ) (xs : List ℕ) → take (length xs - at) (drop at xs) ≡ drop at xs
@@ -40,7 +40,7 @@ module _ {S : Type 0} (line : S → List ℕ → Reading (S × List ℕ)) where
       ∙ after-after printed bytes (lines_from line t (k + 1) (pieces left))
 
   -- a piece with a cause ends the run
-  pub fault_turn : (printed : List ℕ) (s : S) (k : ℕ) (rest p left : List ℕ) (fault : RunFault) → pieces rest ≡ p ∷ pieces left → FaultTells k (piece_by (line s) (body p)) fault → EndsBy (from_here printed s k rest) fault
+  pub fault_turn : (printed : List ℕ) (s : S) (k : ℕ) (rest p left : List ℕ) (fault : RunFault) → pieces rest ≡ p ∷ pieces left → IsFaultOfPiece k (piece_by (line s) (body p)) fault → EndsBy (from_here printed s k rest) fault
   fault_turn printed s k rest p left (Syntax j) cut h =
       ap (λ ps. after printed (lines_from line s k ps)) cut
       ∙ ap (after printed) (line_step s k p (pieces left) ∙ ap (λ (r : Reading (S × List ℕ)). then_by k r (λ moved. after moved.1 (lines_from line moved.0 (k + 1) (pieces left)))) h.1)
@@ -61,11 +61,11 @@ module _ {S : Type 0} (line : S → List ℕ → Reading (S × List ℕ)) where
   begins s k lines = nothing_printed (lines_from line s k (pieces lines))
 
 -- a line that prints nothing leaves every output as it was
-pub quiet : {S : Type 0} (reading : Reading (S × List ℕ)) (result : Result (Unit {0}) Refusal) (state : S) (before : List ℕ) → StepTells reading result state [] [] → StepTells reading result state before before
+pub quiet : {S : Type 0} (reading : Reading (S × List ℕ)) (result : Result (Unit {0}) Refusal) (state : S) (before : List ℕ) → IsStepOfLine reading result state [] [] → IsStepOfLine reading result state before before
 quiet reading (Ok _) state before h = ([], h.1 ∙ ap (λ (bytes : List ℕ). Read (state, bytes)) (sym h.2), sym (append-nil before))
 quiet reading (Err refusal) state before h = h
 
-pub refused_map : {A B : Type 0} (make : A → B) (reading : Reading A) (refusal : Refusal) → RefusalTells reading refusal → RefusalTells (read_map make reading) refusal
+pub refused_map : {A B : Type 0} (make : A → B) (reading : Reading A) (refusal : Refusal) → IsRefusal reading refusal → IsRefusal (read_map make reading) refusal
 refused_map make reading Unformed h = ap (read_map make) h
 refused_map make reading Unfit h = ap (read_map make) h
 refused_map make reading Wanting h = tt

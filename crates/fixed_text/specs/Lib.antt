@@ -5,5 +5,5 @@ pub mod Numbers
 pub mod Decimals
 pub mod Texts
 pub mod Runs
-pub mod Tells
+pub mod Answers
 pub mod inside

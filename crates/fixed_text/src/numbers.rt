@@ -6,7 +6,7 @@ ghost use Rattle.fixed_text.specs.Decimals.{decimal_of, decimal_value};
 ghost use Rattle.fixed_text.specs.Numbers.{natural_in, numbered_in, only_number, whole_in, wholes_in};
 ghost use Rattle.fixed_text.specs.Numerals.{cap};
 ghost use Rattle.fixed_text.specs.Runs.{fitting_number, fitting_numbers};
-ghost use Rattle.fixed_text.specs.Tells.{ReadTells};
+ghost use Rattle.fixed_text.specs.Answers.{IsAnswerOfReading};
 
 use crate::decimal::{Decimal, read_decimal, value_in};
 use crate::fault::Refusal;
@@ -57,7 +57,7 @@ pub fn read_only_number(mut tokens: Tokens<'_>) -> Option<Decimal>
 
 /// The word of a number. Refused as unfit exactly where the number does not fit.
 pub fn fitting<T: Word>(number: &Decimal) -> Result<T, Refusal>
-    ensures { ReadTells T.value
+    ensures { IsAnswerOfReading T.value
         (fitting_number T.SIGNED T.BITS (Some (decimal_value number.now))) result }
 {
     match value_in(number) {
@@ -69,7 +69,7 @@ pub fn fitting<T: Word>(number: &Decimal) -> Result<T, Refusal>
 /// The word of the number that has this decimal. Refused as unformed exactly where no number has it, and
 /// as unfit where the number does not fit.
 pub fn read_word<T: Word>(token: &[u8]) -> Result<T, Refusal>
-    ensures { ReadTells T.value (fitting_number T.SIGNED T.BITS (whole_in token.now)) result }
+    ensures { IsAnswerOfReading T.value (fitting_number T.SIGNED T.BITS (whole_in token.now)) result }
 {
     match read_decimal(token) {
         Some(number) => fitting(&number),
@@ -80,7 +80,7 @@ pub fn read_word<T: Word>(token: &[u8]) -> Result<T, Refusal>
 /// The words of the numbers of these tokens, in order. Refused as unformed where a token is no decimal,
 /// and otherwise as unfit where a number does not fit; want of memory may come in the place of either.
 pub fn read_words<T: Word>(alloc: Global, mut tokens: Tokens<'_>) -> Result<Vec<T>, Refusal>
-    ensures { ReadTells (λ words. map T.value words.items)
+    ensures { IsAnswerOfReading (λ words. map T.value words.items)
         (fitting_numbers T.SIGNED T.BITS (wholes_in tokens.entry)) result }
 {
     let mut words = Vec::new(alloc);

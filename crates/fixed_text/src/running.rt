@@ -3,8 +3,8 @@
 ghost use Rattle.std.specs.Prelude.{◌≡◌, List, MatchOption, None, Some, ℕ};
 ghost use Rattle.fixed_word.specs.Pieces.{body, pieces};
 ghost use Rattle.fixed_text.specs.Runs.{Reading, lines_from, opened, piece_by};
-ghost use Rattle.fixed_text.specs.Tells.{RunTells, StepTells};
-ghost use Rattle.fixed_text.specs.inside.Pieces.{LineTells};
+ghost use Rattle.fixed_text.specs.Answers.{IsAnswerOfRun, IsStepOfLine};
+ghost use Rattle.fixed_text.specs.inside.Pieces.{IsStepOfPiece};
 
 use crate::fault::{Refusal, RunFault};
 use crate::output::Output;
@@ -19,7 +19,7 @@ pub trait Run: Sized + Drop {
     /// Moves by a line, which comes without its newline, and adds what it prints. Refused as unformed or
     /// unfit exactly where the line is so to the state; want of memory may come in the place of any answer.
     fn step(&mut self, bytes: &[u8], output: &mut Output) -> Result<(), Refusal>
-        ensures { StepTells (line self.old bytes.now) result self.new output.old output.new };
+        ensures { IsStepOfLine (line self.old bytes.now) result self.new output.old output.new };
 }
 
 /// The first piece of a script, without its newline, and what comes after it. None exactly where there is
@@ -45,7 +45,7 @@ fn line_piece<R: Run>(
     number: u64,
     output: &mut Output,
 ) -> Result<(), RunFault>
-    ensures { LineTells number (piece_by (R.line run.old) (body piece.now)) result
+    ensures { IsStepOfPiece number (piece_by (R.line run.old) (body piece.now)) result
         run.new output.old output.new }
 {
     match body_of(piece) {
@@ -62,7 +62,7 @@ fn line_piece<R: Run>(
 /// What the lines of a script print, from piece 2 on, or their first cause; want of memory may come in the
 /// place of either.
 pub fn run_lines<R: Run>(alloc: Global, mut run: R, lines: &[u8]) -> Result<Output, RunFault>
-    ensures { RunTells (lines_from R.line run 2 (pieces lines.now)) result }
+    ensures { IsAnswerOfRun (lines_from R.line run 2 (pieces lines.now)) result }
 {
     let mut output = Output::new(alloc);
     let mut at = 0;

@@ -3,7 +3,7 @@
 use fixed_guide::controller::{self, Signal, output};
 use fixed_guide::filter::{self, Level, low_pass};
 use fixed_guide::invoice::{Amount, total};
-use fixed_guide::ledger::{Money, transfer};
+use fixed_guide::transfer::{Money, transfer};
 
 #[test]
 fn three_steps(rt: HostRuntime) {

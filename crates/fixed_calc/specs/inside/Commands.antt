@@ -6,7 +6,7 @@ use Rattle.fixed_calc.specs.declared.command.Command.TheVariants.{Script, Demo}
 use Rattle.fixed_calc.specs.CommandLine.{IsDemo, IsNoCommand}
 
 -- what the words ask for, if anything
-abbrev pub CommandTells : List (String Global) → Option Command → Type 0
-CommandTells words (Some Script) = words ≡ []
-CommandTells words (Some (Demo n)) = IsDemo words n
-CommandTells words None = IsNoCommand words
+abbrev pub IsCommandOf : List (String Global) → Option Command → Type 0
+IsCommandOf words (Some Script) = words ≡ []
+IsCommandOf words (Some (Demo n)) = IsDemo words n
+IsCommandOf words None = IsNoCommand words

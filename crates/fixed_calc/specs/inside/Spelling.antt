@@ -21,14 +21,14 @@ with_end None piece = piece
 with_end (Some rounding) piece = take (length piece - 1) piece ++ (32 ∷ (rounding_name rounding ++ (10 ∷ [])))
 
 -- why the spelling stops
-abbrev pub StopTells : Spelling → ExplicitFault → Type 0
-StopTells spelling (Syntax k) = spelling ≡ NoForm k
-StopTells spelling Memory = ⊤
+abbrev pub StopsSpelling : Spelling → ExplicitFault → Type 0
+StopsSpelling spelling (Syntax k) = spelling ≡ NoForm k
+StopsSpelling spelling Memory = ⊤
 
 -- all is written, or why the spelling stops
-abbrev pub AllTells : Spelling → Result (Unit {0}) ExplicitFault → List ℕ → Type 0
-AllTells spelling (Ok u) bytes = spelling ≡ Written bytes
-AllTells spelling (Err fault) bytes = StopTells spelling fault
+abbrev pub SpellsAll : Spelling → Result (Unit {0}) ExplicitFault → List ℕ → Type 0
+SpellsAll spelling (Ok u) bytes = spelling ≡ Written bytes
+SpellsAll spelling (Err fault) bytes = StopsSpelling spelling fault
 
 -- the first line of the rest was spelled: the spelling from there, after what is written, is the spelling from before
 pub record HasSpelled (k : ℕ) (rest : List ℕ) (end : ℕ) (old new : List ℕ) : Type 0 where

@@ -5,12 +5,12 @@ use Rattle.fixed_text.specs.declared.fault.RunFault.TheVariants.{Syntax, OutOfRa
 use Rattle.fixed_text.specs.Runs.{Reading, Malformed, Misfit, Read}
 
 -- piece k lacks the form, or has a number out of range; want of memory may come at any time
-abbrev pub FaultTells : {A : Type 0} → ℕ → Reading A → RunFault → Type 0
-FaultTells k reading (Syntax j) = (j ≡ k) × (reading ≡ Malformed)
-FaultTells k reading (OutOfRange j) = (j ≡ k) × (reading ≡ Misfit)
-FaultTells k reading Memory = Unit {0}
+abbrev pub IsFaultOfPiece : {A : Type 0} → ℕ → Reading A → RunFault → Type 0
+IsFaultOfPiece k reading (Syntax j) = (j ≡ k) × (reading ≡ Malformed)
+IsFaultOfPiece k reading (OutOfRange j) = (j ≡ k) × (reading ≡ Misfit)
+IsFaultOfPiece k reading Memory = Unit {0}
 
 -- piece k leaves a state and adds what it prints
-abbrev pub LineTells : {S : Type 0} → ℕ → Reading (S × List ℕ) → Result (Unit {0}) RunFault → S → List ℕ → List ℕ → Type 0
-LineTells k reading (Ok _) state before now = (bytes : List ℕ) × (reading ≡ Read (state, bytes)) × (now ≡ before ++ bytes)
-LineTells k reading (Err fault) state before now = FaultTells k reading fault
+abbrev pub IsStepOfPiece : {S : Type 0} → ℕ → Reading (S × List ℕ) → Result (Unit {0}) RunFault → S → List ℕ → List ℕ → Type 0
+IsStepOfPiece k reading (Ok _) state before now = (bytes : List ℕ) × (reading ≡ Read (state, bytes)) × (now ≡ before ++ bytes)
+IsStepOfPiece k reading (Err fault) state before now = IsFaultOfPiece k reading fault

@@ -1,4 +1,4 @@
-use Rattle.fixed_calc.proofs.OneNumber.{where_it_fits, where_it_misses}
+use Rattle.fixed_calc.proofs.PolicyLaws.{where_it_fits, where_it_misses}
 use Rattle.fixed_calc.proofs.laws.policy_law.Goals as goal
 
 pub returns-clause-fits : goal.returns-clause-fits

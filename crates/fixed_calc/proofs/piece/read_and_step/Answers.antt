@@ -1,7 +1,7 @@
 use Rattle.std.proofs.Common.{◌≤◌, ◌^◌, length, arith, sym, subst, Option}
 use Rattle.std.proofs.lemmas.List.{length-map}
 use Rattle.fixed_script.specs.Text.{ScriptLine}
-use Rattle.fixed_calc.specs.Step.{StepTells, cell_of, cells_of, state_in}
+use Rattle.fixed_calc.specs.Step.{IsStepOfLine, cell_of, cells_of, state_in}
 use Rattle.fixed_calc.proofs.Caps.{step_capped}
 use Rattle.fixed_calc.proofs.piece.read_and_step.Goals as goal
 
@@ -12,4 +12,4 @@ returns-in-Some-clause-tells c =
     let all : length (cells_of c.args.registers.now) ≤ 2 ^ 64 = omega (arith, length-map c.args.registers.now cell_of) in
     let l = c.in-Some.ensures in
     let after = cells_of c.step_registers.new.registers in
-    subst (λ (o : Option ScriptLine). StepTells s o c.args.number c.step_registers.result after) (sym l.1) (step_capped s l.0 c.args.number c.step_registers.result after _ all l.2 c.step_registers.ensures.tells)
+    subst (λ (o : Option ScriptLine). IsStepOfLine s o c.args.number c.step_registers.result after) (sym l.1) (step_capped s l.0 c.args.number c.step_registers.result after _ all l.2 c.step_registers.ensures.tells)

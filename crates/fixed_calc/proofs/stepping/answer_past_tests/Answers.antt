@@ -4,7 +4,7 @@ use Rattle.std.proofs.lemmas.Int.{to_z-of_z}
 use mir.Val.{SFits}
 use Rattle.fixed_script.specs.Capped.{literal_value}
 use Rattle.fixed_calc.specs.declared.answer.Answer.TheVariants.{Bits}
-use Rattle.fixed_calc.specs.inside.Stepping.{AnswerTells, seen}
+use Rattle.fixed_calc.specs.inside.Stepping.{IsAnswerOfLine, script_line_of}
 use Rattle.fixed_calc.specs.Step.{cells_of, state_in}
 use Rattle.fixed_calc.proofs.Causes.{PassesTests, set_small, set_tells}
 use Rattle.fixed_calc.proofs.stepping.answer_past_tests.Goals as goal
@@ -15,6 +15,6 @@ whole_of-requires c = set_small (state_in c.args.word (cells_of c.args.registers
 pub returns-in-Set : goal.returns-in-Set
 returns-in-Set c =
     let s = state_in c.args.word (cells_of c.args.registers.now) in
-    let t : PassesTests s (seen c.args.line.now) = record { offered = c.requires.offered; in_range = c.requires.in_range; one_fraction = c.requires.one_fraction } in
+    let t : PassesTests s (script_line_of c.args.line.now) = record { offered = c.requires.offered; in_range = c.requires.in_range; one_fraction = c.requires.one_fraction } in
     let fx : SFits w128 c.whole_of.result = search rules in
-    simp to_z-of_z (subst (λ (x : ℤ). AnswerTells s (seen c.args.line.now) c.args.number (Ok (Bits x))) (sym c.whole_of.ensures) (set_tells s (seen c.args.line.now) c.in-Set.dest (literal_value c.in-Set.literal) c.args.number (ap seen c.in-Set.is) t))
+    simp to_z-of_z (subst (λ (x : ℤ). IsAnswerOfLine s (script_line_of c.args.line.now) c.args.number (Ok (Bits x))) (sym c.whole_of.ensures) (set_tells s (script_line_of c.args.line.now) c.in-Set.dest (literal_value c.in-Set.literal) c.args.number (ap script_line_of c.in-Set.is) t))

@@ -1,7 +1,7 @@
 use Rattle.std.proofs.Common.{◌+◌, ◌++◌, ℕ, List, take, drop, sym, ap, subst, ◌∙◌, arith, length-drop}
 use Rattle.std.proofs.lemmas.List.{drop_all, drop-drop}
 use Rattle.fixed_text.specs.Runs.{Ending}
-use Rattle.fixed_text.specs.Tells.{EndsBy}
+use Rattle.fixed_text.specs.Answers.{EndsBy}
 use Rattle.fixed_text.proofs.Turns.{from_here, turn, fault_turn, nothing_left, whole_rest}
 use Rattle.fixed_text.proofs.running.run_lines.Goals as goal
 

@@ -1,5 +1,5 @@
 use Rattle.fixed_num.proofs.Sized.{length_below, length_least}
-use Rattle.fixed_num.proofs.sides.bit_length.Goals as goal
+use Rattle.fixed_num.proofs.sign_magnitude.bit_length.Goals as goal
 
 pub returns-clause-below : goal.returns-clause-below
 returns-clause-below c = length_below c.args.magnitude c.ranges.magnitude.fits

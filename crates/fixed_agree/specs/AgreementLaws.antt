@@ -3,7 +3,7 @@ use Rattle.std.specs.Prelude.{◌≡◌, ◌↔◌, ℕ, ℤ, Bool, Option, None
 use Rattle.std.specs.Bool.{⊤}
 use Rattle.fixed_calc.specs.Types.{Policy, Checked, Strict, Op}
 use Rattle.fixed_calc.specs.declared.answer.Answer.{Answer}
-use Rattle.fixed_calc.specs.Machine.{Taken, row_of, row_causes, first_of}
+use Rattle.fixed_calc.specs.Machine.{OperandValues, row_of, row_causes, first_of}
 use Rattle.fixed_calc.specs.Projection.{project}
 use Rattle.fixed_word.specs.Format.{IsWidth}
 use Rattle.fixed_agree.specs.Agreement.{MachineAnswers, RowFits}
@@ -11,7 +11,7 @@ use Rattle.fixed_agree.specs.Agreement.{MachineAnswers, RowFits}
 -- the machine answers what the policy makes of the row, and nothing else
 abbrev pub AnswersTheProjection : Type 0
 AnswersTheProjection =
-    (signed : Bool) (n : ℕ) (policy : Policy) (op : Op) (operands : Taken) (result : Answer) → IsWidth n → MachineAnswers signed n policy op operands result ↔ (result ≡ project policy signed n (row_of op operands))
+    (signed : Bool) (n : ℕ) (policy : Policy) (op : Op) (operands : OperandValues) (result : Answer) → IsWidth n → MachineAnswers signed n policy op operands result ↔ (result ≡ project policy signed n (row_of op operands))
 
 -- the condition of the typed calls of a policy, on their row
 abbrev pub Condition : Policy → Bool → ℕ → Option ℤ → Type 0

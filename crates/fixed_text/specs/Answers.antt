@@ -1,0 +1,33 @@
+-- What the calls of a run say.
+use Rattle.std.specs.Prelude.{◌≡◌, ◌++◌, ℕ, List, Result, Ok, Err}
+use Rattle.fixed_text.specs.declared.fault.Refusal.{Refusal}
+use Rattle.fixed_text.specs.declared.fault.Refusal.TheVariants.{Unformed, Unfit, Wanting}
+use Rattle.fixed_text.specs.declared.fault.RunFault.{RunFault}
+use Rattle.fixed_text.specs.declared.fault.RunFault.TheVariants.{Syntax, OutOfRange, Memory}
+use Rattle.fixed_text.specs.Runs.{Reading, Malformed, Misfit, Read, Ending, Printed, NoForm, NoRange}
+
+-- want of memory may come at any time
+abbrev pub IsRefusal : {A : Type 0} → Reading A → Refusal → Type 0
+IsRefusal reading Unformed = reading ≡ Malformed
+IsRefusal reading Unfit = reading ≡ Misfit
+IsRefusal reading Wanting = Unit {0}
+
+-- what is read is held so that the view shows it
+abbrev pub IsAnswerOfReading : {A B : Type 0} → (B → A) → Reading A → Result B Refusal → Type 0
+IsAnswerOfReading view reading (Ok x) = reading ≡ Read (view x)
+IsAnswerOfReading view reading (Err refusal) = IsRefusal reading refusal
+
+-- a line leaves a state and adds what it prints
+abbrev pub IsStepOfLine : {S : Type 0} → Reading (S × List ℕ) → Result (Unit {0}) Refusal → S → List ℕ → List ℕ → Type 0
+IsStepOfLine reading (Ok _) state before now = (bytes : List ℕ) × (reading ≡ Read (state, bytes)) × (now ≡ before ++ bytes)
+IsStepOfLine reading (Err refusal) state before now = IsRefusal reading refusal
+
+-- ---- how a run ends
+abbrev pub EndsBy : Ending → RunFault → Type 0
+EndsBy ending (Syntax k) = ending ≡ NoForm k
+EndsBy ending (OutOfRange k) = ending ≡ NoRange k
+EndsBy ending Memory = Unit {0}
+
+abbrev pub IsAnswerOfRun : Ending → Result (List ℕ) RunFault → Type 0
+IsAnswerOfRun ending (Ok bytes) = ending ≡ Printed bytes
+IsAnswerOfRun ending (Err fault) = EndsBy ending fault
