@@ -1,0 +1,29 @@
+use Rattle.std.proofs.Common.{refl}
+use Rattle.fixed_kernel.specs.Rows.{exact_div, exact_div_euclid, exact_next_multiple_of}
+use Rattle.fixed_calc.specs.Rows.{exact}
+use Rattle.fixed_agree.proofs.Policies.{by_wrapping, some_divided}
+use Rattle.fixed_agree.proofs.wrapping.binary.Goals as goal
+
+pub returns-in-Add : goal.returns-in-Add
+unfolding exact
+returns-in-Add g c = rw c.in-Add.is (by_wrapping g.T.RawWord.SIGNED g.T.Valued.BITS _ _ _ _ _ refl c.bits_of.ensures c.wrapping_add.ensures)
+
+pub returns-in-Sub : goal.returns-in-Sub
+unfolding exact
+returns-in-Sub g c = rw c.in-Sub.is (by_wrapping g.T.RawWord.SIGNED g.T.Valued.BITS _ _ _ _ _ refl c.bits_of-in-Sub.ensures c.wrapping_sub.ensures)
+
+pub returns-in-Mul : goal.returns-in-Mul
+unfolding exact
+returns-in-Mul g c = rw c.in-Mul.is (by_wrapping g.T.RawWord.SIGNED g.T.Valued.BITS _ _ _ _ _ refl c.bits_of-in-Mul.ensures c.wrapping_mul.ensures)
+
+pub returns-in-Div : goal.returns-in-Div
+unfolding exact
+returns-in-Div g c = rw c.in-Div.is (by_wrapping g.T.RawWord.SIGNED g.T.Valued.BITS _ _ _ _ _ (some_divided (g.T.Valued.value c.args.b.bits) (exact_div (g.T.Valued.value c.args.a.bits) (g.T.Valued.value c.args.b.bits) g.row.F) (rw c.in-Div.is at c.requires.row)) c.bits_of-in-Div.ensures c.wrapping_div.ensures)
+
+pub returns-in-DivEuclid : goal.returns-in-DivEuclid
+unfolding exact
+returns-in-DivEuclid g c = rw c.in-DivEuclid.is (by_wrapping g.T.RawWord.SIGNED g.T.Valued.BITS _ _ _ _ _ (some_divided (g.T.Valued.value c.args.b.bits) (exact_div_euclid (g.T.Valued.value c.args.a.bits) (g.T.Valued.value c.args.b.bits) g.row.F) (rw c.in-DivEuclid.is at c.requires.row)) c.bits_of-in-DivEuclid.ensures c.wrapping_div_euclid.ensures)
+
+pub returns-in-NextMultipleOf : goal.returns-in-NextMultipleOf
+unfolding exact
+returns-in-NextMultipleOf g c = rw c.in-NextMultipleOf.is (by_wrapping g.T.RawWord.SIGNED g.T.Valued.BITS _ _ _ _ _ (some_divided (g.T.Valued.value c.args.b.bits) (exact_next_multiple_of (g.T.Valued.value c.args.a.bits) (g.T.Valued.value c.args.b.bits)) (rw c.in-NextMultipleOf.is at c.requires.row)) c.bits_of-in-NextMultipleOf.ensures c.wrapping_next_multiple_of.ensures)
