@@ -12,8 +12,9 @@ use std::path::{Path, PathBuf};
 
 const LIBRARY: &str = include_str!(concat!(env!("OUT_DIR"), "/library.rs"));
 
-const MODULES: [&str; 9] = [
-    "word", "bits", "root", "logs", "kernel", "num", "policy", "strict", "ops",
+const MODULES: [&str; 12] = [
+    "word", "bits", "root", "logs", "kernel", "num", "policy", "strict", "ops", "poly", "filter",
+    "interval",
 ];
 
 /// How often each line of code stands in a text.
@@ -59,10 +60,11 @@ fn written(line: &str) -> String {
         .fold(line, one)
 }
 
-/// The lines of code of a text, without comments and what has nothing but brackets.
+/// The lines of code of a text, without comments and what has nothing but brackets. A `Clone` by hand is derived.
 fn lines(text: &str, named: fn(&str) -> String, counted: &mut Lines) {
     for line in text.lines() {
         let code = named(head_of(line.split("//").next().unwrap_or_default()));
+        let code = code.replace(", Clone)]", ")]");
         if code.chars().any(char::is_alphanumeric) {
             *counted.entry(code).or_default() += 1;
         }

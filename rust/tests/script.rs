@@ -293,6 +293,8 @@ fn forms_of_clauses() {
     let fits = "InRange T.SIGNED T.BITS (exact_neg (T.value a))";
     assert_eq!(condition_of(fits, false).unwrap().asserting, "debug_assert");
     assert_eq!(condition_of(fits, true).unwrap().asserting, "assert");
+    let shape = condition_of("IsShape T.BITS shape.now", false).unwrap();
+    assert!(shape.test.starts_with("shape.out_frac.max("), "{shape:?}");
     assert!(condition_of("F + G ≤ T.BITS", false).is_err());
     assert!(condition_of(" ≤ T.BITS", false).is_err());
 }
