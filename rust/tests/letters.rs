@@ -1,11 +1,6 @@
 //! The library's code is the proved sources', letter for letter: each line of code that the build script wrote stands
 //! there as often, but for assertions and the names of modules.
 
-#[path = "../script/mod.rs"]
-#[allow(dead_code)]
-mod script;
-
-use script::handles::without_runtime;
 use std::collections::BTreeMap;
 use std::fs;
 use std::path::{Path, PathBuf};
@@ -64,7 +59,7 @@ fn written(line: &str) -> String {
 fn lines(text: &str, named: fn(&str) -> String, counted: &mut Lines) {
     for line in text.lines() {
         let code = named(head_of(line.split("//").next().unwrap_or_default()));
-        let code = code.replace(", Clone)]", ")]");
+        let code = code.replace("derive(Clone, Copy", "derive(Copy");
         if code.chars().any(char::is_alphanumeric) {
             *counted.entry(code).or_default() += 1;
         }
@@ -79,7 +74,7 @@ fn of_sources() -> Lines {
         sources(&top.join(format!("fixed_{name}/src")), &mut files);
         for file in files {
             let source = fs::read_to_string(file).expect("a source");
-            lines(&without_runtime(&source), proved, &mut counted);
+            lines(&source, proved, &mut counted);
         }
     }
     counted
