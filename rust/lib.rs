@@ -15,6 +15,19 @@
 //! assert_eq!(FixedU8::<8>::from_bits(64).checked_sqrt(), Some(FixedU8::from_bits(128))); // 1/4, 1/2
 //! ```
 //!
+//! Beside the numbers stand [`interval`] with intervals whose ends are rounded outward, [`poly`] with polynomials by
+//! Horner's rule, and in [`filter`] what a filter answers, each with a proved bound on its rounding.
+//!
+//! ```
+//! use zugyelmas::{Interval, PolyReply, div_in, horner_of};
+//!
+//! let one = Interval::new(16_i8, 16).expect("ends in order");
+//! let three = Interval::new(48_i8, 48).expect("ends in order");
+//! let third = div_in(&one, &three, 4).expect("no divisor of 0");
+//! assert_eq!((third.lo(), third.hi()), (5, 6)); // 5/16 and 6/16
+//! assert_eq!(horner_of(&[256_i16, 128, 64], 128, 8), PolyReply::Value(336)); // 1 + x/2 + x^2/4 at 1/2
+//! ```
+//!
 //! # What is proved
 //!
 //! The code is that of a library in Rattle, which is Rust with contracts, letter for letter: each public call was
@@ -39,8 +52,11 @@
 //! or more. The strict and unwrapped forms stop where the number does not fit. The operators and plain calls do so in
 //! builds with debug assertions, and otherwise answer the wrapped number, as those of integers do.
 #![no_std]
-// The code below is the proved sources' own, which name the traits of the calls that they use and the operands of laws.
-#![allow(unused_imports, unused_variables)]
+// The code below is the proved sources' own, which name the traits of the calls that they use and the operands of laws,
+// and have what only the runs beside the library call.
+#![allow(dead_code, unused_imports, unused_variables)]
+// Their links name each target, which the docs of the proved language ask for.
+#![allow(rustdoc::redundant_explicit_links)]
 // Taste, not faults: proved sources keep the forms of which their proofs speak.
 #![allow(
     clippy::implicit_saturating_add,
@@ -85,6 +101,7 @@ mod stopping {
     }
 }
 
+pub use interval::{Interval, add_in, div_in, mul_in, sqrt_in, sub_in};
 pub use num::{
     Constants, Fixed, FixedI8, FixedI16, FixedI32, FixedI64, FixedU8, FixedU16, FixedU32, FixedU64,
     Held, Number,
@@ -95,6 +112,7 @@ pub use policy::{
     Overflowing, OverflowingMulAdd, OverflowingProducts, OverflowingSigned, OverflowingUnsigned,
 };
 pub use policy::{Wrapping, WrappingMulAdd, WrappingProducts, WrappingSigned, WrappingUnsigned};
+pub use poly::{PolyReply, horner, horner_of};
 pub use strict::{
     Saturating, SaturatingMulAdd, SaturatingProducts, SaturatingSigned, SaturatingUnsigned,
 };

@@ -12,11 +12,11 @@ mod memory;
 
 include!(concat!(env!("OUT_DIR"), "/runs.rs"));
 
+use crate::filter::{Bank, Reply, Shape, filter_run};
+use crate::interval::{Interval, div_in, mul_in};
+use crate::poly::{PolyReply, horner};
 use draws::Draws;
-use filter::{Bank, Reply, Shape, filter_run};
-use interval::{Interval, div_in, mul_in};
 use memory::Global;
-use poly::{PolyReply, horner};
 use std::fmt::Write;
 use std::hint::black_box;
 use std::time::Instant;

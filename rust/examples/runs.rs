@@ -12,6 +12,9 @@ mod memory;
 
 include!(concat!(env!("OUT_DIR"), "/runs.rs"));
 
+use crate::filter::filter_run;
+use crate::interval::interval_run;
+use crate::poly::poly_run;
 use memory::Global;
 use std::io::{self, Read, Write};
 use std::process::ExitCode;
@@ -20,11 +23,9 @@ use zugyelmas::*;
 /// What a run prints, or its fault in words.
 fn ran(name: &str, script: &[u8]) -> Option<Result<text::Output, String>> {
     match name {
-        "filter" => Some(filter::filter_run(Global, script).map_err(|fault| format!("{fault:?}"))),
-        "poly" => Some(poly::poly_run(Global, script).map_err(|fault| format!("{fault:?}"))),
-        "interval" => {
-            Some(interval::interval_run(Global, script).map_err(|fault| format!("{fault:?}")))
-        }
+        "filter" => Some(filter_run(Global, script).map_err(|fault| format!("{fault:?}"))),
+        "poly" => Some(poly_run(Global, script).map_err(|fault| format!("{fault:?}"))),
+        "interval" => Some(interval_run(Global, script).map_err(|fault| format!("{fault:?}"))),
         _ => None,
     }
 }

@@ -1,181 +1,141 @@
 //! A proved source as Rust: contracts, ghost items and what speaks to the prover go, code and docs stay letter for
 //! letter. The contract of a public call joins its docs, and its conditions are asserted before its body.
+//!
+//! Sources are formatted, so lines tell by where they stand what belongs together. No brace is counted, and one in a
+//! comment, a string or a character is as any sign.
 
 use crate::script::conditions::{assertions, condition_of, docs};
-use crate::script::pieces::{lines, split_body};
 use std::collections::BTreeMap;
-use std::mem;
 
-/// How lines begin that speak to the prover, or of what Rust does not have.
-const DROPPED: [&str; 6] = [
-    "#![tactic(",
-    "#[tactic(",
-    "#[error(",
-    "#[derive(Drop)]",
-    "use std::marker::Model;",
-    "use thiserror::Error;",
-];
+/// What a source has, and what Rust has in its place.
+const CHANGES: &str = include_str!("changes.txt");
+
+/// How attributes begin that speak to the prover, or of what Rust does not have.
+const DROPPED: [&str; 3] = ["#![tactic(", "#[tactic(", "#[error("];
+
+/// How lines begin that go on with an item whose first line stands as far left.
+const LEVEL: [&str; 5] = ["{", "}", ")", "]", "where"];
 
 /// Reads sources one after the other.
 #[derive(Default)]
 pub struct Erasing {
-    /// Whether public calls get their contracts as docs, and assertions of their conditions.
-    pub is_library: bool,
-    /// Whether these are the strict forms, where a number has to fit in every build.
-    pub is_strict: bool,
+    /// The known conditions of public calls. Where there are none, contracts go.
+    pub known: String,
     /// The facts that each function `TRAIT::NAME` requires, which an `impl` has without saying so.
     clauses: BTreeMap<String, Vec<String>>,
-    /// The trait that is declared or implemented around a function, if any.
-    of_trait: String,
-    /// The function that is read: its contract, the facts that this requires, and its text beside that.
-    contract: Vec<String>,
-    facts: Vec<String>,
-    function: String,
-    /// The lines in Rust.
-    out: Vec<String>,
+    /// The contract of an operator, which stands above its function.
+    operator: Vec<String>,
 }
 
 impl Erasing {
-    /// The source in Rust.
+    /// A source in Rust.
     pub fn erased(&mut self, source: &str) -> Result<String, String> {
-        for line in lines(source) {
-            self.line(&line)?;
-        }
-        Ok(mem::take(&mut self.out).concat() + &mem::take(&mut self.function))
+        self.items(&changed(source), "")
     }
 
-    /// Reads a line, with all that it opens.
-    fn line(&mut self, line: &str) -> Result<(), String> {
-        let code = line.trim();
-        let is_inside = !self.function.is_empty();
-        let is_clause = is_inside && begins(code, &["requires ", "ensures "]);
-        let begins_function = function_name(code).is_some();
-        if is_inside && begins_function {
-            return Err(format!("a function without an end above {code}"));
-        } else if begins(code, &DROPPED) || is_inside && code.starts_with("//") {
-            return Ok(());
-        } else if is_clause {
-            self.clause(code);
-        } else if is_inside || begins_function {
-            self.function += line;
-        } else if let Some(member) = code.strip_prefix("ghost ") {
-            self.ghost(member);
-        } else if let Some((head, inner)) = split_body(line) {
-            self.block(head, inner)?;
-        } else if code.starts_with("#[derive(") {
-            self.out.push(derived(line));
-        } else {
-            self.out.push(line.to_string());
-        }
-        let has_ended = code.ends_with(';') || code.ends_with('}') && !is_clause;
-        if has_ended && !self.function.is_empty() {
-            self.function()?;
-        }
-        Ok(())
-    }
-
-    /// Reads a clause `requires NAME { FACT }`, or an operator's `can_NAME = { λ a b. FACT × FACT }`.
-    fn clause(&mut self, clause: &str) {
-        let clause = clause.trim_end_matches(';');
-        let lines: Vec<&str> = clause.lines().map(str::trim).collect();
-        self.contract.push(lines.join("\n    "));
-        if begins(clause, &["requires ", "can_"]) {
-            let clause = lines.join(" ");
-            let inner = split_body(&clause).map_or("", |(_, inner)| inner.trim());
-            let of_operands = inner.strip_prefix("λ ");
-            let of_operands = of_operands.and_then(|inner| inner.split_once(". "));
-            let facts = of_operands.map_or(inner, |(_, facts)| facts);
-            self.facts.extend(facts.split(" × ").map(str::to_string));
-        }
-    }
-
-    /// Leaves out a ghost item with its comments. What an operator requires and gives is its function's contract.
-    fn ghost(&mut self, member: &str) {
-        if member.starts_with("can_") || member.contains("_gives = ") {
-            self.clause(member);
-        }
-        while self.out.last().is_some_and(|above| begins(above, &["//"])) {
-            self.out.pop();
-        }
-    }
-
-    /// Reads a block with its head. In the proved language a `Clone` may fail.
-    fn block(&mut self, head: &str, inner: &str) -> Result<(), String> {
-        self.of_trait = trait_of(head).to_string();
-        if !["Model", "Clone"].contains(&self.of_trait.as_str()) {
-            self.out.push(format!("{head}{{"));
-            for line in lines(inner) {
-                self.line(&line)?;
+    /// Items in Rust, around which a trait is declared or implemented, if any.
+    fn items(&mut self, text: &str, of_trait: &str) -> Result<String, String> {
+        let mut out: Vec<String> = Vec::new();
+        let mut rest = text;
+        while !rest.is_empty() {
+            let (item, after) = rest.split_at(length(rest));
+            rest = after;
+            let code = item.trim();
+            if let Some(member) = code.strip_prefix("ghost ") {
+                if member.starts_with("can_") || member.contains("_gives = ") {
+                    let lines = member.trim_end_matches(';').lines().map(str::trim);
+                    let lines: Vec<&str> = lines.collect();
+                    self.operator.push(lines.join("\n    "));
+                }
+                // The comments of a ghost item go with it.
+                while out.last().is_some_and(|above| begins(above, &["//"])) {
+                    out.pop();
+                }
+            } else if let Some(name) = function_name(code) {
+                let above = out.iter().rfind(|line| !begins(line, &["#["]));
+                let has_docs = above.is_some_and(|line| begins(line, &["///"]));
+                let function = self.function(item, of_trait, has_docs);
+                out.push(function.map_err(|error| format!("{name}: {error}"))?);
+            } else if !begins(code, &DROPPED) {
+                out.push(self.block(item)?);
             }
-            self.out.push("}\n".to_string());
         }
-        self.of_trait.clear();
-        match self.contract.pop() {
+        match self.operator.pop() {
             Some(clause) => Err(format!("a clause of no function: {clause}")),
-            None => Ok(()),
+            None => Ok(out.concat()),
         }
     }
 
-    /// Writes the function that was read, with its conditions and docs.
-    fn function(&mut self) -> Result<(), String> {
-        let text = mem::take(&mut self.function);
-        let contract = mem::take(&mut self.contract);
-        let name = function_name(&text).unwrap_or_default();
-        let facts = self.facts(name);
-        let (head, body) = match split_body(&text) {
-            Some((head, body)) => (head.trim_end(), Some(body)),
-            None => (text.trim_end().trim_end_matches(';'), None),
-        };
-        let is_public = !self.of_trait.is_empty() || head.trim_start().starts_with("pub ");
-        let is_call = self.is_library && is_public;
-        let mut conditions = Vec::new();
-        for fact in facts.iter().filter(|_| is_call) {
-            let condition = condition_of(fact, self.is_strict);
-            let condition = condition.map_err(|error| format!("{name}: {error}"))?;
-            if body.is_some_and(|body| !condition.is_seen_by(body)) {
-                let words = condition.words;
-                return Err(format!("{name}: nothing in its body stops unless {words}"));
+    /// An item that is no function, with the items that it has in braces.
+    fn block(&mut self, item: &str) -> Result<String, String> {
+        let block = item.strip_suffix("}\n");
+        match block.and_then(|block| block.split_once("{\n")) {
+            // In the proved language a `Clone` may fail.
+            Some((head, _)) if ["Clone", "Model"].contains(&trait_of(head)) => Ok(String::new()),
+            Some((head, inner)) => {
+                let inner = self.items(inner, trait_of(head))?;
+                Ok(format!("{head}{{\n{inner}}}\n"))
             }
-            conditions.push(condition);
+            None => Ok(item.to_string()),
         }
-        let indent = " ".repeat(head.len() - head.trim_start().len());
-        if is_call && !contract.is_empty() && self.is_documented() {
-            self.out.push(docs(&contract, &conditions, &indent));
+    }
+
+    /// A function with assertions of its conditions, below its contract as docs if docs stand above.
+    fn function(&mut self, item: &str, of_trait: &str, has_docs: bool) -> Result<String, String> {
+        let (head, clauses, body) = parts(item).ok_or("a function without an end")?;
+        let contract: Vec<String> = self.operator.drain(..).chain(clauses).collect();
+        let is_public = !of_trait.is_empty() || head.trim_start().starts_with("pub ");
+        let mut conditions = Vec::new();
+        let mut out = String::new();
+        let indent = &" ".repeat(column(item));
+        if is_public && !self.known.is_empty() {
+            for fact in self.facts(of_trait, &head, &contract) {
+                conditions.push(condition_of(&fact, &self.known, body)?);
+            }
+            if has_docs && !contract.is_empty() {
+                out += &docs(&contract, &conditions, indent);
+            }
         }
-        if body.is_some() && !conditions.is_empty() {
-            // So that a call that stops names the line of its caller.
-            self.out.push(format!("{indent}#[track_caller]\n"));
+        if body != ";" && !conditions.is_empty() {
+            // A call that stops names the line of its caller.
+            out += &format!("{indent}#[track_caller]\n");
         }
-        let assertions = assertions(&conditions, &indent);
-        self.out.push(match body {
-            Some(body) => format!("{head} {{{assertions}{body}}}\n"),
-            None => format!("{head};\n"),
-        });
-        Ok(())
+        let opening = format!(" {{{}", assertions(&conditions, indent));
+        Ok(out + &head + &body.replacen('{', &opening, 1) + "\n")
     }
 
     /// The facts that a function requires: its own, or those of its operator, or else those of its trait.
-    fn facts(&mut self, name: &str) -> Vec<String> {
-        let mut facts = mem::take(&mut self.facts);
+    fn facts(&mut self, of_trait: &str, head: &str, contract: &[String]) -> Vec<String> {
+        let name = function_name(head).unwrap_or_default();
+        let stated = contract
+            .iter()
+            .filter(|clause| begins(clause, &["requires ", "can_"]));
+        let mut facts: Vec<String> = stated.flat_map(|clause| facts_of(clause)).collect();
         if name == "exact_number" {
             // It requires nothing, and promises something only where the number fits.
             facts.push("the number of the outcome fits".to_string());
         }
-        let place = format!("{}::{name}", self.of_trait);
-        if facts.is_empty() {
-            return self.clauses.get(&place).cloned().unwrap_or_default();
-        }
-        if !self.of_trait.is_empty() {
-            self.clauses.entry(place).or_insert_with(|| facts.clone());
+        if !of_trait.is_empty() {
+            let place = self.clauses.entry(format!("{of_trait}::{name}"));
+            let of_trait = place.or_insert_with(|| facts.clone());
+            if facts.is_empty() {
+                facts.clone_from(of_trait);
+            }
         }
         facts
     }
+}
 
-    /// Whether docs stand above the next item and its attributes.
-    fn is_documented(&self) -> bool {
-        let above = self.out.iter().rfind(|line| !begins(line, &["#["]));
-        above.is_some_and(|line| begins(line, &["///"]))
+/// A source with the changes of the table.
+fn changed(source: &str) -> String {
+    let mut text = source.to_string();
+    for row in CHANGES.lines() {
+        if let [_, old, _, new, _] = row.split('`').collect::<Vec<&str>>()[..] {
+            let end = if new.is_empty() { "\n" } else { "" };
+            text = text.replace(&format!("{old}{end}"), new).replace(old, new);
+        }
     }
+    text
 }
 
 fn begins(line: &str, starts: &[&str]) -> bool {
@@ -183,29 +143,73 @@ fn begins(line: &str, starts: &[&str]) -> bool {
     starts.iter().any(|start| code.starts_with(start))
 }
 
-/// The name of the function that a line begins.
-fn function_name(line: &str) -> Option<&str> {
-    let (before, after) = line.trim_start().split_once("fn ")?;
+/// Where a line begins; a blank one stands furthest right.
+fn column(line: &str) -> usize {
+    let code = line.find(|sign: char| !sign.is_whitespace());
+    code.unwrap_or(usize::MAX)
+}
+
+/// How long the first item of a text is, without the blank lines below it.
+fn length(text: &str) -> usize {
+    let mut lines = text.split_inclusive('\n');
+    let first = lines.next().unwrap_or_default();
+    let at = column(first);
+    let goes_on = |line: &&str| column(line) > at || column(line) == at && begins(line, &LEVEL);
+    let more: usize = lines.take_while(goes_on).map(str::len).sum();
+    let item = text[..first.len() + more].trim_end();
+    text.len().min(item.len() + 1)
+}
+
+/// The head of a function, its clauses, and its body or a semicolon; nothing where its end is of no known form.
+fn parts(item: &str) -> Option<(String, Vec<String>, &str)> {
+    let text = item.trim_end();
+    // Under clauses and bounds a body has its brace on a line of its own.
+    let own_line = format!("\n{}{{", " ".repeat(column(item)));
+    let end = match text.strip_suffix(';') {
+        Some(declared) => Some(declared.len()),
+        None => text.find(&own_line).or(text.find(" {")),
+    };
+    let (front, body) = text.split_at(end.filter(|_| text.ends_with([';', '}']))?);
+    let (mut head, mut clauses) = (String::new(), Vec::<String>::new());
+    for line in front.lines().filter(|line| !begins(line, &["//"])) {
+        if begins(line, &["requires ", "ensures "]) {
+            clauses.push(line.trim().to_string());
+        } else if let Some(clause) = clauses.last_mut() {
+            *clause += &format!("\n    {}", line.trim());
+        } else {
+            head += &format!("{line}\n");
+        }
+    }
+    Some((head.trim_end().to_string(), clauses, body.trim_start()))
+}
+
+/// The facts of a clause `requires NAME { FACT }`, or of an operator's `can_NAME = { λ a b. FACT × FACT }`.
+fn facts_of(clause: &str) -> Vec<String> {
+    let clause = clause.replace("\n    ", " ");
+    let (_, inner) = clause.split_once("{ ").unwrap_or_default();
+    let inner = inner.strip_suffix(" }").unwrap_or_default();
+    let facts = match inner.split_once(". ") {
+        Some((operands, facts)) if operands.starts_with('λ') => facts,
+        _ => inner,
+    };
+    facts.split(" × ").map(str::to_string).collect()
+}
+
+/// The name of the function that an item is, if any.
+fn function_name(item: &str) -> Option<&str> {
+    let (before, after) = item.trim_start().split_once("fn ")?;
     let is_modifier = |sign: char| sign.is_alphanumeric() || " ()\"".contains(sign);
     let is_function = before.chars().all(is_modifier);
     after.split(['(', '<']).next().filter(|_| is_function)
 }
 
-/// The trait that a head declares or implements, if any.
+/// The trait that the head of a block declares or implements, if any.
 fn trait_of(head: &str) -> &str {
-    let named = match (head.split_once(" for "), head.split_once("trait ")) {
-        (Some((before, _)), _) => before.rsplit("> ").next(),
-        (_, declared) => declared.map(|(_, named)| named),
-    };
-    let named = named.unwrap_or_default().trim_start_matches("impl ");
-    named.split([' ', '<', ':']).next().unwrap_or_default()
-}
-
-/// A line without the derives that Rust does not have, and with the `Clone` that a `Copy` asks for.
-fn derived(line: &str) -> String {
-    let kept = line.replace(", Drop", "").replace(", Error", "");
-    if kept.contains("Copy") && !kept.contains("Clone") {
-        return kept.replace(")]", ", Clone)]");
-    }
-    kept
+    let declared = head.split_once("trait ").map(|(_, named)| named);
+    let implemented = head
+        .split_once(" for ")
+        .and_then(|(before, _)| before.rsplit("> ").next());
+    let named = declared.or(implemented).unwrap_or_default();
+    let mut words = named.trim_start_matches("impl ").split([' ', '<', ':']);
+    words.next().unwrap_or_default()
 }

@@ -2,6 +2,4 @@
 
 pub mod conditions;
 pub mod erasing;
-pub mod handles;
 pub mod modules;
-pub mod pieces;

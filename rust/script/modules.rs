@@ -1,63 +1,80 @@
 //! Crates as modules of Rust: each file becomes an inline module where its `mod` item stood.
 
+use crate::script::conditions::KNOWN;
 use crate::script::erasing::Erasing;
-use crate::script::handles::without_runtime;
-use std::fs;
+use std::{env, fs};
 
-/// The crates of the library, which take no memory, lowest first, without the `fixed_` in front.
-pub const LIBRARY: [&str; 9] = [
-    "word", "bits", "root", "logs", "kernel", "num", "policy", "strict", "ops",
+/// The crates of the library, lowest first, without the `fixed_` in front.
+pub const LIBRARY: [&str; 12] = [
+    "word", "bits", "root", "logs", "kernel", "num", "policy", "strict", "ops", "poly", "filter",
+    "interval",
 ];
 
 /// The files that no crate offers: their public calls are made by the proved code beside them alone.
 const INSIDE: [&str; 3] = ["kernel/whole", "kernel/wide", "logs/exact"];
 
-/// The examples that stand on a crate which takes memory, and so beside the library.
-const LEFT_OUT: [&str; 3] = ["arriving", "desk", "sine"];
+/// The modules that take memory, or serve the runs that do, and so are left out where there is none.
+const LEFT_OUT: [&str; 9] = [
+    "arriving", "bank", "channel", "desk", "fault", "header", "line", "op", "running",
+];
 
-/// Crates as modules, each file with an `ending`. The names of other crates stand in `use` items and in links alone.
-pub fn modules(crates: &[&str], ending: &str) -> Result<String, String> {
+/// Writes crates as the modules of one file, each with the line `memory`, which is empty where they take none.
+pub fn write(name: &str, crates: &[&str], memory: &str) -> Result<(), String> {
+    let folder = env::var("OUT_DIR").map_err(|error| error.to_string())?;
     let mut erasing = Erasing::default();
     let mut out = String::new();
-    for name in crates {
-        let root = if *name == "prog" { "adapters" } else { "lib" };
-        let text = file(name, root, ending, &mut erasing)?;
-        let mut text = text.replace("use crate::", &format!("use crate::{name}::"));
-        if erasing.is_strict {
-            // The strict forms know the numbers by the module where each number has to fit.
-            text = text.replace("use fixed_num::", "use crate::stopping::");
-        }
-        if LIBRARY.contains(name) {
-            text = text.replace("use std::", "use core::");
-        }
-        // The front crate `fixed` is the package itself.
-        text = text.replace("use fixed_", "use crate::");
-        text = text.replace("use fixed::", "use crate::");
-        out += &format!("pub mod {name} {{\n{text}}}\n");
+    for krate in crates {
+        let root = if *krate == "prog" { "adapters" } else { "lib" };
+        let text = file(krate, root, memory, &mut erasing)?;
+        out += &format!("pub mod {krate} {{\n{text}}}\n");
     }
-    Ok(out.replace("](fixed_", "](crate::"))
+    fs::write(format!("{folder}/{name}"), out).map_err(|error| error.to_string())
 }
 
 /// A file of a crate in Rust, with those that it names.
-fn file(krate: &str, name: &str, ending: &str, erasing: &mut Erasing) -> Result<String, String> {
+fn file(krate: &str, name: &str, memory: &str, erasing: &mut Erasing) -> Result<String, String> {
     let path = format!("crates/fixed_{krate}/src/{name}.rt").replace("fixed_tests_", "tests_");
     let at = |error| format!("{path}: {error}");
     let source = fs::read_to_string(&path).map_err(|error| at(error.to_string()))?;
-    let is_inside = INSIDE.contains(&format!("{krate}/{name}").as_str());
-    erasing.is_library = LIBRARY.contains(&krate) && !is_inside;
-    erasing.is_strict = krate == "strict";
-    let text = erasing.erased(&without_runtime(&source)).map_err(at)?;
+    let is_library = memory.is_empty() && LIBRARY.contains(&krate);
+    let is_public = is_library && !INSIDE.contains(&format!("{krate}/{name}").as_str());
+    let is_strict = krate == "strict";
+    // Strict forms stop in every build.
+    let debugging = if is_strict { "assert" } else { "debug_assert" };
+    let known = KNOWN.replace("debug_assert", debugging);
+    erasing.known = if is_public { known } else { String::new() };
+    let text = erasing.erased(&source).map_err(at)? + memory;
     let mut out = String::new();
-    for line in text.lines() {
-        let declared = line.strip_suffix(';');
-        match declared.and_then(|line| line.split_once("mod ")) {
-            Some((_, name)) if LEFT_OUT.contains(&name) => {}
-            Some((public @ ("" | "pub "), name)) => {
-                let text = file(krate, name, ending, erasing)?;
-                out += &format!("{public}mod {name} {{\n{text}}}\n");
-            }
-            _ => out += &format!("{line}\n"),
+    for line in named(&text, krate, is_library).lines() {
+        let item = line.strip_suffix(';').unwrap_or_default();
+        let item = item.strip_prefix("pub ").unwrap_or(item);
+        let (kind, path) = item.split_once(' ').unwrap_or_default();
+        let (module, offered) = path.split_once("::").unwrap_or((path, ""));
+        if memory.is_empty() && LEFT_OUT.contains(&module) {
+            // No link leads to what the module would offer.
+            out = out.replace(&format!("[`{offered}`]"), &format!("`{offered}`"));
+        } else if kind == "mod" {
+            let text = file(krate, module, memory, erasing)?;
+            out += &format!("{}{text}}}\n", line.replace(';', " {\n"));
+        } else {
+            out += &format!("{line}\n");
         }
     }
-    Ok(out + ending)
+    Ok(out)
+}
+
+/// A text with the names of crates as modules, which stand in `use` items and in links alone. The front crate `fixed`
+/// is the package itself.
+fn named(text: &str, krate: &str, is_library: bool) -> String {
+    // The strict forms know the numbers by the module where each number has to fit.
+    let numbers = if krate == "strict" { "stopping" } else { "num" };
+    let std = if is_library { "core" } else { "std" };
+    text.replace("use crate::", &format!("use crate::{krate}::"))
+        .replace("](crate::", &format!("](crate::{krate}::"))
+        .replace("use fixed_num::", &format!("use crate::{numbers}::"))
+        .replace("use fixed_", "use crate::")
+        .replace("use fixed::", "use crate::")
+        .replace("](fixed_", "](crate::")
+        .replace("use std::alloc::", "use crate::memory::")
+        .replace("use std::", &format!("use {std}::"))
 }

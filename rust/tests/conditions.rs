@@ -1,7 +1,7 @@
 //! Each kind of condition stops the call, at each layer that has it.
 
 use zugyelmas::prelude::*;
-use zugyelmas::{bits, kernel, logs, num, ops, policy, root, strict, word};
+use zugyelmas::{bits, interval, kernel, logs, num, ops, policy, poly, root, strict, word};
 
 type Byte = FixedI8<4>;
 type Unsigned = FixedU8<4>;
@@ -15,6 +15,11 @@ fn byte(bits: i8) -> Byte {
 
 fn past(bits: i8) -> Past {
     Past::from_bits(bits)
+}
+
+/// The interval from 1 to 4 bits.
+fn ends() -> interval::Interval<i8> {
+    interval::Interval::new(1, 4).expect("ends in order")
 }
 
 /// A test for each call: it stops, and the message has the condition in words.
@@ -102,6 +107,13 @@ stops! {
     ops_root, "the number is not below 0", byte(-1).sqrt();
     ops_product_of_none, "the number 1 fits", ops::product::<i8, 7>(&[]);
     ops_factors, "the fraction A is at most the width", byte(1).add_prod(past(1), byte(1));
+    poly_coefficient, "there is a coefficient", poly::horner_of(&[] as &[i8], 1, 4);
+    poly_fraction, "the fraction frac is at most the width", poly::horner_of(&[1_u16], 1, 17);
+    poly_typed_coefficient, "there is a coefficient", poly::horner(&[], byte(1));
+    poly_typed_fraction, "the fraction F is at most the width", poly::horner(&[past(1)], past(1));
+    interval_product, "the fraction frac is at most the width", interval::mul_in(&ends(), &ends(), 9);
+    interval_quotient, "the fraction frac is at most the width", interval::div_in(&ends(), &ends(), 9);
+    interval_root, "the fraction frac is at most the width", interval::sqrt_in(&ends(), 9);
 }
 
 stops_when_debugging! {

@@ -1,19 +1,15 @@
 //! The library's code is the proved sources', letter for letter: each line of code that the build script wrote stands
 //! there as often, but for assertions and the names of modules.
 
-#[path = "../script/mod.rs"]
-#[allow(dead_code)]
-mod script;
-
-use script::handles::without_runtime;
 use std::collections::BTreeMap;
 use std::fs;
 use std::path::{Path, PathBuf};
 
 const LIBRARY: &str = include_str!(concat!(env!("OUT_DIR"), "/library.rs"));
 
-const MODULES: [&str; 9] = [
-    "word", "bits", "root", "logs", "kernel", "num", "policy", "strict", "ops",
+const MODULES: [&str; 12] = [
+    "word", "bits", "root", "logs", "kernel", "num", "policy", "strict", "ops", "poly", "filter",
+    "interval",
 ];
 
 /// How often each line of code stands in a text.
@@ -59,10 +55,11 @@ fn written(line: &str) -> String {
         .fold(line, one)
 }
 
-/// The lines of code of a text, without comments and what has nothing but brackets.
+/// The lines of code of a text, without comments and what has nothing but brackets. A `Clone` by hand is derived.
 fn lines(text: &str, named: fn(&str) -> String, counted: &mut Lines) {
     for line in text.lines() {
         let code = named(head_of(line.split("//").next().unwrap_or_default()));
+        let code = code.replace("derive(Clone, Copy", "derive(Copy");
         if code.chars().any(char::is_alphanumeric) {
             *counted.entry(code).or_default() += 1;
         }
@@ -77,7 +74,7 @@ fn of_sources() -> Lines {
         sources(&top.join(format!("fixed_{name}/src")), &mut files);
         for file in files {
             let source = fs::read_to_string(file).expect("a source");
-            lines(&without_runtime(&source), proved, &mut counted);
+            lines(&source, proved, &mut counted);
         }
     }
     counted

@@ -8,10 +8,10 @@ mod memory;
 
 include!(concat!(env!("OUT_DIR"), "/runs.rs"));
 
-use filter::{FilterFault, filter_run};
-use interval::{IntervalFault, interval_run};
+use crate::filter::{FilterFault, filter_run};
+use crate::interval::{IntervalFault, interval_run};
+use crate::poly::{PolyFault, poly_run};
 use memory::Global;
-use poly::{PolyFault, poly_run};
 use zugyelmas::*;
 
 #[test]

@@ -4,14 +4,12 @@
 #[allow(dead_code)]
 mod script;
 
-use script::conditions::condition_of;
+use script::conditions::{KNOWN, condition_of};
 use script::erasing::Erasing;
-use script::handles::without_runtime;
-use script::pieces::pieces;
 
 fn library(source: &str) -> Result<String, String> {
     let mut erasing = Erasing::default();
-    erasing.is_library = true;
+    erasing.known = KNOWN.to_string();
     erasing.erased(source)
 }
 
@@ -21,14 +19,27 @@ fn read(source: &str) -> String {
 }
 
 #[test]
-fn pieces_are_the_source() {
-    let source = "fn f<'a>(x: &'a u8) -> char { /* } */ '{' } // }
-const B: u8 = b'}'; \"}\\\"}\" '\\'' λ x. x ≤ℤ y";
-    let cut = pieces(source);
-    assert_eq!(cut.concat(), source);
-    for whole in ["'{'", "// }", "\"}\\\"}\"", "'\\''", "'}'", "λ"] {
-        assert!(cut.contains(&whole), "{whole}");
-    }
+fn braces_are_as_any_sign() {
+    let body = "
+    // }
+    let _ = (b'}', \"}\\\"}\", '\\'');
+    '{' // }
+}
+
+const B: &str = \"}\"; // {
+
+fn g() {}
+";
+    let private = format!("fn f<'a>(frac: u32, x: &'a u8) -> char {{{body}");
+    assert_eq!(read(&private), private);
+    let head = "pub fn f<'a>(frac: u32, x: &'a u8) -> char";
+    let clauses = "\n    requires { frac ≤ T.BITS }\n    ensures { result ≡ code \"}{\" }\n";
+    let assertion =
+        "assert!(frac <= T::BITS, \"condition: the fraction frac is at most the width\");";
+    assert_eq!(
+        read(&format!("{head}{clauses}{{{body}")),
+        format!("#[track_caller]\n{head} {{\n    {assertion}{body}")
+    );
 }
 
 #[test]
@@ -120,18 +131,18 @@ impl<T: Word> Clone for P<T> {
     }
 }
 
-#[derive(Copy, Clone)]
+#[derive(Clone, Copy)]
 struct Q;
 ";
     assert_eq!(
         read(source),
-        "#[derive(Copy, Debug, Clone)]
+        "#[derive(Clone, Copy, Debug)]
 pub struct P<T: Word> {
     at: T,
 }
 
 
-#[derive(Copy, Clone)]
+#[derive(Clone, Copy)]
 struct Q;
 "
     );
@@ -277,7 +288,7 @@ fn what_belongs_to_no_function() {
     let error = "a clause of no function: can_neg = { λ a. a }";
     assert_eq!(library(member), Err(error.to_string()));
     let unended = "fn f() -> u8 { 1 } // one\npub fn g() {}\n";
-    let error = "a function without an end above pub fn g() {}";
+    let error = "f: a function without an end";
     assert_eq!(library(unended), Err(error.to_string()));
     let modified = "pub extern \"C\" fn f(x: u8)\n    requires { x ≡ 7 }\n{}\n";
     assert!(library(modified).is_err());
@@ -285,16 +296,21 @@ fn what_belongs_to_no_function() {
 
 #[test]
 fn forms_of_clauses() {
-    let fraction = condition_of("G ≤ T.BITS", false).unwrap();
+    let condition = |fact| condition_of(fact, KNOWN, ";");
+    let [asserting, test, _] = condition("G ≤ T.BITS").unwrap();
     assert_eq!(
-        (fraction.asserting, fraction.test.as_str()),
+        (asserting.as_str(), test.as_str()),
         ("assert", "G <= T::BITS")
     );
     let fits = "InRange T.SIGNED T.BITS (exact_neg (T.value a))";
-    assert_eq!(condition_of(fits, false).unwrap().asserting, "debug_assert");
-    assert_eq!(condition_of(fits, true).unwrap().asserting, "assert");
-    assert!(condition_of("F + G ≤ T.BITS", false).is_err());
-    assert!(condition_of(" ≤ T.BITS", false).is_err());
+    assert_eq!(condition(fits).unwrap()[0], "debug_assert");
+    let strict = KNOWN.replace("debug_assert", "assert");
+    assert_eq!(condition_of(fits, &strict, ";").unwrap()[0], "assert");
+    let [_, test, _] = condition("IsShape T.BITS shape.now").unwrap();
+    assert!(test.starts_with("shape.out_frac.max("), "{test}");
+    assert!(condition("F + G ≤ T.BITS").is_err());
+    assert!(condition(" ≤ T.BITS").is_err());
+    assert!(condition("").is_err());
 }
 
 #[test]
@@ -322,7 +338,7 @@ fn t() {
     assert_eq!(f(1), 2, \"rt; a\");
     assert!(
         g(
-            1,
+                        1,
         )
     );
 }
@@ -331,5 +347,5 @@ fn f(x: u8) -> u8 {
     h()
 }
 ";
-    assert_eq!(without_runtime(source), want);
+    assert_eq!(read(source), want);
 }

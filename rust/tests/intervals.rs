@@ -1,0 +1,61 @@
+//! Intervals, polynomials and what a filter answers, as a user of the library calls them.
+
+use zugyelmas::filter::{Reply, Shape};
+use zugyelmas::interval::{Interval, add_in, div_in, mul_in, sqrt_in, sub_in};
+use zugyelmas::poly::{PolyReply, horner, horner_of};
+use zugyelmas::prelude::*;
+
+fn interval(lo: i8, hi: i8) -> Interval<i8> {
+    Interval::new(lo, hi).expect("ends in order")
+}
+
+#[test]
+fn an_interval() {
+    let made = interval(-24, 40);
+    assert_eq!((made.lo(), made.hi()), (-24, 40));
+    assert_eq!(Interval::new(1, 0), None);
+}
+
+#[test]
+fn sums_and_differences() {
+    let (a, b) = (interval(-24, 40), interval(3, 8));
+    assert_eq!(add_in(&a, &b), Some(interval(-21, 48)));
+    assert_eq!(sub_in(&a, &b), Some(interval(-32, 37)));
+    assert_eq!(add_in(&a, &interval(0, 88)), None); // 128 is past the greatest
+}
+
+#[test]
+fn products_quotients_and_roots() {
+    // -24 * 8 / 16 and 40 * 8 / 16.
+    let product = mul_in(&interval(-24, 40), &interval(3, 8), 4);
+    assert_eq!(product, Some(interval(-12, 20)));
+    // 16 * 16 / 48 is 5 and a third.
+    let third = div_in(&interval(16, 16), &interval(48, 48), 4);
+    assert_eq!(third, Some(interval(5, 6)));
+    assert_eq!(div_in(&interval(16, 16), &interval(-1, 1), 4), None);
+    // 5^2 <= 2 * 16 < 6^2, and 22^2 < 32 * 16 <= 23^2.
+    assert_eq!(sqrt_in(&interval(2, 32), 4), Some(interval(5, 23)));
+    assert_eq!(sqrt_in(&interval(-1, 32), 4), None);
+}
+
+#[test]
+fn polynomials() {
+    let coefficients = [256, 128, 64]; // 1 + x/2 + x^2/4
+    assert_eq!(horner_of(&coefficients, 128_i16, 8), PolyReply::Value(336));
+    let typed = coefficients.map(FixedI16::<8>::from_bits);
+    let value = PolyReply::Value(FixedI16::from_bits(336));
+    assert_eq!(horner(&typed, FixedI16::from_bits(128)), value);
+    assert_eq!(horner_of(&[0, 100, 100], 16_i8, 4), PolyReply::Overflow(1));
+    assert_eq!(horner_of(&[7_u8], 255, 8), PolyReply::Value(7)); // at the ends of the conditions
+}
+
+#[test]
+fn what_a_filter_answers() {
+    let shape = Shape {
+        out_frac: 8,
+        coef_frac: 8,
+        sample_frac: 8,
+    };
+    assert_eq!(shape.out_frac, 8);
+    assert_ne!(Reply::Value(1), Reply::Overflow(1));
+}
