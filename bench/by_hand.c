@@ -1,6 +1,7 @@
-/* The operations of the face for C by hand, of the same meaning and under the same codes, for bench/face.c. It is
+/* The calls of the face for C by hand, of the same meaning and under the same codes, for bench/face.c. It is
  * compiled alone, as the library is, so that a call is a call on both sides. */
 #include "fixed.h"
+#include <string.h>
 
 typedef __int128 int128_t;
 typedef unsigned __int128 uint128_t;
@@ -209,3 +210,62 @@ SIGNED(fixed_i64, int64_t, uint64_t, int128_t, uint128_t, 64, INT64_MIN, INT64_M
 
 UNSIGNED(fixed_u32, uint32_t, uint64_t, 32, UINT32_MAX)
 UNSIGNED(fixed_u64, uint64_t, uint128_t, 64, UINT64_MAX)
+
+/* Calls over intervals and arrays, of signed words of N bits. */
+#define SIGNED_MORE(name, W, WIDE, N, MIN, MAX)                                                                     \
+  int32_t hand_##name##_mul_in(W al, W ah, W bl, W bh, uint32_t frac, name##_interval *r) {                         \
+    const WIDE corners[4] = {(WIDE)al * bl, (WIDE)al * bh, (WIDE)ah * bl, (WIDE)ah * bh};                           \
+    WIDE low = corners[0], high = corners[0];                                                                       \
+    PAST(frac, N);                                                                                                  \
+    if (al > ah || bl > bh) return FIXED_ENDS_EXCHANGED;                                                            \
+    for (int i = 1; i < 4; i++) {                                                                                   \
+      if (corners[i] < low) low = corners[i];                                                                       \
+      if (corners[i] > high) high = corners[i];                                                                     \
+    }                                                                                                               \
+    low >>= frac;                                                                                                   \
+    high = -(-high >> frac);                                                                                        \
+    if (low < MIN || high > MAX) return FIXED_OUT_OF_RANGE;                                                         \
+    r->low = (W)low;                                                                                                \
+    r->high = (W)high;                                                                                              \
+    return FIXED_OK;                                                                                                \
+  }                                                                                                                 \
+  int32_t hand_##name##_horner(const W *coefs, size_t count, W x, uint32_t frac, W *value, size_t *step) {          \
+    WIDE v = 0;                                                                                                     \
+    PAST(frac, N);                                                                                                  \
+    if (count == 0) return FIXED_NO_ELEMENT;                                                                        \
+    for (size_t i = count; i-- > 0;) {                                                                              \
+      v = ((v * x) >> frac) + coefs[i];                                                                             \
+      if (v < MIN || v > MAX) {                                                                                     \
+        *step = i;                                                                                                  \
+        return FIXED_OUT_OF_RANGE;                                                                                  \
+      }                                                                                                             \
+    }                                                                                                               \
+    *value = (W)v;                                                                                                  \
+    return FIXED_OK;                                                                                                \
+  }                                                                                                                 \
+  int32_t hand_##name##_filter(const W *taps, size_t count, W *past, size_t others, W sample, uint32_t of,          \
+                               uint32_t cf, uint32_t sf, W *output, size_t *tap) {                                  \
+    const uint32_t both = cf + sf;                                                                                  \
+    WIDE sum = 0;                                                                                                   \
+    PAST(of, N);                                                                                                    \
+    PAST(cf, N);                                                                                                    \
+    PAST(sf, N);                                                                                                    \
+    if (count == 0) return FIXED_NO_ELEMENT;                                                                        \
+    if (count != others) return FIXED_COUNTS_DIFFER;                                                                \
+    memmove(past + 1, past, (count - 1) * sizeof *past);                                                            \
+    past[0] = sample;                                                                                               \
+    for (size_t i = 0; i < count; i++) {                                                                            \
+      name moved;                                                                                                   \
+      if (both >= of && both - of <= N) sum += ((WIDE)taps[i] * past[i]) >> (both - of);                            \
+      else hand_##name##_add_prod((W)sum, taps[i], past[i], of, cf, sf, &moved), sum = moved.bits;                  \
+      if (sum < MIN || sum > MAX || (!(both >= of && both - of <= N) && moved.side)) {                              \
+        *tap = i;                                                                                                   \
+        return FIXED_OUT_OF_RANGE;                                                                                  \
+      }                                                                                                             \
+    }                                                                                                               \
+    *output = (W)sum;                                                                                               \
+    return FIXED_OK;                                                                                                \
+  }
+
+SIGNED_MORE(fixed_i32, int32_t, int64_t, 32, INT32_MIN, INT32_MAX)
+SIGNED_MORE(fixed_i64, int64_t, int128_t, 64, INT64_MIN, INT64_MAX)

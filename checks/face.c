@@ -1,5 +1,6 @@
 /* Every pair of operands of 8 bits, for each operation of the face for C at three fractions, against a plain
- * computation in 64 bits; bad fractions, zero divisors and negative roots by their codes. From the top:
+ * computation in 64 bits; bad fractions, zero divisors and negative roots by their codes. Intervals over samples of
+ * ends, and polynomials and filters over arrays that are drawn, against plain loops; each code. From the top:
  *
  *     cc -O2 -Wall -Wextra -Iinclude -o /tmp/face checks/face.c LIBRARY && /tmp/face
  *
@@ -183,9 +184,180 @@ CHECK(fixed_i8, int8_t, INT8_MIN, INT8_MAX,
       })
 CHECK(fixed_u8, uint8_t, 0, UINT8_MAX, CALL(fixed_u8, next_power_of_two, power_of_two(x), a);)
 
+/* Ends without a bound, or a code. */
+struct exact_ends {
+  int32_t code;
+  int64_t low, high;
+};
+
+static int64_t ceiling_of(int64_t x, int64_t d) { return -floor_of(-x, d); }
+
+/* A quotient by a divisor of either sign, rounded down. */
+static int64_t floor_over(int64_t x, int64_t d) { return d < 0 ? floor_of(-x, -d) : floor_of(x, d); }
+
+/* The ends over the corners of two intervals, where `times` is 2^f for quotients and 0 for products over 2^f. */
+static struct exact_ends corners(int64_t al, int64_t ah, int64_t bl, int64_t bh, uint32_t f, int64_t times) {
+  struct exact_ends e = {FIXED_OK, INT64_MAX, INT64_MIN};
+  for (int i = 0; i < 4; i++) {
+    const int64_t x = i & 1 ? ah : al, y = i & 2 ? bh : bl;
+    const int64_t down = times ? floor_over(x * times, y) : floor_of(x * y, power(f));
+    const int64_t up = times ? -floor_over(-x * times, y) : ceiling_of(x * y, power(f));
+    if (down < e.low) e.low = down;
+    if (up > e.high) e.high = up;
+  }
+  return e;
+}
+
+static struct exact_ends root_ends(int64_t low, int64_t high, uint32_t f) {
+  struct exact_ends e = {FIXED_OK, root(low, f).number, root(high, f).number};
+  if (e.high * e.high < high * power(f)) e.high++;
+  return e;
+}
+
+static void compare_ends(const char *call, int exchanged, int32_t undefined, struct exact_ends want, int past,
+                         int32_t got, int64_t low, int64_t high, int64_t least, int64_t greatest) {
+  if (undefined) want.code = undefined;
+  if (!undefined && (want.low < least || want.high > greatest)) want.code = FIXED_OUT_OF_RANGE;
+  if (exchanged) want.code = FIXED_ENDS_EXCHANGED;
+  if (past) want.code = FIXED_FRACTION_PAST_WIDTH;
+  if (want.code) want.low = 77, want.high = 78;
+  compared++;
+  if (got != want.code || low != want.low || high != want.high) {
+    printf("%s: code %d, %lld to %lld, but by plain C %d, %lld to %lld\n", call, (int)got, (long long)low,
+           (long long)high, (int)want.code, (long long)want.low, (long long)want.high);
+    exit(1);
+  }
+}
+
+#define ENDS(name, operation, exchanged, undefined, want, past, ...)                                               \
+  do {                                                                                                             \
+    name##_interval result = {77, 78};                                                                             \
+    const int32_t got = name##_##operation(__VA_ARGS__, &result);                                                  \
+    compare_ends(#name "_" #operation, exchanged, undefined, want, past, got, result.low, result.high, least,      \
+                 greatest);                                                                                        \
+  } while (0)
+
+static struct exact_ends plain_ends(int64_t low, int64_t high) {
+  struct exact_ends e = {FIXED_OK, low, high};
+  return e;
+}
+
+/* Draws, the same in each run. */
+static uint64_t state = 88172645463325252u;
+
+static int64_t draw(int64_t from, int64_t to) {
+  state ^= state << 13, state ^= state >> 7, state ^= state << 17;
+  return from + (int64_t)(state % (uint64_t)(to - from + 1));
+}
+
+#define MOST 6
+
+/* Intervals between ends that are some steps apart, in order and exchanged; arrays of up to MOST numbers. */
+#define CHECK_MORE(name, word, from, to)                                                                           \
+  static void check_ends_##name(void) {                                                                            \
+    const int64_t least = from, greatest = to, step = 15;                                                          \
+    for (int64_t al = least; al <= greatest; al += step)                                                           \
+      for (int64_t ah = least; ah <= greatest; ah += step) {                                                       \
+        const word a = (word)al, b = (word)ah;                                                                     \
+        for (int i = 0; i < 4; i++) {                                                                              \
+          const uint32_t f = fractions[i];                                                                         \
+          ENDS(name, sqrt_in, al > ah, al < 0 ? FIXED_NEGATIVE_ROOT : 0,                                           \
+               al < 0 || al > ah || PAST(f) ? plain_ends(0, 0) : root_ends(al, ah, f), PAST(f), a, b, f);          \
+        }                                                                                                          \
+        for (int64_t bl = least; bl <= greatest; bl += step)                                                       \
+          for (int64_t bh = least; bh <= greatest; bh += step) {                                                   \
+            const word c = (word)bl, d = (word)bh;                                                                 \
+            const int exchanged = al > ah || bl > bh, zero = bl <= 0 && bh >= 0;                                   \
+            ENDS(name, add_in, exchanged, 0, plain_ends(al + bl, ah + bh), 0, a, b, c, d);                         \
+            ENDS(name, sub_in, exchanged, 0, plain_ends(al - bh, ah - bl), 0, a, b, c, d);                         \
+            for (int i = 0; i < 4; i++) {                                                                          \
+              const uint32_t f = fractions[i];                                                                     \
+              ENDS(name, mul_in, exchanged, 0, corners(al, ah, bl, bh, f, 0), PAST(f), a, b, c, d, f);             \
+              ENDS(name, div_in, exchanged, zero ? FIXED_ZERO_DIVISOR : 0,                                         \
+                   bl == 0 || bh == 0 ? plain_ends(0, 0) : corners(al, ah, bl, bh, f, power(f)), PAST(f), a, b, c, \
+                   d, f);                                                                                          \
+            }                                                                                                      \
+          }                                                                                                        \
+      }                                                                                                            \
+  }                                                                                                                \
+  static void check_horner_##name(void) {                                                                          \
+    word coefs[MOST + 1];                                                                                          \
+    for (int tried = 0; tried < 400000; tried++) {                                                                 \
+      const size_t count = (size_t)draw(0, MOST);                                                                  \
+      const uint32_t f = (uint32_t)draw(0, 9);                                                                     \
+      const word x = (word)draw(from / (1 + (int64_t)(tried % 3)), to / (1 + (int64_t)(tried % 3)));               \
+      int32_t want = PAST(f) ? FIXED_FRACTION_PAST_WIDTH : count == 0 ? FIXED_NO_ELEMENT : FIXED_OK;               \
+      int64_t sum = 0;                                                                                             \
+      word value = 77;                                                                                             \
+      size_t step = 78, i;                                                                                         \
+      int32_t got;                                                                                                 \
+      for (i = 0; i < count; i++) coefs[i] = (word)draw(from / 2, to / 2);                                         \
+      for (i = count; want == FIXED_OK && i-- > 0;) {                                                              \
+        sum = floor_of(sum * x, power(f)) + coefs[i];                                                              \
+        if (sum < from || sum > to) {                                                                              \
+          want = FIXED_OUT_OF_RANGE;                                                                               \
+          break;                                                                                                   \
+        }                                                                                                          \
+      }                                                                                                            \
+      got = name##_horner(coefs, count, x, f, &value, &step);                                                      \
+      compared++;                                                                                                  \
+      if (got != want || value != (want == FIXED_OK ? (word)sum : 77) ||                                           \
+          step != (want == FIXED_OUT_OF_RANGE ? i : 78)) {                                                         \
+        printf(#name "_horner: code %d, but by plain C %d\n", (int)got, (int)want);                                \
+        exit(1);                                                                                                   \
+      }                                                                                                            \
+    }                                                                                                              \
+  }                                                                                                                \
+  static void check_filter_##name(void) {                                                                          \
+    word taps[MOST + 1], past[MOST + 1], kept[MOST + 1];                                                           \
+    for (int tried = 0; tried < 400000; tried++) {                                                                 \
+      const size_t count = (size_t)draw(0, MOST), other = draw(0, 9) == 0 ? (size_t)draw(0, MOST) : count;         \
+      const uint32_t f = (uint32_t)draw(0, tried % 4 ? 8 : 9), g = (uint32_t)draw(0, tried % 5 ? 8 : 9);           \
+      const uint32_t h = (uint32_t)draw(0, tried % 7 ? 8 : 9);                                                     \
+      const word sample = (word)draw(from, to);                                                                    \
+      int32_t want = PAST(f) || PAST(g) || PAST(h) ? FIXED_FRACTION_PAST_WIDTH                                     \
+                     : count == 0                  ? FIXED_NO_ELEMENT                                              \
+                     : count != other              ? FIXED_COUNTS_DIFFER                                           \
+                                                   : FIXED_OK;                                                     \
+      const int taken = want == FIXED_OK;                                                                          \
+      int64_t sum = 0;                                                                                             \
+      word output = 77;                                                                                            \
+      size_t tap = 78, i;                                                                                          \
+      int32_t got;                                                                                                 \
+      for (i = 0; i <= MOST; i++) {                                                                                \
+        taps[i] = (word)draw(from / (1 + tried % 8), to / (1 + tried % 8));                                        \
+        past[i] = kept[i] = (word)draw(from, to);                                                                  \
+      }                                                                                                            \
+      for (i = other; taken && i-- > 1;) kept[i] = kept[i - 1];                                                    \
+      if (taken) kept[0] = sample;                                                                                 \
+      for (i = 0; want == FIXED_OK && i < count; i++) {                                                            \
+        sum = sum_of_product(sum, taps[i], kept[i], (int32_t)(g + h) - (int32_t)f).number;                         \
+        if (sum < from || sum > to) {                                                                              \
+          want = FIXED_OUT_OF_RANGE;                                                                               \
+          break;                                                                                                   \
+        }                                                                                                          \
+      }                                                                                                            \
+      got = name##_filter(taps, count, past, other, sample, f, g, h, &output, &tap);                               \
+      compared++;                                                                                                  \
+      for (size_t k = 0; k <= MOST; k++)                                                                           \
+        if (past[k] != kept[k]) got = -1;                                                                          \
+      if (got != want || output != (want == FIXED_OK ? (word)sum : 77) ||                                          \
+          tap != (want == FIXED_OUT_OF_RANGE ? i : 78)) {                                                          \
+        printf(#name "_filter: code %d, but by plain C %d\n", (int)got, (int)want);                                \
+        exit(1);                                                                                                   \
+      }                                                                                                            \
+    }                                                                                                              \
+  }
+
+CHECK_MORE(fixed_i8, int8_t, INT8_MIN, INT8_MAX)
+CHECK_MORE(fixed_u8, uint8_t, 0, UINT8_MAX)
+
 int main(void) {
   check_fixed_i8();
   check_fixed_u8();
+  check_ends_fixed_i8(), check_ends_fixed_u8();
+  check_horner_fixed_i8(), check_horner_fixed_u8();
+  check_filter_fixed_i8(), check_filter_fixed_u8();
   printf("%ld calls answer as plain C does\n", compared);
   return 0;
 }

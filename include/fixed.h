@@ -12,12 +12,17 @@
  * what is left of the exact number in the word, and the side of the word's range on which that number lies. One of
  * five policies then makes a number of it: checked, saturating, wrapping, overflowing or strict.
  *
- * What C has to guarantee, since nothing checks it: `result` points to a whole, aligned result, and nothing else reads
- * or writes that during the call. Its fields may hold anything before, as those of an earlier call. No call takes
- * memory, locks or keeps a pointer. */
+ * Beside the operations stand intervals, whose calls leave two ends, and calls over arrays: a polynomial by Horner's
+ * rule and a step of a filter, which leave a number, or the place at which one does not fit.
+ *
+ * What C has to guarantee, since nothing checks it: a pointer to what a call leaves points to a whole, aligned one, and
+ * nothing else reads or writes that during the call. It may hold anything before, as what an earlier call left. An
+ * array is aligned and has as many elements as its count says; none overlaps another that is written, nor what the call
+ * leaves; and its pointer is not null, also where the count is 0. No call takes memory, locks or keeps a pointer. */
 #ifndef FIXED_H
 #define FIXED_H
 
+#include <stddef.h>
 #include <stdint.h>
 #include <stdlib.h>
 
@@ -30,7 +35,11 @@ enum {
   FIXED_OK = 0,
   FIXED_FRACTION_PAST_WIDTH = 1, /* a fraction is above the width of the word */
   FIXED_ZERO_DIVISOR = 2,        /* the divisor is 0 */
-  FIXED_NEGATIVE_ROOT = 3        /* the operand of a root is below 0 */
+  FIXED_NEGATIVE_ROOT = 3,       /* the operand of a root is below 0 */
+  FIXED_ENDS_EXCHANGED = 4,      /* the low end of an interval is above its high one */
+  FIXED_OUT_OF_RANGE = 5,        /* an end, the value of a step or a partial sum does not fit the word */
+  FIXED_NO_ELEMENT = 6,          /* there is no coefficient, or no tap */
+  FIXED_COUNTS_DIFFER = 7        /* there are not as many past samples as taps */
 };
 
 /* Where the exact number lies beside the range of the word. */
@@ -46,6 +55,13 @@ enum {
     word bits;                   \
     int32_t side;                \
   } name;
+
+/* All numbers from `low` to `high`, both included. */
+#define FIXED_INTERVAL(name, word)  \
+  typedef struct name##_interval {  \
+    word low;                       \
+    word high;                      \
+  } name##_interval;
 
 /* The calls of every word. Each divisor, and the fractions, may be any number: a fraction past the width returns
  * FIXED_FRACTION_PAST_WIDTH, and then a divisor of 0 returns FIXED_ZERO_DIVISOR. */
@@ -81,6 +97,34 @@ enum {
   int32_t name##_next_multiple_of(word a, word b, name *result);                                                   \
   /* the root of a 2^frac, rounded down; FIXED_NEGATIVE_ROOT where a is below 0 */                                 \
   int32_t name##_sqrt(word a, uint32_t frac, name *result);
+
+/* The intervals of every word: what an operation makes of any number in `a` and any in `b` lies in the result, whose
+ * ends are rounded outward and as near as the word allows. Ends are units of 2^-frac. A fraction past the width returns
+ * FIXED_FRACTION_PAST_WIDTH, and then a low end above its high one FIXED_ENDS_EXCHANGED; then 0 in the divisor returns
+ * FIXED_ZERO_DIVISOR, a low end below 0 of a root FIXED_NEGATIVE_ROOT, and then an end that does not fit
+ * FIXED_OUT_OF_RANGE. */
+#define FIXED_INTERVAL_CALLS(name, word)                                                                           \
+  int32_t name##_add_in(word a_low, word a_high, word b_low, word b_high, name##_interval *result);                \
+  int32_t name##_sub_in(word a_low, word a_high, word b_low, word b_high, name##_interval *result);                \
+  int32_t name##_mul_in(word a_low, word a_high, word b_low, word b_high, uint32_t frac, name##_interval *result); \
+  int32_t name##_div_in(word a_low, word a_high, word b_low, word b_high, uint32_t frac, name##_interval *result); \
+  int32_t name##_sqrt_in(word a_low, word a_high, uint32_t frac, name##_interval *result);
+
+/* The calls over arrays of every word. */
+#define FIXED_ARRAY_CALLS(name, word)                                                                              \
+  /* the value at x of the polynomial with these coefficients, the least first, all units of 2^-frac. From the     \
+   * greatest coefficient on, each step multiplies by x, rounds the product down and adds the coefficient before.  \
+   * FIXED_FRACTION_PAST_WIDTH, then FIXED_NO_ELEMENT where count is 0; FIXED_OUT_OF_RANGE where the value of a    \
+   * step does not fit, and *step is then the place of its coefficient, from 0 */                                  \
+  int32_t name##_horner(const word *coefs, size_t count, word x, uint32_t frac, word *value, size_t *step);        \
+  /* one step of a filter: the sample goes in front of the past ones, which stand with the newest first, and the   \
+   * oldest leaves. The output is the sum of the products of taps and samples, each rounded down, in units of      \
+   * 2^-out_frac; taps are units of 2^-coef_frac, samples of 2^-sample_frac. FIXED_FRACTION_PAST_WIDTH, then       \
+   * FIXED_NO_ELEMENT where there is no tap, then FIXED_COUNTS_DIFFER: the past samples are as they were.          \
+   * FIXED_OUT_OF_RANGE where a partial sum does not fit: *tap is the place of its tap, from 0, and the sample     \
+   * stands in front all the same */                                                                               \
+  int32_t name##_filter(const word *taps, size_t taps_count, word *past, size_t past_count, word sample,           \
+                        uint32_t out_frac, uint32_t coef_frac, uint32_t sample_frac, word *output, size_t *tap);
 
 /* The calls of signed words alone: the magnitude of a; one by the sign of a, 2^frac, 0 or -2^frac. */
 #define FIXED_SIGNED_CALLS(name, word)        \
@@ -122,13 +166,19 @@ enum {
 
 #define FIXED_SIGNED(name, word, least, greatest) \
   FIXED_RESULT(name, word)                        \
+  FIXED_INTERVAL(name, word)                      \
   FIXED_CALLS(name, word)                         \
+  FIXED_INTERVAL_CALLS(name, word)                \
+  FIXED_ARRAY_CALLS(name, word)                   \
   FIXED_SIGNED_CALLS(name, word)                  \
   FIXED_POLICIES(name, word, least, greatest)
 
 #define FIXED_UNSIGNED(name, word, greatest) \
   FIXED_RESULT(name, word)                   \
+  FIXED_INTERVAL(name, word)                 \
   FIXED_CALLS(name, word)                    \
+  FIXED_INTERVAL_CALLS(name, word)           \
+  FIXED_ARRAY_CALLS(name, word)              \
   FIXED_UNSIGNED_CALLS(name, word)           \
   FIXED_POLICIES(name, word, 0, greatest)
 

@@ -20,5 +20,10 @@ int main(void) {
   printf("%d\n", (int)fixed_i16_div(2560, 512, 8, &time));
   printf("%d\n", fixed_i16_strict(time));
   printf("%d\n", (int)fixed_i16_div(2560, 0, 8, &time));
+
+  /* The same where the speed is known to within a unit: the least and the greatest time. */
+  fixed_i16_interval times;
+  printf("%d\n", (int)fixed_i16_div_in(2560, 2560, 511, 513, 8, &times));
+  printf("%d to %d\n", times.low, times.high);
   return 0;
 }

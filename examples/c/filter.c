@@ -9,17 +9,14 @@ static const int32_t taps[TAPS] = {26843546, 80530637, 187904819, 241591910, 241
 
 /* The output at a sample, which joins the past ones: the sum of the products of taps and samples. */
 static int32_t pushed(int32_t past[TAPS], int32_t sample) {
-  fixed_i32 sum = {0, FIXED_FITS};
-  for (int i = TAPS - 1; i > 0; i--) past[i] = past[i - 1];
-  past[0] = sample;
-  for (int i = 0; i < TAPS; i++) {
-    int32_t code = fixed_i32_add_prod(sum.bits, taps[i], past[i], 16, 30, 16, &sum);
-    if (code != FIXED_OK || sum.side != FIXED_FITS) {
-      fprintf(stderr, "no output at tap %d: code %d, side %d\n", i, (int)code, (int)sum.side);
-      exit(1);
-    }
+  int32_t output;
+  size_t tap = 0;
+  int32_t code = fixed_i32_filter(taps, TAPS, past, TAPS, sample, 16, 30, 16, &output, &tap);
+  if (code != FIXED_OK) {
+    fprintf(stderr, "no output at tap %lu: code %d\n", (unsigned long)tap, (int)code);
+    exit(1);
   }
-  return sum.bits;
+  return output;
 }
 
 int main(void) {

@@ -1,1 +1,4 @@
 pub mod Moved
+pub mod Choices
+pub mod EndsLeft
+pub mod PlacesLeft

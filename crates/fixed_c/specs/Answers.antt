@@ -5,13 +5,17 @@ use Rattle.fixed_word.specs.declared.outcome.Side.TheVariants.{Fits, Above, Belo
 use Rattle.fixed_word.specs.Format.{wrap}
 use Rattle.fixed_word.specs.Standing.{side_of}
 use Rattle.fixed_c.specs.declared.answer.Code.{Code}
-use Rattle.fixed_c.specs.declared.answer.Code.TheVariants.{FractionPastWidth, ZeroDivisor, NegativeRoot}
+use Rattle.fixed_c.specs.declared.answer.Code.TheVariants.{FractionPastWidth, ZeroDivisor, NegativeRoot, EndsExchanged, OutOfRange, NoElement, CountsDiffer}
 
 -- the numbers of codes and of sides
 abbrev pub code_number : Code → ℤ
 code_number FractionPastWidth = pos 1
 code_number ZeroDivisor = pos 2
 code_number NegativeRoot = pos 3
+code_number EndsExchanged = pos 4
+code_number OutOfRange = pos 5
+code_number NoElement = pos 6
+code_number CountsDiffer = pos 7
 
 abbrev pub side_number : Side → ℤ
 side_number Fits = pos 0
@@ -23,8 +27,8 @@ unfoldable pub row_or : Code → Option ℤ → Result ℤ Code
 row_or code None = Err code
 row_or code (Some x) = Ok x
 
--- the same for a fraction f that is at most the width n
-unfoldable pub at_fraction : ℕ → ℕ → Result ℤ Code → Result ℤ Code
+-- the answer for a fraction f that is at most the width n
+unfoldable pub at_fraction : {X : Type 0} → ℕ → ℕ → Result X Code → Result X Code
 at_fraction n f answer = if nat_le f n then answer else Err FractionPastWidth
 
 -- what a call leaves in the two fields of its result

@@ -1,2 +1,6 @@
 pub mod Answers
+pub mod Intervals
+pub mod Places
+pub mod Polynomials
+pub mod Filters
 pub mod Words

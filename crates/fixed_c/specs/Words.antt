@@ -9,7 +9,17 @@ use Rattle.fixed_c.specs.declared.answer.AnswerU8.{AnswerU8}
 use Rattle.fixed_c.specs.declared.answer.AnswerU16.{AnswerU16}
 use Rattle.fixed_c.specs.declared.answer.AnswerU32.{AnswerU32}
 use Rattle.fixed_c.specs.declared.answer.AnswerU64.{AnswerU64}
+use Rattle.fixed_c.specs.declared.intervals.EndsI8.{EndsI8}
+use Rattle.fixed_c.specs.declared.intervals.EndsI16.{EndsI16}
+use Rattle.fixed_c.specs.declared.intervals.EndsI32.{EndsI32}
+use Rattle.fixed_c.specs.declared.intervals.EndsI64.{EndsI64}
+use Rattle.fixed_c.specs.declared.intervals.EndsU8.{EndsU8}
+use Rattle.fixed_c.specs.declared.intervals.EndsU16.{EndsU16}
+use Rattle.fixed_c.specs.declared.intervals.EndsU32.{EndsU32}
+use Rattle.fixed_c.specs.declared.intervals.EndsU64.{EndsU64}
+use Rattle.fixed_interval.specs.Ends.{Ends}
 use Rattle.fixed_c.specs.Answers.{CallAnswers}
+use Rattle.fixed_c.specs.Intervals.{EndsAnswers}
 
 abbrev pub AnswersI8 : Result ℤ Code → AnswerI8 → AnswerI8 → ℤ → Type 0
 AnswersI8 given old new code = CallAnswers (λ x. x) true 8 given (old.bits, old.side) (new.bits, new.side) code
@@ -34,3 +44,28 @@ AnswersU32 given old new code = CallAnswers pos false 32 given (old.bits, old.si
 
 abbrev pub AnswersU64 : Result ℤ Code → AnswerU64 → AnswerU64 → ℤ → Type 0
 AnswersU64 given old new code = CallAnswers pos false 64 given (old.bits, old.side) (new.bits, new.side) code
+
+-- ---- intervals
+abbrev pub EndsI8Answers : Result Ends Code → EndsI8 → EndsI8 → ℤ → Type 0
+EndsI8Answers given old new code = EndsAnswers (λ x. x) given (record { lo = old.low; hi = old.high }) (record { lo = new.low; hi = new.high }) code
+
+abbrev pub EndsI16Answers : Result Ends Code → EndsI16 → EndsI16 → ℤ → Type 0
+EndsI16Answers given old new code = EndsAnswers (λ x. x) given (record { lo = old.low; hi = old.high }) (record { lo = new.low; hi = new.high }) code
+
+abbrev pub EndsI32Answers : Result Ends Code → EndsI32 → EndsI32 → ℤ → Type 0
+EndsI32Answers given old new code = EndsAnswers (λ x. x) given (record { lo = old.low; hi = old.high }) (record { lo = new.low; hi = new.high }) code
+
+abbrev pub EndsI64Answers : Result Ends Code → EndsI64 → EndsI64 → ℤ → Type 0
+EndsI64Answers given old new code = EndsAnswers (λ x. x) given (record { lo = old.low; hi = old.high }) (record { lo = new.low; hi = new.high }) code
+
+abbrev pub EndsU8Answers : Result Ends Code → EndsU8 → EndsU8 → ℤ → Type 0
+EndsU8Answers given old new code = EndsAnswers pos given (record { lo = old.low; hi = old.high }) (record { lo = new.low; hi = new.high }) code
+
+abbrev pub EndsU16Answers : Result Ends Code → EndsU16 → EndsU16 → ℤ → Type 0
+EndsU16Answers given old new code = EndsAnswers pos given (record { lo = old.low; hi = old.high }) (record { lo = new.low; hi = new.high }) code
+
+abbrev pub EndsU32Answers : Result Ends Code → EndsU32 → EndsU32 → ℤ → Type 0
+EndsU32Answers given old new code = EndsAnswers pos given (record { lo = old.low; hi = old.high }) (record { lo = new.low; hi = new.high }) code
+
+abbrev pub EndsU64Answers : Result Ends Code → EndsU64 → EndsU64 → ℤ → Type 0
+EndsU64Answers given old new code = EndsAnswers pos given (record { lo = old.low; hi = old.high }) (record { lo = new.low; hi = new.high }) code

@@ -15,6 +15,14 @@ pub enum Code {
     ZeroDivisor,
     /// The operand of a root is below 0.
     NegativeRoot,
+    /// The low end of an operand is above its high one.
+    EndsExchanged,
+    /// An end, the value of a step or a partial sum does not fit the word.
+    OutOfRange,
+    /// There is no coefficient, or no tap.
+    NoElement,
+    /// There are not as many past samples as taps.
+    CountsDiffer,
 }
 
 /// What a call of `i8` leaves where its code is 0.
@@ -107,6 +115,10 @@ impl Code {
             Code::FractionPastWidth => 1,
             Code::ZeroDivisor => 2,
             Code::NegativeRoot => 3,
+            Code::EndsExchanged => 4,
+            Code::OutOfRange => 5,
+            Code::NoElement => 6,
+            Code::CountsDiffer => 7,
         }
     }
 }

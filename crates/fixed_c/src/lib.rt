@@ -11,6 +11,8 @@
 #![tactic(auto)]
 
 mod answer;
+mod arrays;
+mod intervals;
 mod powers;
 mod products;
 mod quotients;

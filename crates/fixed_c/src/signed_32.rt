@@ -1,13 +1,19 @@
 //! The calls of `i32`.
 
-ghost use Rattle.std.specs.Prelude.{Ok};
+ghost use Rattle.std.specs.Prelude.{◌≡◌, Ok, true};
 ghost use Rattle.fixed_kernel.specs.Rows.{exact_abs, exact_add, exact_add_prod, exact_dist, exact_mul, exact_mul_add, exact_mul_int, exact_neg, exact_signum, exact_sub, row_div, row_div_euclid, row_div_euclid_int, row_div_int, row_next_multiple_of, row_recip, row_rem, row_rem_euclid, row_rem_euclid_int, row_rem_int, row_sqrt};
 ghost use Rattle.fixed_c.specs.declared.answer.Code.TheVariants.{ZeroDivisor, NegativeRoot};
 ghost use Rattle.fixed_c.specs.Answers.{at_fraction, row_or};
-ghost use Rattle.fixed_c.specs.Words.{AnswersI32};
+ghost use Rattle.fixed_c.specs.Filters.{filter_of, fractions, output_in, past_after};
+ghost use Rattle.fixed_c.specs.Intervals.{difference_in, from_to, product_in, quotient_in, root_in, sum_in};
+ghost use Rattle.fixed_c.specs.Places.{PlaceAnswers};
+ghost use Rattle.fixed_c.specs.Polynomials.{horner_in};
+ghost use Rattle.fixed_c.specs.Words.{AnswersI32, EndsI32Answers};
 
 use crate::answer::AnswerI32;
-use crate::{powers, products, quotients, remainders, sums};
+use crate::intervals::EndsI32;
+use crate::{arrays, intervals, powers, products, quotients, remainders, sums};
+use fixed_filter::Shape;
 
 /// `-a`
 #[unsafe(no_mangle)]
@@ -213,4 +219,122 @@ pub extern "C" fn fixed_i32_sqrt(a: i32, frac: u32, answer: &mut AnswerI32) -> i
     ensures { AnswersI32 (at_fraction 32 frac (row_or NegativeRoot (row_sqrt a frac))) answer.old answer.new result }
 {
     powers::sqrt(a, frac, &mut answer.bits, &mut answer.side)
+}
+
+/// The sums of a number in `a` and one in `b`.
+#[unsafe(no_mangle)]
+pub extern "C" fn fixed_i32_add_in(
+    a_low: i32,
+    a_high: i32,
+    b_low: i32,
+    b_high: i32,
+    answer: &mut EndsI32,
+) -> i32
+    ensures { EndsI32Answers
+        (sum_in true 32 (from_to a_low a_high) (from_to b_low b_high))
+        answer.old answer.new result }
+{
+    let (low, high) = (&mut answer.low, &mut answer.high);
+    intervals::add(a_low, a_high, b_low, b_high, low, high)
+}
+
+/// The differences of a number in `a` and one in `b`.
+#[unsafe(no_mangle)]
+pub extern "C" fn fixed_i32_sub_in(
+    a_low: i32,
+    a_high: i32,
+    b_low: i32,
+    b_high: i32,
+    answer: &mut EndsI32,
+) -> i32
+    ensures { EndsI32Answers
+        (difference_in true 32 (from_to a_low a_high) (from_to b_low b_high))
+        answer.old answer.new result }
+{
+    let (low, high) = (&mut answer.low, &mut answer.high);
+    intervals::sub(a_low, a_high, b_low, b_high, low, high)
+}
+
+/// The products of a number in `a` and one in `b`, each over `2^frac`.
+#[unsafe(no_mangle)]
+pub extern "C" fn fixed_i32_mul_in(
+    a_low: i32,
+    a_high: i32,
+    b_low: i32,
+    b_high: i32,
+    frac: u32,
+    answer: &mut EndsI32,
+) -> i32
+    ensures { EndsI32Answers
+        (product_in true 32 (from_to a_low a_high) (from_to b_low b_high) frac)
+        answer.old answer.new result }
+{
+    let (low, high) = (&mut answer.low, &mut answer.high);
+    intervals::mul(a_low, a_high, b_low, b_high, frac, low, high)
+}
+
+/// The quotients of a number in `a` by one in `b`, each times `2^frac`.
+#[unsafe(no_mangle)]
+pub extern "C" fn fixed_i32_div_in(
+    a_low: i32,
+    a_high: i32,
+    b_low: i32,
+    b_high: i32,
+    frac: u32,
+    answer: &mut EndsI32,
+) -> i32
+    ensures { EndsI32Answers
+        (quotient_in true 32 (from_to a_low a_high) (from_to b_low b_high) frac)
+        answer.old answer.new result }
+{
+    let (low, high) = (&mut answer.low, &mut answer.high);
+    intervals::div(a_low, a_high, b_low, b_high, frac, low, high)
+}
+
+/// The roots of the numbers in `a`, each times `2^frac`.
+#[unsafe(no_mangle)]
+pub extern "C" fn fixed_i32_sqrt_in(a_low: i32, a_high: i32, frac: u32, answer: &mut EndsI32) -> i32
+    ensures { EndsI32Answers (root_in true 32 (from_to a_low a_high) frac) answer.old answer.new result }
+{
+    intervals::sqrt(a_low, a_high, frac, &mut answer.low, &mut answer.high)
+}
+
+/// The value at `x` of the polynomial with these coefficients, the least first, or the step that does not fit.
+#[unsafe(no_mangle)]
+pub extern "C" fn fixed_i32_horner(
+    coefs: &[i32],
+    x: i32,
+    frac: u32,
+    value: &mut i32,
+    step: &mut usize,
+) -> i32
+    ensures { PlaceAnswers (λ x. x) (horner_in (λ x. x) true 32 frac x coefs.now)
+        (value.old, step.old) (value.new, step.new) result }
+{
+    arrays::horner(coefs, x, frac, value, step)
+}
+
+/// Takes a sample into the past ones, and leaves the output, or the tap whose partial sum does not fit.
+#[unsafe(no_mangle)]
+pub extern "C" fn fixed_i32_filter(
+    taps: &[i32],
+    past: &mut [i32],
+    sample: i32,
+    out_frac: u32,
+    coef_frac: u32,
+    sample_frac: u32,
+    output: &mut i32,
+    tap: &mut usize,
+) -> i32
+    ensures answer { PlaceAnswers (λ x. x)
+        (output_in (λ x. x) true 32 (fractions out_frac coef_frac sample_frac) sample (filter_of taps.now past.old))
+        (output.old, tap.old) (output.new, tap.new) result }
+    ensures past { past.new ≡ past_after 32 (fractions out_frac coef_frac sample_frac) sample (filter_of taps.now past.old) }
+{
+    let shape = Shape {
+        out_frac,
+        coef_frac,
+        sample_frac,
+    };
+    arrays::filter(taps, past, sample, shape, output, tap)
 }

@@ -1,13 +1,19 @@
 //! The calls of `u16`.
 
-ghost use Rattle.std.specs.Prelude.{Ok, pos};
+ghost use Rattle.std.specs.Prelude.{◌≡◌, Ok, false, pos};
 ghost use Rattle.fixed_kernel.specs.Rows.{exact_add, exact_add_prod, exact_dist, exact_mul, exact_mul_add, exact_mul_int, exact_neg, exact_next_power_of_two, exact_sub, row_div, row_div_euclid, row_div_euclid_int, row_div_int, row_next_multiple_of, row_recip, row_rem, row_rem_euclid, row_rem_euclid_int, row_rem_int, row_sqrt};
 ghost use Rattle.fixed_c.specs.declared.answer.Code.TheVariants.{ZeroDivisor, NegativeRoot};
 ghost use Rattle.fixed_c.specs.Answers.{at_fraction, row_or};
-ghost use Rattle.fixed_c.specs.Words.{AnswersU16};
+ghost use Rattle.fixed_c.specs.Filters.{filter_of, fractions, output_in, past_after};
+ghost use Rattle.fixed_c.specs.Intervals.{difference_in, from_to, product_in, quotient_in, root_in, sum_in};
+ghost use Rattle.fixed_c.specs.Places.{PlaceAnswers};
+ghost use Rattle.fixed_c.specs.Polynomials.{horner_in};
+ghost use Rattle.fixed_c.specs.Words.{AnswersU16, EndsU16Answers};
 
 use crate::answer::AnswerU16;
-use crate::{powers, products, quotients, remainders, sums};
+use crate::intervals::EndsU16;
+use crate::{arrays, intervals, powers, products, quotients, remainders, sums};
+use fixed_filter::Shape;
 
 /// `-a`
 #[unsafe(no_mangle)]
@@ -211,4 +217,122 @@ pub extern "C" fn fixed_u16_next_power_of_two(a: u16, answer: &mut AnswerU16) ->
     ensures { AnswersU16 (Ok (exact_next_power_of_two (pos a))) answer.old answer.new result }
 {
     powers::next_power_of_two(a, &mut answer.bits, &mut answer.side)
+}
+
+/// The sums of a number in `a` and one in `b`.
+#[unsafe(no_mangle)]
+pub extern "C" fn fixed_u16_add_in(
+    a_low: u16,
+    a_high: u16,
+    b_low: u16,
+    b_high: u16,
+    answer: &mut EndsU16,
+) -> i32
+    ensures { EndsU16Answers
+        (sum_in false 16 (from_to (pos a_low) (pos a_high)) (from_to (pos b_low) (pos b_high)))
+        answer.old answer.new result }
+{
+    let (low, high) = (&mut answer.low, &mut answer.high);
+    intervals::add(a_low, a_high, b_low, b_high, low, high)
+}
+
+/// The differences of a number in `a` and one in `b`.
+#[unsafe(no_mangle)]
+pub extern "C" fn fixed_u16_sub_in(
+    a_low: u16,
+    a_high: u16,
+    b_low: u16,
+    b_high: u16,
+    answer: &mut EndsU16,
+) -> i32
+    ensures { EndsU16Answers
+        (difference_in false 16 (from_to (pos a_low) (pos a_high)) (from_to (pos b_low) (pos b_high)))
+        answer.old answer.new result }
+{
+    let (low, high) = (&mut answer.low, &mut answer.high);
+    intervals::sub(a_low, a_high, b_low, b_high, low, high)
+}
+
+/// The products of a number in `a` and one in `b`, each over `2^frac`.
+#[unsafe(no_mangle)]
+pub extern "C" fn fixed_u16_mul_in(
+    a_low: u16,
+    a_high: u16,
+    b_low: u16,
+    b_high: u16,
+    frac: u32,
+    answer: &mut EndsU16,
+) -> i32
+    ensures { EndsU16Answers
+        (product_in false 16 (from_to (pos a_low) (pos a_high)) (from_to (pos b_low) (pos b_high)) frac)
+        answer.old answer.new result }
+{
+    let (low, high) = (&mut answer.low, &mut answer.high);
+    intervals::mul(a_low, a_high, b_low, b_high, frac, low, high)
+}
+
+/// The quotients of a number in `a` by one in `b`, each times `2^frac`.
+#[unsafe(no_mangle)]
+pub extern "C" fn fixed_u16_div_in(
+    a_low: u16,
+    a_high: u16,
+    b_low: u16,
+    b_high: u16,
+    frac: u32,
+    answer: &mut EndsU16,
+) -> i32
+    ensures { EndsU16Answers
+        (quotient_in false 16 (from_to (pos a_low) (pos a_high)) (from_to (pos b_low) (pos b_high)) frac)
+        answer.old answer.new result }
+{
+    let (low, high) = (&mut answer.low, &mut answer.high);
+    intervals::div(a_low, a_high, b_low, b_high, frac, low, high)
+}
+
+/// The roots of the numbers in `a`, each times `2^frac`.
+#[unsafe(no_mangle)]
+pub extern "C" fn fixed_u16_sqrt_in(a_low: u16, a_high: u16, frac: u32, answer: &mut EndsU16) -> i32
+    ensures { EndsU16Answers (root_in false 16 (from_to (pos a_low) (pos a_high)) frac) answer.old answer.new result }
+{
+    intervals::sqrt(a_low, a_high, frac, &mut answer.low, &mut answer.high)
+}
+
+/// The value at `x` of the polynomial with these coefficients, the least first, or the step that does not fit.
+#[unsafe(no_mangle)]
+pub extern "C" fn fixed_u16_horner(
+    coefs: &[u16],
+    x: u16,
+    frac: u32,
+    value: &mut u16,
+    step: &mut usize,
+) -> i32
+    ensures { PlaceAnswers pos (horner_in pos false 16 frac x coefs.now)
+        (value.old, step.old) (value.new, step.new) result }
+{
+    arrays::horner(coefs, x, frac, value, step)
+}
+
+/// Takes a sample into the past ones, and leaves the output, or the tap whose partial sum does not fit.
+#[unsafe(no_mangle)]
+pub extern "C" fn fixed_u16_filter(
+    taps: &[u16],
+    past: &mut [u16],
+    sample: u16,
+    out_frac: u32,
+    coef_frac: u32,
+    sample_frac: u32,
+    output: &mut u16,
+    tap: &mut usize,
+) -> i32
+    ensures answer { PlaceAnswers pos
+        (output_in pos false 16 (fractions out_frac coef_frac sample_frac) sample (filter_of taps.now past.old))
+        (output.old, tap.old) (output.new, tap.new) result }
+    ensures past { past.new ≡ past_after 16 (fractions out_frac coef_frac sample_frac) sample (filter_of taps.now past.old) }
+{
+    let shape = Shape {
+        out_frac,
+        coef_frac,
+        sample_frac,
+    };
+    arrays::filter(taps, past, sample, shape, output, tap)
 }

@@ -37,8 +37,10 @@ fn checked_add_prod<T: Word>(sum: T, tap: T, sample: T, shape: &Shape) -> Option
     }
 }
 
-/// What a channel with these taps answers, after these samples, the newest first.
-pub(crate) fn filtered<T: Word>(shape: &Shape, taps: &[T], past: &[T]) -> Reply<T>
+/// The output of a filter with these taps after these samples, the newest first: the sum of their products, in units of
+/// `2^-out_frac`, each rounded down; taps are in units of `2^-coef_frac`, samples of `2^-sample_frac`. The first partial
+/// sum that does not fit ends it. Conditions: there are as many samples as taps, and each fraction is at most the width.
+pub fn output_of<T: Word>(shape: &Shape, taps: &[T], past: &[T]) -> Reply<T>
     requires shape { IsShape T.BITS shape.now }
     requires lengths { length taps.now ≡ length past.now }
     ensures { reply_map T.value result ≡ filter_reply T.SIGNED T.BITS

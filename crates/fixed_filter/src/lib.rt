@@ -14,10 +14,13 @@ mod header;
 pub mod laws;
 mod reply;
 mod running;
+mod samples;
 mod shape;
 
+pub use accumulation::output_of;
 pub use bank::Bank;
 pub use fault::FilterFault;
 pub use reply::Reply;
 pub use running::filter_run;
+pub use samples::put_in_front;
 pub use shape::Shape;

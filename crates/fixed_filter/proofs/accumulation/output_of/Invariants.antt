@@ -1,7 +1,7 @@
 use Rattle.fixed_filter.specs.Banks.{places_of}
 use Rattle.fixed_policy.specs.DotProduct.{pairs}
 use Rattle.fixed_filter.proofs.Sums.{IsAt}
-use Rattle.fixed_filter.proofs.accumulation.filtered.Given as goal
+use Rattle.fixed_filter.proofs.accumulation.output_of.Given as goal
 
 abbrev pub invariant-loop-i : goal.invariant-loop-i
 invariant-loop-i g l =

@@ -1,0 +1,77 @@
+//! A polynomial, and a step of a filter, over the arrays of a caller.
+#![tactic(auto, unfolding(crate::specs::Answers::at_fraction, crate::specs::Places::with_some, crate::specs::Places::with_as_many, crate::specs::Places::PlaceAnswers, crate::specs::Polynomials::horner_in, crate::specs::Filters::taking, crate::specs::Filters::output_in, crate::specs::Filters::past_after))]
+
+ghost use Rattle.std.specs.Prelude.{◌≡◌};
+ghost use Rattle.fixed_c.specs.Places.{PlaceAnswers};
+ghost use Rattle.fixed_c.specs.Polynomials.{horner_in};
+ghost use Rattle.fixed_c.specs.Filters.{filter_of, output_in, past_after};
+
+use crate::answer::Code;
+use fixed_filter::{Reply, Shape, output_of, put_in_front};
+use fixed_poly::{PolyReply, horner_of};
+use fixed_word::Word;
+
+/// The value at `x` of the polynomial with these coefficients, the least first, all in units of `2^-frac`. Each step
+/// multiplies by `x`, rounds the product down, and adds the coefficient before. Where the value of a step does not fit,
+/// `step` is the number of its coefficient.
+#[inline]
+pub(crate) fn horner<T: Word>(coefs: &[T], x: T, frac: u32, value: &mut T, step: &mut usize) -> i32
+    ensures { PlaceAnswers T.value (horner_in T.value T.SIGNED T.BITS frac x coefs.now)
+        (value.old, step.old) (value.new, step.new) result }
+{
+    if frac > T::BITS {
+        return Code::FractionPastWidth.number();
+    }
+    if coefs.is_empty() {
+        return Code::NoElement.number();
+    }
+    match horner_of(coefs, x, frac) {
+        PolyReply::Value(found) => {
+            *value = found;
+            0
+        }
+        PolyReply::Overflow(place) => {
+            *step = place;
+            Code::OutOfRange.number()
+        }
+    }
+}
+
+/// Takes a sample into the past ones, the newest first, from which the oldest leaves; and the output is the sum of the
+/// products of taps and samples, each rounded down. Outputs, taps and samples have fractions of their own. Where a
+/// partial sum does not fit, `tap` is the place of its tap, and the sample is taken all the same.
+#[inline]
+pub(crate) fn filter<T: Word>(
+    taps: &[T],
+    past: &mut [T],
+    sample: T,
+    shape: Shape,
+    output: &mut T,
+    tap: &mut usize,
+) -> i32
+    ensures answer { PlaceAnswers T.value
+        (output_in T.value T.SIGNED T.BITS shape sample (filter_of taps.now past.old))
+        (output.old, tap.old) (output.new, tap.new) result }
+    ensures past { past.new ≡ past_after T.BITS shape sample (filter_of taps.now past.old) }
+{
+    if shape.out_frac > T::BITS || shape.coef_frac > T::BITS || shape.sample_frac > T::BITS {
+        return Code::FractionPastWidth.number();
+    }
+    if taps.is_empty() {
+        return Code::NoElement.number();
+    }
+    if taps.len() != past.len() {
+        return Code::CountsDiffer.number();
+    }
+    put_in_front(sample, past);
+    match output_of(&shape, taps, past) {
+        Reply::Value(found) => {
+            *output = found;
+            0
+        }
+        Reply::Overflow(place) => {
+            *tap = place;
+            Code::OutOfRange.number()
+        }
+    }
+}
