@@ -4,6 +4,10 @@
 // The code below is the proved source's own.
 #![allow(dead_code, unused_imports, clippy::too_many_arguments)]
 
+// An array of C crosses as a slice, its pointer and then its count. Rust does not promise this form; the examples in C
+// show it on x86-64.
+#![allow(improper_ctypes_definitions)]
+
 // What stands behind an assertion of Rust's: no call of the face reaches one. With an operating system that is std's,
 // and without one it is below.
 #[cfg(not(target_os = "none"))]

@@ -1,7 +1,7 @@
 //! Each kind of condition stops the call, at each layer that has it.
 
 use zugyelmas::prelude::*;
-use zugyelmas::{bits, interval, kernel, logs, num, ops, policy, poly, root, strict, word};
+use zugyelmas::{bits, filter, interval, kernel, logs, num, ops, policy, poly, root, strict, word};
 
 type Byte = FixedI8<4>;
 type Unsigned = FixedU8<4>;
@@ -107,6 +107,7 @@ stops! {
     ops_root, "the number is not below 0", byte(-1).sqrt();
     ops_product_of_none, "the number 1 fits", ops::product::<i8, 7>(&[]);
     ops_factors, "the fraction A is at most the width", byte(1).add_prod(past(1), byte(1));
+    filter_past, "there is a past sample", filter::put_in_front(1_i8, &mut []);
     poly_coefficient, "there is a coefficient", poly::horner_of(&[] as &[i8], 1, 4);
     poly_fraction, "the fraction frac is at most the width", poly::horner_of(&[1_u16], 1, 17);
     poly_typed_coefficient, "there is a coefficient", poly::horner(&[], byte(1));

@@ -1,6 +1,6 @@
 //! Intervals, polynomials and what a filter answers, as a user of the library calls them.
 
-use zugyelmas::filter::{Reply, Shape};
+use zugyelmas::filter::{Reply, Shape, output_of, put_in_front};
 use zugyelmas::interval::{Interval, add_in, div_in, mul_in, sqrt_in, sub_in};
 use zugyelmas::poly::{PolyReply, horner, horner_of};
 use zugyelmas::prelude::*;
@@ -50,12 +50,16 @@ fn polynomials() {
 }
 
 #[test]
-fn what_a_filter_answers() {
+fn a_step_of_a_filter() {
     let shape = Shape {
         out_frac: 8,
         coef_frac: 8,
         sample_frac: 8,
     };
-    assert_eq!(shape.out_frac, 8);
-    assert_ne!(Reply::Value(1), Reply::Overflow(1));
+    let mut past = [256_i16, 512]; // 1 and 2
+    put_in_front(128, &mut past); // 1/2
+    assert_eq!(past, [128, 256]);
+    // 1/2 of 1/2 and 1/4 of 1.
+    assert_eq!(output_of(&shape, &[128, 64], &past), Reply::Value(128));
+    assert_eq!(output_of(&shape, &[128, 32767], &past), Reply::Overflow(1));
 }
