@@ -4,10 +4,6 @@
 // The code below is the proved source's own.
 #![allow(dead_code, unused_imports, clippy::too_many_arguments)]
 
-// An array of C crosses as a slice, its pointer and then its count. Rust does not promise this form; the examples in C
-// show it on x86-64.
-#![allow(improper_ctypes_definitions)]
-
 // What stands behind an assertion of Rust's: no call of the face reaches one. With an operating system that is std's,
 // and without one it is below.
 #[cfg(not(target_os = "none"))]
@@ -16,6 +12,23 @@ extern crate std;
 use zugyelmas::*;
 
 include!(concat!(env!("OUT_DIR"), "/face.rs"));
+
+/// The array of C that begins at a pointer; where it has no element the pointer may be null. As the header says, it is
+/// whole, aligned, and no other is written meanwhile.
+unsafe fn slice<'a, T>(first: *const T, count: usize) -> &'a [T] {
+    if count == 0 {
+        return &[];
+    }
+    unsafe { core::slice::from_raw_parts(first, count) }
+}
+
+/// The same for an array that is written.
+unsafe fn slice_mut<'a, T>(first: *mut T, count: usize) -> &'a mut [T] {
+    if count == 0 {
+        return &mut [];
+    }
+    unsafe { core::slice::from_raw_parts_mut(first, count) }
+}
 
 #[cfg(target_os = "none")]
 #[panic_handler]
