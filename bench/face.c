@@ -9,6 +9,22 @@
 #define TAPS 16
 #define COEFFICIENTS 8
 
+/* Times the calls of both sides in turn, and prints the least of each in nanoseconds a call; they have to answer alike. */
+#define TIMED(label, calls, here, hand)                                                                 \
+  double least = 1e18, least_by_hand = 1e18, taken;                                                     \
+  uint64_t check, by_hand;                                                                              \
+  for (int pass = 0; pass < PASSES; pass++) {                                                           \
+    taken = here;                                                                                       \
+    if (taken < least) least = taken;                                                                   \
+    taken = hand;                                                                                       \
+    if (taken < least_by_hand) least_by_hand = taken;                                                   \
+    if (check != by_hand) {                                                                             \
+      printf(label ": the answers differ\n");                                                           \
+      exit(1);                                                                                          \
+    }                                                                                                   \
+  }                                                                                                     \
+  printf(label " %.3f %.3f\n", least / (calls), least_by_hand / (calls));
+
 /* One row: the least nanoseconds a call of each side, in turn. One loop, compiled once, makes the calls of both. */
 #define ROW(name, operation, W, PARAMETERS, ...)                                                        \
   int32_t hand_##name##_##operation PARAMETERS;                                                         \
@@ -27,19 +43,9 @@
     return now() - start;                                                                               \
   }                                                                                                     \
   static void row_##name##_##operation(const W *a, const W *b, const W *c, uint32_t frac) {             \
-    double least = 1e18, least_by_hand = 1e18, taken;                                                   \
-    uint64_t check, by_hand;                                                                            \
-    for (int pass = 0; pass < PASSES; pass++) {                                                         \
-      taken = time_##name##_##operation(name##_##operation, a, b, c, frac, &check);                     \
-      if (taken < least) least = taken;                                                                 \
-      taken = time_##name##_##operation(hand_##name##_##operation, a, b, c, frac, &by_hand);            \
-      if (taken < least_by_hand) least_by_hand = taken;                                                 \
-      if (check != by_hand) {                                                                           \
-        printf(#name "_" #operation ": the answers differ\n");                                          \
-        exit(1);                                                                                        \
-      }                                                                                                 \
-    }                                                                                                   \
-    printf(#name "_" #operation " %.3f %.3f\n", least / COUNT, least_by_hand / COUNT);                  \
+    TIMED(#name "_" #operation, COUNT,                                                                  \
+          time_##name##_##operation(name##_##operation, a, b, c, frac, &check),                         \
+          time_##name##_##operation(hand_##name##_##operation, a, b, c, frac, &by_hand))                \
   }
 
 #define SIGNED_ROWS(name, W)                                                                                        \
@@ -105,19 +111,9 @@
     return now() - start;                                                                                       \
   }                                                                                                             \
   static void row_##name##_##call_name(const W *a, const W *b, uint32_t frac) {                                 \
-    double least = 1e18, least_by_hand = 1e18, taken;                                                           \
-    uint64_t check, by_hand;                                                                                    \
-    for (int pass = 0; pass < PASSES; pass++) {                                                                 \
-      taken = time_##name##_##call_name(name##_##call_name, a, b, frac, &check);                                \
-      if (taken < least) least = taken;                                                                         \
-      taken = time_##name##_##call_name(hand_##name##_##call_name, a, b, frac, &by_hand);                       \
-      if (taken < least_by_hand) least_by_hand = taken;                                                         \
-      if (check != by_hand) {                                                                                   \
-        printf(#name "_" #call_name ": the answers differ\n");                                                  \
-        exit(1);                                                                                                \
-      }                                                                                                         \
-    }                                                                                                           \
-    printf(#name "_" #call_name " %.3f %.3f\n", least / (COUNT - TAPS), least_by_hand / (COUNT - TAPS));        \
+    TIMED(#name "_" #call_name, COUNT - TAPS,                                                                   \
+          time_##name##_##call_name(name##_##call_name, a, b, frac, &check),                                    \
+          time_##name##_##call_name(hand_##name##_##call_name, a, b, frac, &by_hand))                           \
   }
 
 /* Taps are numbers of the array from that of the sample on, and coefficients likewise. */

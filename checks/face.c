@@ -252,6 +252,14 @@ static int64_t draw(int64_t from, int64_t to) {
 
 #define MOST 6
 
+/* Compares the code, the value and the place that a call left with those of plain C. */
+#define LEFT_ALIKE(label, word, value, place)                                                                          \
+  compared++;                                                                                                          \
+  if (got != want || value != (want == FIXED_OK ? (word)sum : 77) || place != (want == FIXED_OUT_OF_RANGE ? i : 78)) { \
+    printf(label ": code %d, but by plain C %d\n", (int)got, (int)want);                                               \
+    exit(1);                                                                                                           \
+  }
+
 /* Intervals between ends that are some steps apart, in order and exchanged; arrays of up to MOST numbers. */
 #define CHECK_MORE(name, word, from, to)                                                                           \
   static void check_ends_##name(void) {                                                                            \
@@ -300,12 +308,7 @@ static int64_t draw(int64_t from, int64_t to) {
         }                                                                                                          \
       }                                                                                                            \
       got = name##_horner(coefs, count, x, f, &value, &step);                                                      \
-      compared++;                                                                                                  \
-      if (got != want || value != (want == FIXED_OK ? (word)sum : 77) ||                                           \
-          step != (want == FIXED_OUT_OF_RANGE ? i : 78)) {                                                         \
-        printf(#name "_horner: code %d, but by plain C %d\n", (int)got, (int)want);                                \
-        exit(1);                                                                                                   \
-      }                                                                                                            \
+      LEFT_ALIKE(#name "_horner", word, value, step)                                                                   \
     }                                                                                                              \
   }                                                                                                                \
   static void check_filter_##name(void) {                                                                          \
@@ -338,14 +341,9 @@ static int64_t draw(int64_t from, int64_t to) {
         }                                                                                                          \
       }                                                                                                            \
       got = name##_filter(taps, count, past, other, sample, f, g, h, &output, &tap);                               \
-      compared++;                                                                                                  \
       for (size_t k = 0; k <= MOST; k++)                                                                           \
         if (past[k] != kept[k]) got = -1;                                                                          \
-      if (got != want || output != (want == FIXED_OK ? (word)sum : 77) ||                                          \
-          tap != (want == FIXED_OUT_OF_RANGE ? i : 78)) {                                                          \
-        printf(#name "_filter: code %d, but by plain C %d\n", (int)got, (int)want);                                \
-        exit(1);                                                                                                   \
-      }                                                                                                            \
+      LEFT_ALIKE(#name "_filter", word, output, tap)                                                                   \
     }                                                                                                              \
   }
 
