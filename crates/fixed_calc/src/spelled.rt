@@ -113,8 +113,8 @@ fn spell_lines(script: &mut Vec<u8>, lines: &[u8]) -> Result<(), ExplicitFault>
 
 /// The script in which each line that may name a rounding does: its default where it names none.
 /// `Syntax` with the number of the first piece that is no header or no line, where there is one,
-/// and 1 for no bytes at all. Where memory ran out it says so in place of either, and hands out
-/// nothing.
+/// and 1 for no bytes at all. A report that memory ran out may come in place of either; then
+/// nothing is handed out.
 pub fn explicit(alloc: Global, script: &[u8]) -> Result<Script, ExplicitFault>
     ensures { IsAnswerOfSpelling (spelled script.now) result }
 {

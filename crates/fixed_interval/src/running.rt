@@ -271,8 +271,8 @@ fn run_word(alloc: Global, header: Header, lines: &[u8]) -> Result<Output, Inter
 /// `iD mul iA iB`, `iD div iA iB` and `iD sqrt iA` give it what the operation makes of registers, which are read
 /// first. A line prints the ends, or `none` where there are none that fit, and then the register stays. Otherwise
 /// the first cause, with the number of its piece: `Syntax` where the piece lacks the form, and `OutOfRange` where a
-/// number is out of range, also at no register or above 1,000,000 and at ends out of order. Where
-/// memory ran out it says so in place of either, and hands out nothing.
+/// number is out of range, also at no register or above 1,000,000 and at ends out of order. A
+/// report that memory ran out may come in place of either; then nothing is handed out.
 pub fn interval_run(alloc: Global, script: &[u8]) -> Result<Output, IntervalFault>
     ensures { IsAnswerOfInterval (interval_output script.now) result }
 {

@@ -173,7 +173,8 @@ fn run_word(alloc: Global, word: WordName, frac: u128, lines: &[u8]) -> Result<O
 /// `coefs N N ..`, at least one number, each take the place of the polynomial before, and lines `at N`
 /// print the bits of its value at N, or `overflow I`. Otherwise the first cause, with the number of its piece:
 /// `Syntax` where the piece lacks the form, also `at` before the first `coefs`, and `OutOfRange` where a number
-/// is out of range. Where memory ran out it says so in place of either, and hands out nothing.
+/// is out of range. A report that memory ran out may come in place of either; then nothing is
+/// handed out.
 pub fn poly_run(alloc: Global, script: &[u8]) -> Result<Output, PolyFault>
     ensures { IsAnswerOfPoly (poly_output script.now) result }
 {
