@@ -1,4 +1,5 @@
-//! Memory as the proved sources ask for it: from an allocator that is passed, and with want of memory as an answer.
+//! Memory as the proved sources ask for it: from an allocator that is passed, and with an answer that says where memory
+//! ran out.
 
 use std::ops::{Deref, DerefMut};
 use std::vec;
@@ -7,7 +8,7 @@ use std::vec;
 #[derive(Clone, Copy)]
 pub struct Global;
 
-/// Want of memory.
+/// Memory ran out.
 #[derive(Clone, Copy, Debug, PartialEq, Eq)]
 pub struct AllocError;
 

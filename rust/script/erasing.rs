@@ -1,7 +1,7 @@
 //! A proved source as Rust: contracts, ghost items and what speaks to the prover go, code and docs stay letter for
 //! letter. The contract of a public call joins its docs, and its conditions are asserted before its body.
 //!
-//! Sources are formatted, so lines tell by where they stand what belongs together. No brace is counted, and one in a
+//! Sources are formatted, so where its lines stand says what belongs to an item. No brace is counted, and one in a
 //! comment, a string or a character is as any sign.
 
 use crate::script::conditions::{assertions, condition_of, docs};

@@ -27,7 +27,7 @@ fn sources(folder: &Path, found: &mut Vec<PathBuf>) {
     }
 }
 
-/// A line without the brace or semicolon behind a function's head, which clauses may part from it.
+/// A line without the brace or semicolon behind a function's head, which clauses may separate from it.
 fn head_of(line: &str) -> &str {
     let line = line.trim();
     let line = line.strip_suffix("{}").unwrap_or(line);

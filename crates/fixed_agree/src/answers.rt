@@ -1,4 +1,4 @@
-//! The answers of typed calls, as the calculator tells answers.
+//! The answers of typed calls, in the form of the calculator's answers.
 
 ghost use Rattle.std.specs.Prelude.{◌≡◌, option_map};
 ghost use Rattle.fixed_calc.specs.Projection.{plain};

@@ -11,7 +11,7 @@ use Rattle.fixed_c.specs.Answers.{at_fraction, code_number}
 abbrev pub from_to : ℤ → ℤ → Ends
 from_to low high = record { low = low; high = high }
 
--- ---- the answer, or the code where an operand has it not
+-- ---- the answer, or the code where this does not hold of the ends
 -- the low end is at most the high one
 unfoldable pub in_order : Ends → Result Ends Code → Result Ends Code
 in_order a answer = if int_lt a.high a.low then Err EndsExchanged else answer

@@ -1,6 +1,6 @@
--- What a call of the program says of its source, its sink and its errors: one fact for each status but Usage, which is
--- told by the words alone; three for all; and four for the words `demo N`.
--- `source` and `source'`, `sink` and `sink'` are what they tell at entry and at exit.
+-- What a call of the program says of its source, its sink and its errors: one fact for each status but Usage, which the
+-- words alone decide; three for all; and four for the words `demo N`.
+-- `source` and `source'`, `sink` and `sink'` are their states at entry and at exit.
 use Rattle.std.specs.Prelude.{codes, ◌≡◌, ℕ, ◌+◌, ◌<◌, ◌≤◌, ◌⊎◌, ◌↔◌, ◌≢◌, ◌++◌, List, [], length, take, Option, Some, None, IfSome, ⊤}
 use Rattle.std.specs.Io.KnownBytes.{Appends, Keeps}
 use Rattle.fixed_word.specs.Decimal.{natural_text}
@@ -18,12 +18,12 @@ use Rattle.fixed_calc.specs.declared.status.Status.TheVariants.{Done, Script, Us
 abbrev pub limit : ℕ
 limit = 67108864
 
--- the input, where the source tells it, has at most `limit` bytes, was read to its end, and P holds of it
+-- the input, where the source says what it is, has at most `limit` bytes, was read to its end, and P holds of it
 abbrev pub ReadWhole : Option (List ℕ) → Option (List ℕ) → (List ℕ → Type 0) → Type 0
 ReadWhole None left P = ⊤
 ReadWhole (Some input) left P = (length input ≤ limit) × (left ≡ Some []) × P input
 
--- where the source tells its bytes it goes on to tell them, and P holds of those at entry and those left
+-- where the source says which bytes are left at entry it does so at exit too, and P holds of both
 abbrev pub IfTold : Option (List ℕ) → Option (List ℕ) → (List ℕ → List ℕ → Type 0) → Type 0
 IfTold None left P = ⊤
 IfTold (Some input) None P = ⊥
@@ -46,7 +46,7 @@ abbrev pub IsOutput : Meaning → (List ℕ → Type 0) → Type 0
 IsOutput (Output bytes) P = P bytes
 IsOutput (Fault cause) P = ⊥
 
--- the bytes are the output that the input means, where the source tells it
+-- the bytes are the output that the input means, where the source says what the input is
 abbrev pub IsOutputOf : Option (List ℕ) → List ℕ → Type 0
 IsOutputOf left bytes = IfSome left (λ input. meaning input ≡ Output bytes)
 
@@ -55,12 +55,12 @@ abbrev pub TookPrefixOf : Option (List ℕ) → Option (List ℕ) → Meaning �
 TookPrefixOf old new (Output bytes) = AppendsPrefix old new bytes
 TookPrefixOf old new (Fault cause) = Keeps old new
 
--- no write was refused, or one was for want of memory
+-- no write was refused, or one was because memory ran out
 abbrev pub IsUnrefusedOrShort : SinkState → SinkState → Type 0
 IsUnrefusedOrShort sink sink' =
     ((sink'.faults ≡ sink.faults) × (sink'.shortages ≡ sink.shortages)) ⊎ RoseOrLast sink.shortages sink'.shortages
 
--- a write failed, and none was refused for want of memory
+-- a write failed, and none was refused because memory ran out
 abbrev pub FaultsAlone : SinkState → SinkState → Type 0
 FaultsAlone sink sink' = (sink.faults < sink'.faults) × (sink'.shortages ≡ sink.shortages) × (sink'.shortages ≢ last_count)
 
@@ -104,8 +104,8 @@ WhenWriteFault source source' sink sink' status =
     × (source'.faults ≡ source.faults))
     × (FaultsAlone sink sink' → status ≡ WriteFault)
 
--- Memory: the sink took a prefix of the output, or nothing where the meaning is a fault; no read failed, and no write was
--- refused but for want of memory
+-- Memory: the sink took a prefix of the output, or nothing where the meaning is a fault; no read failed; no write was
+-- refused, or one was because memory ran out
 abbrev pub WhenMemory : SourceState → SourceState → SinkState → SinkState → Status → Type 0
 WhenMemory source source' sink sink' status = status ≡ Memory →
     IfSome source.left (λ input. TookPrefixOf sink.taken sink'.taken (meaning input))
@@ -118,7 +118,7 @@ WritesNothing WriteFault = ⊥
 WritesNothing Memory = ⊥
 WritesNothing _ = ⊤
 
--- the status that a meaning asks for, with its whole output, or want of memory
+-- the status that a meaning asks for, with its whole output; or memory ran out
 abbrev pub IsComplete : SinkState → SinkState → Meaning → Status → Type 0
 IsComplete sink sink' (Output bytes) status = (status ≡ Memory) ⊎ ((status ≡ Done) × Appends sink.taken sink'.taken bytes)
 IsComplete sink sink' (Fault cause) status = (status ≡ Memory) ⊎ (status ≡ Script cause)
@@ -142,7 +142,7 @@ WhenDemoWriteFault n sink sink' status =
     (status ≡ WriteFault → RoseOrLast sink.faults sink'.faults × AppendsPrefix sink.taken sink'.taken (summary n))
     × (FaultsAlone sink sink' → status ≡ WriteFault)
 
--- Memory: the sink took a prefix of the summary, and no write was refused but for want of memory
+-- Memory: the sink took a prefix of the summary; no write was refused, or one was because memory ran out
 abbrev pub WhenDemoMemory : ℕ → SinkState → SinkState → Status → Type 0
 WhenDemoMemory n sink sink' status = status ≡ Memory →
     AppendsPrefix sink.taken sink'.taken (summary n) × IsUnrefusedOrShort sink sink'

@@ -1,14 +1,14 @@
--- What a source and a sink tell of themselves, and what a read and a write say of it.
+-- What contracts see of a source and of a sink, and what a read and a write say of it.
 use Rattle.std.specs.Prelude.{◌≡◌, ℕ, ◌+◌, ◌-◌, ◌^◌, ◌<◌, ◌≤◌, ◌⊎◌, min, List, Option, Result, Ok, Err}
 use Rattle.fixed_calc.specs.declared.outside.Refusal.{Refusal}
 use Rattle.fixed_calc.specs.declared.outside.Refusal.TheVariants.{Failed as RefusedFailed, Memory}
 
--- the bytes left, where it tells them, and a count of faults
+-- the bytes left, where it says which they are, and a count of faults
 pub record SourceState : Type 0 where
   pub left : Option (List ℕ)
   pub faults : ℕ
 
--- the bytes taken, where it tells them, a count of faults and one of shortages of memory
+-- the bytes taken, where it says which they are, a count of faults and one of shortages of memory
 pub record SinkState : Type 0 where
   pub taken : Option (List ℕ)
   pub faults : ℕ

@@ -57,7 +57,7 @@ spelled_pieces (p ∷ ps) = spelled_from (header_of_piece p) ps
 abbrev pub spelled : List ℕ → Spelling
 spelled script = spelled_pieces (pieces script)
 
--- the script spelled out, or the piece without the form; want of memory comes in the place of either
+-- the script spelled out, or the number of the piece without the form; or memory ran out
 abbrev pub IsAnswerOfSpelling : Spelling → Result (List ℕ) ExplicitFault → Type 0
 IsAnswerOfSpelling spelling (Ok script) = spelling ≡ Written script
 IsAnswerOfSpelling spelling (Err (Syntax k)) = spelling ≡ NoForm k

@@ -26,7 +26,7 @@ pub enum RunFault {
     /// The first cause of the script.
     #[error("a line has a cause")]
     Script(Cause),
-    /// Want of memory, which no clause ties to an event.
+    /// Memory ran out. No clause says when it does.
     #[error("out of memory")]
     Memory,
 }

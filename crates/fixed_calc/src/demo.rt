@@ -39,7 +39,7 @@ impl Script {
         &self.bytes
     }
 
-    /// The bytes, for good. It takes no memory.
+    /// Turns the script into its bytes. It takes no memory.
     pub fn into_bytes(self) -> Vec<u8>
         ensures { result.items ≡ self }
     {
@@ -127,9 +127,9 @@ fn push_line(script: &mut Vec<u8>, draw: u64) -> Result<(), AllocError>
     }
 }
 
-/// The script of a demonstration of so many lines, or want of memory: a header of eight registers of 64
-/// bits with 32 fraction bits, and lines that a generator of numbers draws. Condition: `lines` is from 1 to
-/// 1,000,000.
+/// The script of a demonstration: a header of eight registers of 64 bits with 32 fraction bits, and
+/// so many lines that a generator of numbers draws. AllocError says that memory ran out. Condition:
+/// `lines` is from 1 to 1,000,000.
 pub fn demo_script(alloc: Global, lines: u32) -> Result<Script, AllocError>
     requires some { 1 ≤ lines }
     requires most { lines ≤ most_lines }

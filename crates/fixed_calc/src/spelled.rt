@@ -13,13 +13,13 @@ use fixed_text::piece_end;
 use std::alloc::{AllocError, Global};
 use thiserror::Error;
 
-/// Why a script is not spelled out (this project's own).
+/// Why a script is not spelled out.
 #[derive(Debug, PartialEq, Eq, Drop, Error)]
 pub enum ExplicitFault {
     /// The piece of that number is the first that is no header or no line.
     #[error("line {0}: syntax")]
     Syntax(u64),
-    /// Want of memory.
+    /// Memory ran out.
     #[error("out of memory")]
     Memory,
 }
@@ -111,10 +111,10 @@ fn spell_lines(script: &mut Vec<u8>, lines: &[u8]) -> Result<(), ExplicitFault>
     Ok(())
 }
 
-/// The script in which each line that may name a rounding does: its default where it names none (this
-/// project's own). `Syntax` with the number of the first piece that is no header or no line, where there is
-/// one, and 1 for no bytes at all; want of memory may come in the place of either, and nothing is handed out
-/// then.
+/// The script in which each line that may name a rounding does: its default where it names none.
+/// `Syntax` with the number of the first piece that is no header or no line, where there is one,
+/// and 1 for no bytes at all. A report that memory ran out may come in place of either; then
+/// nothing is handed out.
 pub fn explicit(alloc: Global, script: &[u8]) -> Result<Script, ExplicitFault>
     ensures { IsAnswerOfSpelling (spelled script.now) result }
 {

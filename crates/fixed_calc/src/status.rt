@@ -20,7 +20,7 @@ pub enum Status {
     WriteFault,
     /// More than 67,108,864 bytes were read.
     TooLong,
-    /// Want of memory. The sink took a prefix of the output, or of the summary.
+    /// Memory ran out. The sink took a prefix of the output, or of the summary.
     Memory,
 }
 

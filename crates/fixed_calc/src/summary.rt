@@ -51,7 +51,7 @@ fn summary_of(lines: u32, answers: &[u8]) -> ShortText
     summary_text(lines, absent, verdicts)
 }
 
-/// Makes the script of so many lines, runs it and sums up its answers; or want of memory.
+/// Makes the script of so many lines, runs it and sums up its answers; or says that memory ran out.
 pub(crate) fn demo_summary(alloc: Global, lines: u32) -> Result<ShortText, AllocError>
     requires some { 1 ≤ lines }
     requires most { lines ≤ most_lines }

@@ -129,10 +129,11 @@ fn status_of<S: Source, K: Sink>(
 /// the register machine of this crate's definitions, in which each line takes the exact number of its
 /// operation and projects it by its policy.
 ///
-/// They say too which calls are made, as far as source, sink and errors tell what a call does. Each read
-/// goes into a buffer of 4,096 bytes. A read that gave some bytes is followed by another, unless the limit
-/// is passed or the status is `Memory`; none follows the end of the input or a failed read. Each write
-/// offers all that is left of the output or the line, where some is; none follows a refused one.
+/// They say too which calls are made, as far as source, sink and errors say what a call does. Each
+/// read goes into a buffer of 4,096 bytes. A read that gave some bytes is followed by another,
+/// unless the limit is passed or the status is `Memory`; none follows the end of the input or a
+/// failed read. Each write offers all that is left of the output or the line, where some is; none
+/// follows a refused one.
 pub fn calc_main<S: Source, K: Sink, E: Sink>(
     alloc: Global,
     words: &[String],

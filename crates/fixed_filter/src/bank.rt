@@ -45,8 +45,8 @@ impl<T: Word> Bank<T> {
     }
 
     /// Adds a channel with these taps, the newest sample's first, and a past of one zero for each. Its number is
-    /// how many channels there were. AllocError is want of memory, and the bank is then as before. Condition:
-    /// there is a tap.
+    /// how many channels there were. AllocError says that memory ran out, and the bank is then as
+    /// before. Condition: there is a tap.
     pub fn add_channel(&mut self, taps: &[T]) -> Result<(), AllocError>
         requires { 0 < length taps.now }
         ensures added { OnOk result (self.new ≡ with_channel (fresh T.ZERO taps.now) self.old) }

@@ -11,7 +11,7 @@ pub enum FilterFault {
     /// The piece has the form, and a number of it is out of range.
     #[error("a number of piece {0} is out of range")]
     OutOfRange(u64),
-    /// Want of memory, which no clause ties to an event.
+    /// Memory ran out. No clause says when it does.
     #[error("out of memory")]
     Memory,
 }

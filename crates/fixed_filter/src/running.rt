@@ -255,7 +255,7 @@ fn run_at<T: Word>(alloc: Global, header: Header, lines: &[u8]) -> Result<Output
     }
 }
 
-/// The lines after the header, at the word of its name.
+/// The lines after the header, with the word that the header names.
 fn run_word(alloc: Global, header: Header, lines: &[u8]) -> Result<Output, FilterFault>
     ensures { IsAnswerOfFilter (then_by 1 (started (is_signed header.word) (width header.word) (record
         { out_frac = header.out; coef_frac = header.coef; sample_frac = header.sample }))
@@ -278,7 +278,7 @@ fn run_word(alloc: Global, header: Header, lines: &[u8]) -> Result<Output, Filte
 /// a sample and print the bits of its output, or `overflow J I T` with the number of this channel's sample and
 /// the tap, both from 0. Otherwise the first cause, with the number of its piece: `Syntax` where the piece lacks
 /// the form, also `taps` after a sample, and `OutOfRange` where a number is out of range or no such channel is
-/// there. Want of memory may come in the place of either, and nothing is handed out then.
+/// there. A report that memory ran out may come in place of either; then nothing is handed out.
 pub fn filter_run(alloc: Global, script: &[u8]) -> Result<Output, FilterFault>
     ensures { IsAnswerOfFilter (filter_output script.now) result }
 {

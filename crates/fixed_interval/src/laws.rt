@@ -34,8 +34,8 @@ pub fn inclusion_law()
     ensures root { (f : ℕ) → IsMonotoneOfOne (λ a. root_ends a f) }
 {}
 
-/// No interval is narrower that has all that an operation makes of the numbers in two: each that has it has
-/// the operation's ends.
+/// No narrower interval holds all that an operation makes of the numbers in two intervals: each
+/// that holds all of it also holds the operation's ends.
 pub fn tightness_law()
     ensures sum { IsTight sum_ends HoldsSums }
     ensures difference { IsTight difference_ends HoldsDifferences }

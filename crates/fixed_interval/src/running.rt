@@ -54,7 +54,7 @@ impl<T: Word> Model for IntervalRun<T> {
     ghost invariant = { λ r. r.frac ≤ T.BITS };
 }
 
-/// Prints an interval: both ends, parted by one space, and a newline.
+/// Prints an interval: both ends, separated by one space, and a newline.
 fn append_ends<T: Word>(output: &mut Output, interval: &Interval<T>) -> Result<(), AllocError>
     ensures { OnOk result (output.new ≡ output.old ++ ends_text (ends_of T.value interval.now)) }
 {
@@ -247,7 +247,7 @@ fn run_at<T: Word>(
     }
 }
 
-/// The lines after the header, at the word of that name.
+/// The lines after the header, with the word of that name.
 fn run_word(alloc: Global, header: Header, lines: &[u8]) -> Result<Output, IntervalFault>
     ensures { IsAnswerOfInterval (then_by 1
         (started (is_signed header.word) (width header.word) header.frac header.count)
@@ -271,8 +271,8 @@ fn run_word(alloc: Global, header: Header, lines: &[u8]) -> Result<Output, Inter
 /// `iD mul iA iB`, `iD div iA iB` and `iD sqrt iA` give it what the operation makes of registers, which are read
 /// first. A line prints the ends, or `none` where there are none that fit, and then the register stays. Otherwise
 /// the first cause, with the number of its piece: `Syntax` where the piece lacks the form, and `OutOfRange` where a
-/// number is out of range, also at no register or above 1,000,000 and at ends out of order. Want of memory may come in
-/// the place of either, and nothing is handed out then.
+/// number is out of range, also at no register or above 1,000,000 and at ends out of order. A
+/// report that memory ran out may come in place of either; then nothing is handed out.
 pub fn interval_run(alloc: Global, script: &[u8]) -> Result<Output, IntervalFault>
     ensures { IsAnswerOfInterval (interval_output script.now) result }
 {

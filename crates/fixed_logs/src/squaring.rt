@@ -1,4 +1,4 @@
-//! Logarithms by repeated squaring of the base.
+//! Logarithms by repeated squaring of the base: the crate's, counted.
 
 ghost use Rattle.std.specs.Prelude.{◌≡◌, ◌≢◌, ◌+◌, ◌*◌, ◌^◌, ◌<◌, ◌≤◌, ℕ, pos, nat_abs};
 ghost use Rattle.fixed_word.specs.Ticks.{RisesAtMost};
@@ -94,7 +94,7 @@ fn greatest_product<L: Ledger, D: Digits<L>>(val: D, base: D, steps: &mut Steps<
 }
 
 /// The k with `base^k <= val < base^(k+1)`, for a whole number `val` that is not 0; 0 where the base
-/// exceeds the word. The count of steps rises by at most `4 log2(n) + 4` (the crate's, counted).
+/// exceeds the word. The count of steps rises by at most `4 log2(n) + 4`.
 pub fn int_part<L: Ledger, D: Digits<L>>(val: D, base: Base, steps: &mut Steps<L>) -> i32
     requires { D.value val ≢ pos 0 }
     ensures value { IsLog (nat_abs (D.value val)) 0 base result }
@@ -111,7 +111,7 @@ pub fn int_part<L: Ledger, D: Digits<L>>(val: D, base: Base, steps: &mut Steps<L
 }
 
 /// The k, which is below 0, with `base^k <= val / 2^n < base^(k+1)`, for `val` that is not 0; -1 where
-/// the base exceeds the word. The count of steps rises by at most `4 log2(n) + 4` (the crate's, counted).
+/// the base exceeds the word. The count of steps rises by at most `4 log2(n) + 4`.
 pub fn frac_part<L: Ledger, D: Digits<L>>(val: D, base: Base, steps: &mut Steps<L>) -> i32
     requires { D.value val ≢ pos 0 }
     ensures value { IsLog (nat_abs (D.value val)) D.BITS base result }

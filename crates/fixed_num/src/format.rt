@@ -162,8 +162,8 @@ impl<T: RawWord, const F: u32> Default for Fixed<T, F> {
     }
 }
 
-/// The constants of a format (the crate's). They stand in a trait, since contracts see no inherent
-/// constant of a generic type.
+/// The constants of a format. They stand in a trait, since contracts see no inherent constant of a
+/// generic type.
 pub trait Constants: Sized {
     /// The number 0.
     const ZERO: Self;

@@ -53,8 +53,8 @@ fn above_zero<T: Word>(bits: T) -> T::Unsigned
 }
 
 impl<T: Word, const F: u32> Fixed<T, F> {
-    /// The logarithm to the base 2, rounded down: the k with `2^k <= bits / 2^F < 2^(k+1)` (the
-    /// crate's). Conditions: the number is above 0, and `F` is at most n.
+    /// The logarithm to the base 2, rounded down: the k with `2^k <= bits / 2^F < 2^(k+1)`.
+    /// Conditions: the number is above 0, and `F` is at most n.
     pub fn int_log2(self) -> i32
         requires above_zero { pos 0 <ℤ T.value self.bits }
         requires fraction { F ≤ T.BITS }
@@ -63,8 +63,8 @@ impl<T: Word, const F: u32> Fixed<T, F> {
         self.int_log(2)
     }
 
-    /// The logarithm to the base ten, rounded down: the k with `10^k <= bits / 2^F < 10^(k+1)` (the
-    /// crate's). Conditions: the number is above 0, and `F` is at most n.
+    /// The logarithm to the base ten, rounded down: the k with `10^k <= bits / 2^F < 10^(k+1)`.
+    /// Conditions: the number is above 0, and `F` is at most n.
     pub fn int_log10(self) -> i32
         requires above_zero { pos 0 <ℤ T.value self.bits }
         requires fraction { F ≤ T.BITS }
@@ -73,8 +73,8 @@ impl<T: Word, const F: u32> Fixed<T, F> {
         log10_of(above_zero(self.bits), F, &mut Steps::new(Silent::new()))
     }
 
-    /// The logarithm to a base, rounded down: the k with `base^k <= bits / 2^F < base^(k+1)` (the
-    /// crate's). Conditions: the number is above 0, `F` is at most n, and the base is at least 2.
+    /// The logarithm to a base, rounded down: the k with `base^k <= bits / 2^F < base^(k+1)`.
+    /// Conditions: the number is above 0, `F` is at most n, and the base is at least 2.
     pub fn int_log(self, base: u32) -> i32
         requires above_zero { pos 0 <ℤ T.value self.bits }
         requires fraction { F ≤ T.BITS }
@@ -103,8 +103,8 @@ impl<T: Word, const F: u32> Fixed<T, F> {
         }
     }
 
-    /// The logarithm to the base 2, rounded down; None exactly where the number is not above 0 (the
-    /// crate's). Condition: `F` is at most n.
+    /// The logarithm to the base 2, rounded down; None exactly where the number is not above 0.
+    /// Condition: `F` is at most n.
     pub fn checked_int_log2(self) -> Option<i32>
         requires { F ≤ T.BITS }
         ensures none { IsNone result ↔ (T.value self.bits ≤ℤ pos 0) }
@@ -117,8 +117,8 @@ impl<T: Word, const F: u32> Fixed<T, F> {
         }
     }
 
-    /// The logarithm to the base ten, rounded down; None exactly where the number is not above 0 (the
-    /// crate's). Condition: `F` is at most n.
+    /// The logarithm to the base ten, rounded down; None exactly where the number is not above 0.
+    /// Condition: `F` is at most n.
     pub fn checked_int_log10(self) -> Option<i32>
         requires { F ≤ T.BITS }
         ensures none { IsNone result ↔ (T.value self.bits ≤ℤ pos 0) }
@@ -132,7 +132,7 @@ impl<T: Word, const F: u32> Fixed<T, F> {
     }
 
     /// The logarithm to a base, rounded down; None exactly where the number is not above 0 or the base
-    /// is below 2 (the crate's). Condition: `F` is at most n.
+    /// is below 2. Condition: `F` is at most n.
     pub fn checked_int_log(self, base: u32) -> Option<i32>
         requires { F ≤ T.BITS }
         ensures none { IsNone result ↔ ((T.value self.bits ≤ℤ pos 0) ⊎ (base < 2)) }

@@ -1,8 +1,9 @@
 //! Operations of fixed-point numbers by their plain names, and sums and products of slices.
 //!
-//! Each call gives the number of its row under the condition that the row is defined and its number fits.
-//! The operators between numbers stand with the number type. Below, n is the width of the word, and "the
-//! crate" is the Rust crate `fixed`. No call takes memory.
+//! Each call gives the number of its row under the condition that the row is defined and its number
+//! fits. The calls are those of the same names of the Rust crate `fixed`, below "the crate"; the
+//! operators between numbers stand with the number type. Below, n is the width of the word. No call
+//! takes memory.
 #![tactic(auto)]
 
 pub mod laws;

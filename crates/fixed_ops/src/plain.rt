@@ -12,7 +12,7 @@ use fixed_kernel::{
 use fixed_num::{Fixed, Held, Number, exact_number};
 use fixed_word::{RawWord, SignedWord, UnsignedWord, Word};
 
-/// The plain forms of all numbers (the crate's). Answers are bits, in units of `2^-F`; an integer
+/// The plain forms of all numbers. Answers are bits, in units of `2^-F`; an integer
 /// operand is a whole number. A call that uses F has the condition that it is at most the width.
 pub trait Plain: Number {
     /// One over the number, rounded toward zero; condition that the number is not zero and the
@@ -120,7 +120,7 @@ impl<T: Word, const F: u32> Plain for Fixed<T, F> {
     }
 }
 
-/// The plain forms of signed numbers (the crate's).
+/// The plain forms of signed numbers.
 pub trait PlainSigned: Plain {
     /// The magnitude; condition that the answer fits.
     fn abs(self) -> Self
@@ -165,7 +165,7 @@ impl<T: SignedWord, const F: u32> PlainSigned for Fixed<T, F> {
     }
 }
 
-/// The plain forms of unsigned numbers (the crate's).
+/// The plain forms of unsigned numbers.
 pub trait PlainUnsigned: Plain {
     /// The least power of two, in units, that is at least the number; condition that the answer
     /// fits.

@@ -15,7 +15,7 @@ use fixed_kernel::{
 use fixed_num::{Fixed, Held, Number};
 use fixed_word::{RawWord, SignedWord, UnsignedWord, Word};
 
-/// The `checked_` forms of all numbers (the crate's). Answers are bits, in units of `2^-F`; an integer
+/// The `checked_` forms of all numbers. Answers are bits, in units of `2^-F`; an integer
 /// operand is a whole number. A call that uses F has the condition that it is at most the width.
 pub trait Checked: Number {
     /// The negated number; None exactly where it does not fit.
@@ -252,7 +252,7 @@ impl<T: Word, const F: u32> Checked for Fixed<T, F> {
     }
 }
 
-/// The `checked_` forms of signed numbers (the crate's).
+/// The `checked_` forms of signed numbers.
 pub trait CheckedSigned: Checked {
     /// The magnitude; None exactly where it does not fit.
     fn checked_abs(self) -> Option<Self>
@@ -294,7 +294,7 @@ impl<T: SignedWord, const F: u32> CheckedSigned for Fixed<T, F> {
     }
 }
 
-/// The `checked_` forms of unsigned numbers (the crate's).
+/// The `checked_` forms of unsigned numbers.
 pub trait CheckedUnsigned: Checked {
     /// The least power of two, in units, that is at least the number; None exactly where it does
     /// not fit.

@@ -1,9 +1,10 @@
 //! The policies that answer every number: checked, overflowing and wrapping.
 //!
 //! The functions `.._of` are those of [`fixed_word`](fixed_word), offered again: they read an
-//! [`Outcome`](fixed_word::Outcome). The traits have the typed calls of [`Fixed`](fixed_num::Fixed), each
-//! named by its policy and its operation. Below, n is the width of the word, and "the crate" is the Rust
-//! crate `fixed`. No function takes memory.
+//! [`Outcome`](fixed_word::Outcome). The traits have the typed calls of
+//! [`Fixed`](fixed_num::Fixed), each named by its policy and its operation. The calls are those of
+//! the same names of the Rust crate `fixed`, but where one is said to be this project's own. Below,
+//! n is the width of the word. No function takes memory.
 #![tactic(auto)]
 
 mod checked;

@@ -15,7 +15,7 @@ use fixed_kernel::{
 use fixed_num::{Fixed, Held, Number};
 use fixed_word::{RawWord, SignedWord, UnsignedWord, Word};
 
-/// The `overflowing_` forms of all numbers (the crate's). Answers are bits, in units of `2^-F`; an integer
+/// The `overflowing_` forms of all numbers. Answers are bits, in units of `2^-F`; an integer
 /// operand is a whole number. A call that uses F has the condition that it is at most the width.
 pub trait Overflowing: Number {
     /// The negated number, wrapped, and whether it does not fit.
@@ -192,7 +192,7 @@ impl<T: Word, const F: u32> Overflowing for Fixed<T, F> {
     }
 }
 
-/// The `overflowing_` forms of signed numbers (the crate's).
+/// The `overflowing_` forms of signed numbers.
 pub trait OverflowingSigned: Overflowing {
     /// The magnitude, wrapped, and whether it does not fit.
     fn overflowing_abs(self) -> (Self, bool)
@@ -234,7 +234,7 @@ impl<T: SignedWord, const F: u32> OverflowingSigned for Fixed<T, F> {
     }
 }
 
-/// The `overflowing_` forms of unsigned numbers (the crate's).
+/// The `overflowing_` forms of unsigned numbers.
 pub trait OverflowingUnsigned: Overflowing {
     /// The sum with a signed number, wrapped, and whether it does not fit.
     fn overflowing_add_signed(self, rhs: Self::Signed) -> (Self, bool)

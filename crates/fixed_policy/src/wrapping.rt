@@ -15,7 +15,7 @@ use fixed_kernel::{
 use fixed_num::{Fixed, Held, Number};
 use fixed_word::{RawWord, SignedWord, UnsignedWord, Word};
 
-/// The `wrapping_` forms of all numbers (the crate's). Answers are bits, in units of `2^-F`; an integer
+/// The `wrapping_` forms of all numbers. Answers are bits, in units of `2^-F`; an integer
 /// operand is a whole number. A call that uses F has the condition that it is at most the width.
 pub trait Wrapping: Number {
     /// The negated number, wrapped.
@@ -182,7 +182,7 @@ impl<T: Word, const F: u32> Wrapping for Fixed<T, F> {
     }
 }
 
-/// The `wrapping_` forms of signed numbers (the crate's).
+/// The `wrapping_` forms of signed numbers.
 pub trait WrappingSigned: Wrapping {
     /// The magnitude, wrapped.
     fn wrapping_abs(self) -> Self
@@ -224,7 +224,7 @@ impl<T: SignedWord, const F: u32> WrappingSigned for Fixed<T, F> {
     }
 }
 
-/// The `wrapping_` forms of unsigned numbers (the crate's).
+/// The `wrapping_` forms of unsigned numbers.
 pub trait WrappingUnsigned: Wrapping {
     /// The least power of two, in units, that is at least the number, wrapped.
     fn wrapping_next_power_of_two(self) -> Self

@@ -152,7 +152,7 @@ fn run_at<T: Word>(alloc: Global, frac: u128, lines: &[u8]) -> Result<Output, Po
     }
 }
 
-/// The lines after the header, at the word of that name.
+/// The lines after the header, with the word of that name.
 fn run_word(alloc: Global, word: WordName, frac: u128, lines: &[u8]) -> Result<Output, PolyFault>
     ensures { IsAnswerOfPoly (then_by 1 (started (is_signed word) (width word) frac)
         (λ state. lines_from poly_line state 2 (pieces lines.now))) result }
@@ -173,7 +173,8 @@ fn run_word(alloc: Global, word: WordName, frac: u128, lines: &[u8]) -> Result<O
 /// `coefs N N ..`, at least one number, each take the place of the polynomial before, and lines `at N`
 /// print the bits of its value at N, or `overflow I`. Otherwise the first cause, with the number of its piece:
 /// `Syntax` where the piece lacks the form, also `at` before the first `coefs`, and `OutOfRange` where a number
-/// is out of range. Want of memory may come in the place of either, and nothing is handed out then.
+/// is out of range. A report that memory ran out may come in place of either; then nothing is
+/// handed out.
 pub fn poly_run(alloc: Global, script: &[u8]) -> Result<Output, PolyFault>
     ensures { IsAnswerOfPoly (poly_output script.now) result }
 {

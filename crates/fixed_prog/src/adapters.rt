@@ -1,4 +1,5 @@
-//! Standard input, output and error as a source, a sink and errors. They tell no bytes. This project's own.
+//! Standard input, output and error as a source, a sink and errors. They do not say which bytes are
+//! left or taken. This project's own.
 
 ghost use Rattle.std.specs.Prelude.{◌≡◌, ◌≤◌, ◌<◌, None, IfErr, IfOk, length, take};
 ghost use Rattle.std.specs.Io.KnownBytes.{Appends, ReadConsumes, WriteAppends};
@@ -41,7 +42,7 @@ impl<R: Read> Source for StdSource<R> {
         ensures bytes { ReadConsumes None None result buf.new }
         ensures faults { TellsFaults self.old.faults self.new.faults result }
         ensures raised { IfErr result (λ _. self.new.faults ≡ next_count self.old.faults) }
-        // What the reader gave, where it tells its bytes.
+        // What the reader gave, where it says which bytes it has.
         ensures given { ReadConsumes
             (R.remaining self.old.device) (R.remaining self.new.device) result buf.new }
     {
@@ -93,7 +94,7 @@ impl<W: Write> Sink for StdSink<W> {
             (record { taken = None; faults = self.new.faults; shortages = 0 }) result }
         ensures refused { IfErr result (λ refusal. refusal ≡ Refusal.Failed) }
         ensures raised { IfErr result (λ _. self.new.faults ≡ next_count self.old.faults) }
-        // What the writer took, where it tells its bytes.
+        // What the writer took, where it says which bytes it has.
         ensures taken { IfOk result (λ k. Appends
             (W.contents self.old.device) (W.contents self.new.device) (take k bytes.now)) }
     {
@@ -148,7 +149,7 @@ impl<W: Write> Sink for StdErrors<W> {
             (record { taken = None; faults = self.new.faults; shortages = 0 }) result }
         ensures refused { IfErr result (λ refusal. refusal ≡ Refusal.Failed) }
         ensures raised { IfErr result (λ _. self.new.faults ≡ next_count self.old.faults) }
-        // What the writer took, where it tells its bytes.
+        // What the writer took, where it says which bytes it has.
         ensures taken { IfOk result (λ k. Appends
             (W.contents self.old.device) (W.contents self.new.device) (take k bytes.now)) }
     {

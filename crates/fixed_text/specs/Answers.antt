@@ -6,13 +6,13 @@ use Rattle.fixed_text.specs.declared.fault.RunFault.{RunFault}
 use Rattle.fixed_text.specs.declared.fault.RunFault.TheVariants.{Syntax, OutOfRange, Memory}
 use Rattle.fixed_text.specs.Runs.{Reading, Malformed, Misfit, Read, Ending, Printed, NoForm, NoRange}
 
--- want of memory may come at any time
+-- why nothing was read; that memory ran out may be said of any piece
 abbrev pub IsRefusal : {A : Type 0} → Reading A → Refusal → Type 0
 IsRefusal reading Unformed = reading ≡ Malformed
 IsRefusal reading Unfit = reading ≡ Misfit
 IsRefusal reading Wanting = Unit {0}
 
--- what is read is held so that the view shows it
+-- what was read, as the view shows it, or why nothing was
 abbrev pub IsAnswerOfReading : {A B : Type 0} → (B → A) → Reading A → Result B Refusal → Type 0
 IsAnswerOfReading view reading (Ok x) = reading ≡ Read (view x)
 IsAnswerOfReading view reading (Err refusal) = IsRefusal reading refusal

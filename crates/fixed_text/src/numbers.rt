@@ -77,8 +77,9 @@ pub fn read_word<T: Word>(token: &[u8]) -> Result<T, Refusal>
     }
 }
 
-/// The words of the numbers of these tokens, in order. Refused as unformed where a token is no decimal,
-/// and otherwise as unfit where a number does not fit; want of memory may come in the place of either.
+/// The words of the numbers of these tokens, in order. Refused as unformed where a token is no
+/// decimal, and otherwise as unfit where a number does not fit. In place of any answer it may say
+/// that memory ran out.
 pub fn read_words<T: Word>(alloc: Global, mut tokens: Tokens<'_>) -> Result<Vec<T>, Refusal>
     ensures { IsAnswerOfReading (λ words. map T.value words.items)
         (fitting_numbers T.SIGNED T.BITS (wholes_in tokens.entry)) result }

@@ -32,7 +32,8 @@ impl Output {
         }
     }
 
-    /// Adds the bytes at the end. AllocError is want of memory, and the bytes are then as before.
+    /// Adds the bytes at the end. AllocError says that memory ran out, and the bytes are then as
+    /// before.
     pub fn append(&mut self, bytes: &[u8]) -> Result<(), AllocError>
         ensures added { OnOk result (self.new ≡ self.old ++ bytes.now) }
         ensures kept { OnErr result (self.new ≡ self.old) }
@@ -40,8 +41,8 @@ impl Output {
         self.bytes.extend_from_slice(bytes)
     }
 
-    /// Adds the decimal of a natural number at the end. AllocError is want of memory, and the bytes are
-    /// then as before.
+    /// Adds the decimal of a natural number at the end. AllocError says that memory ran out, and
+    /// the bytes are then as before.
     pub fn append_natural(&mut self, n: u64) -> Result<(), AllocError>
         ensures added { OnOk result (self.new ≡ self.old ++ natural_text n) }
         ensures kept { OnErr result (self.new ≡ self.old) }
@@ -51,8 +52,8 @@ impl Output {
         self.append(&buffer[start..])
     }
 
-    /// Adds the decimal of a word's value at the end. AllocError is want of memory, and a minus may stand
-    /// at the end then.
+    /// Adds the decimal of a word's value at the end. AllocError says that memory ran out, and a
+    /// minus may stand at the end then.
     pub fn append_word<T: Word>(&mut self, word: T) -> Result<(), AllocError>
         ensures { OnOk result (self.new ≡ self.old ++ whole_text (T.value word)) }
     {

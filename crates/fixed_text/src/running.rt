@@ -16,8 +16,9 @@ pub trait Run: Sized + Drop {
     /// What a line is to a state: the state that it leaves and the bytes that it prints, or its cause.
     ghost line: { Self → List ℕ → Reading (Self × List ℕ) };
 
-    /// Moves by a line, which comes without its newline, and adds what it prints. Refused as unformed or
-    /// unfit exactly where the line is so to the state; want of memory may come in the place of any answer.
+    /// Moves by a line, which comes without its newline, and adds what it prints. Refused as
+    /// unformed or unfit exactly where the line is so to the state. In place of any answer it may
+    /// say that memory ran out.
     fn step(&mut self, bytes: &[u8], output: &mut Output) -> Result<(), Refusal>
         ensures { IsStepOfLine (line self.old bytes.now) result self.new output.old output.new };
 }
@@ -59,8 +60,8 @@ fn line_piece<R: Run>(
     }
 }
 
-/// What the lines of a script print, from piece 2 on, or their first cause; want of memory may come in the
-/// place of either.
+/// What the lines of a script print, from piece 2 on, or their first cause. In place of either it
+/// may say that memory ran out.
 pub fn run_lines<R: Run>(alloc: Global, mut run: R, lines: &[u8]) -> Result<Output, RunFault>
     ensures { IsAnswerOfRun (lines_from R.line run 2 (pieces lines.now)) result }
 {

@@ -11,7 +11,7 @@ ghost use Rattle.std.proofs.Common.{inl, inr};
 use crate::ledger::{Ledger, Steps};
 use crate::word::Valued;
 
-/// An unsigned word of n bits. Each call is one step in a ledger (this project's own).
+/// An unsigned word of n bits. Each call is one step in a ledger.
 pub trait Digits<L: Ledger>: Valued {
     /// The word of value 0.
     const ZERO: Self;

@@ -8,7 +8,7 @@ ghost use Rattle.fixed_word.specs.inside.WordLaws.{signed_eq, signed_partial_ord
 
 use crate::word::Valued;
 
-/// An integer of n bits, in which words are multiplied and divided (this project's own).
+/// An integer of n bits, in which words are multiplied and divided.
 pub trait Integer: Valued + Eq + PartialOrd {
     ghost SIGNED: { Bool };
 

@@ -1,7 +1,8 @@
 //! Words: the integers of 8, 16, 32 and 64 bits in which numbers are kept, seen as whole numbers.
 //!
 //! A word of n bits holds the whole numbers from its `MIN` to its `MAX`. A number that may not fit
-//! is answered as an [`Outcome`]: the word that is left of it, and the side on which it lies.
+//! is answered as an [`Outcome`]: the word that is left of it, and the side on which it lies. All
+//! items are this project's own.
 #![tactic(auto)]
 
 mod arithmetic;

@@ -5,7 +5,7 @@ ghost use Rattle.fixed_word.specs.Format.{InRange};
 
 use crate::word::{RawWord, Valued, Word};
 
-/// A word of 8 to 32 bits (this project's own).
+/// A word of 8 to 32 bits.
 pub trait Narrow: Word {
     /// The word of twice the width and of the same sign.
     type Double: Word;

@@ -1,4 +1,4 @@
-//! What each policy makes of the number that an outcome stands for, whichever that is (this project's own).
+//! What each policy makes of the number that an outcome stands for, whichever that is.
 
 ghost use Rattle.std.specs.Prelude.{◌≡◌, ℤ, Some, option_map};
 ghost use Rattle.fixed_word.specs.declared.outcome.Side.TheVariants.{Above, Below};

@@ -1,6 +1,6 @@
 //! Roundings by name.
 
-/// How a number between two units is rounded (this project's own).
+/// How a number between two units is rounded.
 #[derive(Clone, Copy, Debug, PartialEq, Eq)]
 pub enum Rounding {
     /// To the unit below.

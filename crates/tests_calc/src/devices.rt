@@ -1,11 +1,12 @@
-//! A source and a sink that fail from some call on, and a source without an end. They tell no bytes.
+//! A source and a sink that fail from some call on, and a source without an end. They do not say
+//! which bytes are left or taken.
 
 ghost use Rattle.std.specs.Prelude.{◌≡◌, None};
 
 use fixed_calc::{Failed, Refusal, Sink, Source};
 
 /// A source or a sink of one byte a call, which fails at each call after the first ones. As a source it
-/// gives the letter i. It tells no bytes.
+/// gives the letter i.
 #[derive(Drop)]
 pub struct Failing {
     calls: u64,
@@ -58,7 +59,7 @@ impl Sink for Failing {
     }
 }
 
-/// A source that fills each buffer and has no end. It tells no bytes, and never fails.
+/// A source that fills each buffer and has no end. It never fails.
 #[derive(Drop)]
 pub struct Endless;
 

@@ -98,7 +98,8 @@ fn multiply_adds_that_fit(rt: HostRuntime) {
     assert_eq!(rt; fitting_scaled(x, y, FixedU8::<4> { bits: 1 }), (x, x));
 }
 
-/// The four sums with a product, as answers, and where they are stored beside what the call tells.
+/// The four sums with a product, as answers, and where they are stored beside what the call
+/// answers.
 fn raised<const A: u32, const B: u32, N>(
     c: N,
     a: Fixed<N::Bits, A>,

@@ -4,7 +4,7 @@ use Rattle.fixed_text.specs.declared.fault.RunFault.{RunFault}
 use Rattle.fixed_text.specs.declared.fault.RunFault.TheVariants.{Syntax, OutOfRange, Memory}
 use Rattle.fixed_text.specs.Runs.{Reading, Malformed, Misfit, Read}
 
--- piece k lacks the form, or has a number out of range; want of memory may come at any time
+-- piece k lacks the form, or has a number out of range; or memory ran out
 abbrev pub IsFaultOfPiece : {A : Type 0} → ℕ → Reading A → RunFault → Type 0
 IsFaultOfPiece k reading (Syntax j) = (j ≡ k) × (reading ≡ Malformed)
 IsFaultOfPiece k reading (OutOfRange j) = (j ≡ k) × (reading ≡ Misfit)
