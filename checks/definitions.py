@@ -350,7 +350,7 @@ def false_counts(reading):
 
 
 def listed_file(reading, path, public):
-    """The lines that tell of one file: what public clauses reach in it, and what they do not."""
+    """The lines on one file: what public clauses reach in it, and what they do not."""
     places = [place for place, found in reading.definitions.items() if found.path == path and found.lines]
     reached = [place for place in places if place in public]
     others = [place for place in places if place not in public]

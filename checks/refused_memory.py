@@ -13,7 +13,7 @@ from pathlib import Path
 
 PROGRAM = Path(__file__).resolve().parent.parent / "crates" / "fixed_prog"
 SCRIPT = "u8 4 4\nr0 set 255\nr1 set 32\nr0 checked mul r0 r1\nr1 wrapping add r0 r1\n"
-WANT_OF_MEMORY = 6
+MEMORY_RAN_OUT = 6
 MORE_THAN_ALL = 1000
 
 
@@ -25,8 +25,8 @@ def tried(refused, words, script):
 
 
 def is_named(run, fine):
-    """Whether a run is the one without a refusal, or want of memory with a prefix of its output."""
-    return run == fine or (run[0] == WANT_OF_MEMORY and fine[1].startswith(run[1]))
+    """Whether a run is the one without a refusal, or says that memory ran out with a prefix of its output."""
+    return run == fine or (run[0] == MEMORY_RAN_OUT and fine[1].startswith(run[1]))
 
 
 def all_refused(name, words, script):

@@ -19,7 +19,7 @@ moved_down c a b f g h l =
     let places : pos ((g + h) - f) ≡ (pos (g + h) -ℤ pos f) = omega (arith, ints) in
     ap (exact_add_prod_at c a b) places
 
--- what checked answers tells whether the number fits
+-- what checked answers says whether the number fits
 checked_some : (s : Bool) (n : ℕ) (y z : ℤ) → Some z ≡ checked s n (Some y) → (z ≡ y) × (not (fits s n y) ≡ false)
 checked_some s n y z e = by_test (fits s n y) refl e
   where

@@ -1,4 +1,4 @@
--- What an outcome tells of the number that it stands for.
+-- What an outcome says of the number that it stands for.
 use Rattle.std.proofs.Common.{◌≡◌, ℕ, ℤ, Bool, Some, ap, sym, ◌∙◌, arith}
 use Rattle.std.proofs.lemmas.Int.{ints}
 use Rattle.fixed_word.specs.declared.outcome.Side.TheVariants.{Fits}
