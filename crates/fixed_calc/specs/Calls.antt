@@ -42,11 +42,11 @@ ReadsPastLimit {S} gives s s' = (calls : ℕ) × (before : ℕ) × (count : ℕ)
     × GaveBytes gives calls before s t × (before ≤ limit) × (limit < before + count) × gives t buffer_size (Ok count) s'
 
 -- the reads of a run with this status
-abbrev pub ReadsTell : {S : Type 0} → Reads S → S → S → Status → Type 0
-ReadsTell gives s s' ReadFault = ReadsToFault gives s s'
-ReadsTell gives s s' TooLong = ReadsPastLimit gives s s'
-ReadsTell gives s s' Memory = ReadsSome gives s s' ⊎ ((calls : ℕ) × (total : ℕ) × ReadsToEnd gives calls total s s')
-ReadsTell gives s s' _ = (calls : ℕ) × (total : ℕ) × ReadsToEnd gives calls total s s'
+abbrev pub ReadsOfStatus : {S : Type 0} → Reads S → S → S → Status → Type 0
+ReadsOfStatus gives s s' ReadFault = ReadsToFault gives s s'
+ReadsOfStatus gives s s' TooLong = ReadsPastLimit gives s s'
+ReadsOfStatus gives s s' Memory = ReadsSome gives s s' ⊎ ((calls : ℕ) × (total : ℕ) × ReadsToEnd gives calls total s s')
+ReadsOfStatus gives s s' _ = (calls : ℕ) × (total : ℕ) × ReadsToEnd gives calls total s s'
 
 -- ---- writes
 
@@ -72,13 +72,13 @@ WritesToRefusal {S} gives bytes refusal s s' = (calls : ℕ) × (before : ℕ) �
     × TookBytes gives bytes calls before s t × (before < length bytes) × gives t (drop before bytes) (Err refusal) s'
 
 -- the writes of a run with this status, whose output is bytes of which P holds; with the other statuses there are none
-abbrev pub WritesTell : {S : Type 0} → Writes S → (List ℕ → Type 0) → S → S → Status → Type 0
-WritesTell gives P s s' Done = (bytes : List ℕ) × (calls : ℕ) × P bytes × WritesAll gives bytes calls s s'
-WritesTell gives P s s' WriteFault = (bytes : List ℕ) × P bytes × WritesToRefusal gives bytes RefusedFailed s s'
-WritesTell gives P s s' Memory = (s' ≡ s) ⊎ ((bytes : List ℕ) × P bytes × WritesToRefusal gives bytes RefusedMemory s s')
-WritesTell gives P s s' _ = s' ≡ s
+abbrev pub WritesOfStatus : {S : Type 0} → Writes S → (List ℕ → Type 0) → S → S → Status → Type 0
+WritesOfStatus gives P s s' Done = (bytes : List ℕ) × (calls : ℕ) × P bytes × WritesAll gives bytes calls s s'
+WritesOfStatus gives P s s' WriteFault = (bytes : List ℕ) × P bytes × WritesToRefusal gives bytes RefusedFailed s s'
+WritesOfStatus gives P s s' Memory = (s' ≡ s) ⊎ ((bytes : List ℕ) × P bytes × WritesToRefusal gives bytes RefusedMemory s s')
+WritesOfStatus gives P s s' _ = s' ≡ s
 
 -- the writes of the line for the errors
-abbrev pub LineWritesTell : {S : Type 0} → Writes S → List ℕ → S → S → Type 0
-LineWritesTell gives line s s' =
+abbrev pub WritesOfLine : {S : Type 0} → Writes S → List ℕ → S → S → Type 0
+WritesOfLine gives line s s' =
     ((calls : ℕ) × WritesAll gives line calls s s') ⊎ ((refusal : Refusal) × WritesToRefusal gives line refusal s s')

@@ -24,10 +24,10 @@ ReadWhole None left P = ⊤
 ReadWhole (Some input) left P = (length input ≤ limit) × (left ≡ Some []) × P input
 
 -- where the source says which bytes are left at entry it does so at exit too, and P holds of both
-abbrev pub IfTold : Option (List ℕ) → Option (List ℕ) → (List ℕ → List ℕ → Type 0) → Type 0
-IfTold None left P = ⊤
-IfTold (Some input) None P = ⊥
-IfTold (Some input) (Some rest) P = P input rest
+abbrev pub IfKnown : Option (List ℕ) → Option (List ℕ) → (List ℕ → List ℕ → Type 0) → Type 0
+IfKnown None left P = ⊤
+IfKnown (Some input) None P = ⊥
+IfKnown (Some input) (Some rest) P = P input rest
 
 -- more than the limit was taken
 abbrev pub TookTooMuch : List ℕ → List ℕ → Type 0
@@ -90,7 +90,7 @@ WhenReadFault source source' status =
 -- TooLong: exactly where more than the limit was taken, and the source did not fail
 abbrev pub WhenTooLong : SourceState → SourceState → Status → Type 0
 WhenTooLong source source' status =
-    IfTold source.left source'.left (λ input rest. status ≡ TooLong ↔ TookTooMuch input rest)
+    IfKnown source.left source'.left (λ input rest. status ≡ TooLong ↔ TookTooMuch input rest)
     × (status ≡ TooLong → source'.faults ≡ source.faults)
 
 -- WriteFault: only where the sink's count rose in this call, or stands at its last value;

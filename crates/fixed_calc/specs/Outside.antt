@@ -26,13 +26,13 @@ next_count n = min (n + 1) last_count
 abbrev pub RoseOrLast : ℕ → ℕ → Type 0
 RoseOrLast before now = (before ≤ now) × ((before < now) ⊎ (now ≡ last_count))
 
--- what a read says of the count of faults
-abbrev pub TellsFaults : {T E : Type 0} → ℕ → ℕ → Result T E → Type 0
-TellsFaults before now (Ok _) = now ≡ before
-TellsFaults before now (Err _) = RoseOrLast before now
+-- the count of faults after a read
+abbrev pub FaultsAfterRead : {T E : Type 0} → ℕ → ℕ → Result T E → Type 0
+FaultsAfterRead before now (Ok _) = now ≡ before
+FaultsAfterRead before now (Err _) = RoseOrLast before now
 
--- what a write says of the counts of faults and shortages
-abbrev pub TellsRefusals : {T : Type 0} → SinkState → SinkState → Result T Refusal → Type 0
-TellsRefusals before now (Ok _) = (now.faults ≡ before.faults) × (now.shortages ≡ before.shortages)
-TellsRefusals before now (Err RefusedFailed) = RoseOrLast before.faults now.faults × (before.shortages ≤ now.shortages)
-TellsRefusals before now (Err Memory) = RoseOrLast before.shortages now.shortages × (before.faults ≤ now.faults)
+-- the counts of faults and shortages after a write
+abbrev pub CountsAfterWrite : {T : Type 0} → SinkState → SinkState → Result T Refusal → Type 0
+CountsAfterWrite before now (Ok _) = (now.faults ≡ before.faults) × (now.shortages ≡ before.shortages)
+CountsAfterWrite before now (Err RefusedFailed) = RoseOrLast before.faults now.faults × (before.shortages ≤ now.shortages)
+CountsAfterWrite before now (Err Memory) = RoseOrLast before.shortages now.shortages × (before.faults ≤ now.faults)

@@ -7,7 +7,7 @@
 ghost use Rattle.std.specs.Prelude.{◌≡◌, ◌≤◌, ◌<◌, [], length, min, IfOk, IsErr, IsErrOf, IsTrue, ◌↔◌, OnErr, OnOk, Some};
 ghost use Rattle.std.specs.Io.KnownBytes.{ReadConsumes, WriteAppends};
 ghost use Rattle.fixed_calc.specs.Memory.{MemoryReadGives, MemoryWriteGives, is_listed};
-ghost use Rattle.fixed_calc.specs.Outside.{SinkState, SourceState, TellsFaults, TellsRefusals, next_count};
+ghost use Rattle.fixed_calc.specs.Outside.{SinkState, SourceState, FaultsAfterRead, CountsAfterWrite, next_count};
 
 use crate::copy::copy_front;
 use crate::outside::{Failed, Refusal, Sink, Source};
@@ -62,7 +62,7 @@ impl Source for MemorySource {
     fn read(&mut self, buf: &mut [u8]) -> Result<usize, Failed>
         ensures within { IfOk result (λ k. k ≤ length buf.new) }
         ensures bytes { ReadConsumes (Some self.old.left) (Some self.new.left) result buf.new }
-        ensures faults { TellsFaults self.old.faults self.new.faults result }
+        ensures faults { FaultsAfterRead self.old.faults self.new.faults result }
         ensures gives { MemoryReadGives self.old (length buf.old) result self.new }
         ensures numbered { self.new.calls ≡ next_count self.old.calls }
         ensures failed { IsErr result ↔ IsTrue (is_listed self.old.failing self.new.calls) }
@@ -139,7 +139,7 @@ impl Sink for MemorySink {
         ensures within { IfOk result (λ k. k ≤ length bytes.now) }
         ensures some { 0 < length bytes.now → IfOk result (λ k. 0 < k) }
         ensures bytes { WriteAppends (Some self.old.taken) (Some self.new.taken) result bytes.now }
-        ensures counts { TellsRefusals (⟦<MemorySink as Sink>⟧.state self.old)
+        ensures counts { CountsAfterWrite (⟦<MemorySink as Sink>⟧.state self.old)
             (⟦<MemorySink as Sink>⟧.state self.new) result }
         ensures gives { MemoryWriteGives self.old bytes.now result self.new }
         ensures numbered { self.new.calls ≡ next_count self.old.calls }

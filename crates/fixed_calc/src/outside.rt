@@ -2,7 +2,7 @@
 
 ghost use Rattle.std.specs.Prelude.{◌≤◌, ◌<◌, length, IfOk, List, ℕ, Result};
 ghost use Rattle.std.specs.Io.KnownBytes.{ReadConsumes, WriteAppends};
-ghost use Rattle.fixed_calc.specs.Outside.{SinkState, SourceState, TellsFaults, TellsRefusals};
+ghost use Rattle.fixed_calc.specs.Outside.{SinkState, SourceState, FaultsAfterRead, CountsAfterWrite};
 ghost use Rattle.fixed_calc.specs.declared.outside.Failed.{Failed};
 ghost use Rattle.fixed_calc.specs.declared.outside.Refusal.{Refusal};
 
@@ -34,7 +34,7 @@ pub trait Source {
     fn read(&mut self, buf: &mut [u8]) -> Result<usize, Failed>
         ensures within { IfOk result (λ k. k ≤ length buf.new) }
         ensures bytes { ReadConsumes (state self.old).left (state self.new).left result buf.new }
-        ensures faults { TellsFaults (state self.old).faults (state self.new).faults result }
+        ensures faults { FaultsAfterRead (state self.old).faults (state self.new).faults result }
         ensures gives { read_gives self.old (length buf.old) result self.new };
 }
 
@@ -56,6 +56,6 @@ pub trait Sink {
         ensures some { 0 < length bytes.now → IfOk result (λ k. 0 < k) }
         ensures bytes { WriteAppends
             (state self.old).taken (state self.new).taken result bytes.now }
-        ensures counts { TellsRefusals (state self.old) (state self.new) result }
+        ensures counts { CountsAfterWrite (state self.old) (state self.new) result }
         ensures gives { write_gives self.old bytes.now result self.new };
 }

@@ -2,7 +2,7 @@
 
 ghost use Rattle.std.specs.Prelude.{◌≡◌, ◌≤◌, ◌<◌, [], drop, length, IfErr, IfOk, IsErrOf, IsOk, Some};
 ghost use Rattle.std.specs.Io.KnownBytes.{ReadConsumes, WriteAppends};
-ghost use Rattle.fixed_calc.specs.Outside.{TellsFaults, TellsRefusals, next_count};
+ghost use Rattle.fixed_calc.specs.Outside.{FaultsAfterRead, CountsAfterWrite, next_count};
 
 use crate::copy::copy_front;
 use crate::outside::{Failed, Refusal, Sink, Source};
@@ -33,7 +33,7 @@ impl Source for SureSource {
         ensures within { IfOk result (λ k. k ≤ length buf.new) }
         ensures bytes { ReadConsumes (⟦<SureSource as Source>⟧.state self.old).left
             (⟦<SureSource as Source>⟧.state self.new).left result buf.new }
-        ensures faults { TellsFaults 0 0 result }
+        ensures faults { FaultsAfterRead 0 0 result }
         ensures sure { IsOk result }
     {
         let rest = &self.bytes[self.at..];
@@ -78,7 +78,7 @@ impl Sink for SureSink {
         ensures some { 0 < length bytes.now → IfOk result (λ k. 0 < k) }
         ensures bytes { WriteAppends (⟦<SureSink as Sink>⟧.state self.old).taken
             (⟦<SureSink as Sink>⟧.state self.new).taken result bytes.now }
-        ensures counts { TellsRefusals
+        ensures counts { CountsAfterWrite
             (⟦<SureSink as Sink>⟧.state self.old) (⟦<SureSink as Sink>⟧.state self.new) result }
         ensures sure { IsErrOf result Refusal.Failed → ⊥ }
         ensures short { IfErr result (λ _. (⟦<SureSink as Sink>⟧.state self.new).shortages

@@ -2,7 +2,7 @@
 
 ghost use Rattle.std.specs.Prelude.{◌≡◌, ◌≢◌, ◌≤◌, ◌↔◌, ℕ, []};
 ghost use Rattle.fixed_calc.specs.Headline.{WhenComplete, WhenDemoDone, WhenDemoMemory, WhenDemoWriteFault, WhenDone, IsDemoStatus, IsOutputOf, WritesErrorLine, WhenMemory, WhenReadFault, WhenScript, WhenTooLong, WhenWriteFault, WritesNothing, error_line};
-ghost use Rattle.fixed_calc.specs.Calls.{LineWritesTell, ReadsTell, WritesTell};
+ghost use Rattle.fixed_calc.specs.Calls.{WritesOfLine, ReadsOfStatus, WritesOfStatus};
 ghost use Rattle.fixed_calc.specs.Demo.{summary};
 ghost use Rattle.fixed_calc.specs.CommandLine.{IsDemo, IsNoCommand, most_lines};
 
@@ -32,8 +32,8 @@ fn read_run_write<S: Source, K: Sink>(alloc: Global, source: &mut S, sink: &mut 
     ensures nothing_written { WritesNothing result → sink.new ≡ sink.old }
     ensures complete { WhenComplete
         (S.state source.old) (S.state source.new) (K.state sink.old) (K.state sink.new) result }
-    ensures reads { ReadsTell S.read_gives source.old source.new result }
-    ensures writes { WritesTell K.write_gives
+    ensures reads { ReadsOfStatus S.read_gives source.old source.new result }
+    ensures writes { WritesOfStatus K.write_gives
         (IsOutputOf (S.state source.old).left) sink.old sink.new result }
 {
     let script = match read_all(alloc, source) {
@@ -62,7 +62,7 @@ fn demonstrate<K: Sink>(alloc: Global, lines: u32, sink: &mut K) -> Status
     ensures write_fault { WhenDemoWriteFault lines (K.state sink.old) (K.state sink.new) result }
     ensures memory { WhenDemoMemory lines (K.state sink.old) (K.state sink.new) result }
     ensures statuses { IsDemoStatus result }
-    ensures writes { WritesTell K.write_gives (λ bytes. bytes ≡ summary lines) sink.old sink.new result }
+    ensures writes { WritesOfStatus K.write_gives (λ bytes. bytes ≡ summary lines) sink.old sink.new result }
 {
     let summary = match demo_summary(alloc, lines) {
         Ok(summary) => summary,
@@ -106,11 +106,11 @@ fn status_of<S: Source, K: Sink>(
     ensures demo_memory { (n : ℕ) → IsDemo words.now n
         → WhenDemoMemory n (K.state sink.old) (K.state sink.new) result }
     ensures demo_statuses { (n : ℕ) → IsDemo words.now n → IsDemoStatus result }
-    ensures reads { words.now ≡ [] → ReadsTell S.read_gives source.old source.new result }
-    ensures writes { words.now ≡ [] → WritesTell K.write_gives
+    ensures reads { words.now ≡ [] → ReadsOfStatus S.read_gives source.old source.new result }
+    ensures writes { words.now ≡ [] → WritesOfStatus K.write_gives
         (IsOutputOf (S.state source.old).left) sink.old sink.new result }
     ensures demo_writes { (n : ℕ) → IsDemo words.now n
-        → WritesTell K.write_gives (λ bytes. bytes ≡ summary n) sink.old sink.new result }
+        → WritesOfStatus K.write_gives (λ bytes. bytes ≡ summary n) sink.old sink.new result }
 {
     match command_of(words) {
         Some(Command::Script) => read_run_write(alloc, source, sink),
@@ -165,13 +165,13 @@ pub fn calc_main<S: Source, K: Sink, E: Sink>(
     ensures demo_memory { (n : ℕ) → IsDemo words.now n
         → WhenDemoMemory n (K.state sink.old) (K.state sink.new) result }
     ensures demo_statuses { (n : ℕ) → IsDemo words.now n → IsDemoStatus result }
-    ensures reads { words.now ≡ [] → ReadsTell S.read_gives source.old source.new result }
-    ensures writes { words.now ≡ [] → WritesTell K.write_gives
+    ensures reads { words.now ≡ [] → ReadsOfStatus S.read_gives source.old source.new result }
+    ensures writes { words.now ≡ [] → WritesOfStatus K.write_gives
         (IsOutputOf (S.state source.old).left) sink.old sink.new result }
     ensures demo_writes { (n : ℕ) → IsDemo words.now n
-        → WritesTell K.write_gives (λ bytes. bytes ≡ summary n) sink.old sink.new result }
+        → WritesOfStatus K.write_gives (λ bytes. bytes ≡ summary n) sink.old sink.new result }
     ensures line { WritesErrorLine (E.state errors.old) (E.state errors.new) result }
-    ensures line_writes { LineWritesTell E.write_gives (error_line result) errors.old errors.new }
+    ensures line_writes { WritesOfLine E.write_gives (error_line result) errors.old errors.new }
 {
     let status = status_of(alloc, words, source, sink);
     let _told = write_all(error_line_of(status).as_bytes(), errors);

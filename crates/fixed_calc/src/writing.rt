@@ -3,7 +3,7 @@
 ghost use Rattle.std.specs.Prelude.{MatchResult, ℕ};
 ghost use Rattle.std.specs.Io.KnownBytes.{Appends};
 ghost use Rattle.fixed_calc.specs.Calls.{WritesAll, WritesToRefusal};
-ghost use Rattle.fixed_calc.specs.Outside.{TellsRefusals};
+ghost use Rattle.fixed_calc.specs.Outside.{CountsAfterWrite};
 ghost use Rattle.fixed_calc.specs.Headline.{AppendsProperPrefix};
 
 use crate::outside::{Refusal, Sink};
@@ -13,7 +13,7 @@ pub(crate) fn write_all<K: Sink>(bytes: &[u8], sink: &mut K) -> Result<(), Refus
     ensures bytes { MatchResult result
         (λ _. Appends (K.state sink.old).taken (K.state sink.new).taken bytes.now)
         (λ _. AppendsProperPrefix (K.state sink.old).taken (K.state sink.new).taken bytes.now) }
-    ensures counts { TellsRefusals (K.state sink.old) (K.state sink.new) result }
+    ensures counts { CountsAfterWrite (K.state sink.old) (K.state sink.new) result }
     ensures writes { MatchResult result
         (λ _. (calls : ℕ) × WritesAll K.write_gives bytes.now calls sink.old sink.new)
         (λ refusal. WritesToRefusal K.write_gives bytes.now refusal sink.old sink.new) }

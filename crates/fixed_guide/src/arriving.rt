@@ -2,7 +2,7 @@
 
 ghost use Rattle.std.specs.Prelude.{◌≡◌, ◌≤◌, IfOk, Some, length};
 ghost use Rattle.std.specs.Io.KnownBytes.{ReadConsumes};
-ghost use Rattle.fixed_calc.specs.Outside.{TellsFaults};
+ghost use Rattle.fixed_calc.specs.Outside.{FaultsAfterRead};
 
 use fixed_calc::{Failed, Source};
 
@@ -18,7 +18,7 @@ impl<'a> Source for Arriving<'a> {
     fn read(&mut self, buf: &mut [u8]) -> Result<usize, Failed>
         ensures within { IfOk result (λ k. k ≤ length buf.new) }
         ensures bytes { ReadConsumes (Some self.old.left.now) (Some self.new.left.now) result buf.new }
-        ensures faults { TellsFaults 0 0 result }
+        ensures faults { FaultsAfterRead 0 0 result }
     {
         let count = buf.len().min(self.left.len()).min(16);
         let (arrived, left) = self.left.split_at(count);

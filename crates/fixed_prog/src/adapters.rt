@@ -3,7 +3,7 @@
 
 ghost use Rattle.std.specs.Prelude.{◌≡◌, ◌≤◌, ◌<◌, None, IfErr, IfOk, length, take};
 ghost use Rattle.std.specs.Io.KnownBytes.{Appends, ReadConsumes, WriteAppends};
-ghost use Rattle.fixed_calc.specs.Outside.{TellsFaults, TellsRefusals, next_count};
+ghost use Rattle.fixed_calc.specs.Outside.{FaultsAfterRead, CountsAfterWrite, next_count};
 
 use fixed_calc::{Failed, Refusal, Sink, Source};
 use std::io::{Read, Write};
@@ -40,7 +40,7 @@ impl<R: Read> Source for StdSource<R> {
     fn read(&mut self, buf: &mut [u8]) -> Result<usize, Failed>
         ensures within { IfOk result (λ k. k ≤ length buf.new) }
         ensures bytes { ReadConsumes None None result buf.new }
-        ensures faults { TellsFaults self.old.faults self.new.faults result }
+        ensures faults { FaultsAfterRead self.old.faults self.new.faults result }
         ensures raised { IfErr result (λ _. self.new.faults ≡ next_count self.old.faults) }
         // What the reader gave, where it says which bytes it has.
         ensures given { ReadConsumes
@@ -89,7 +89,7 @@ impl<W: Write> Sink for StdSink<W> {
         ensures within { IfOk result (λ k. k ≤ length bytes.now) }
         ensures some { 0 < length bytes.now → IfOk result (λ k. 0 < k) }
         ensures bytes { WriteAppends None None result bytes.now }
-        ensures counts { TellsRefusals
+        ensures counts { CountsAfterWrite
             (record { taken = None; faults = self.old.faults; shortages = 0 })
             (record { taken = None; faults = self.new.faults; shortages = 0 }) result }
         ensures refused { IfErr result (λ refusal. refusal ≡ Refusal.Failed) }
@@ -144,7 +144,7 @@ impl<W: Write> Sink for StdErrors<W> {
         ensures within { IfOk result (λ k. k ≤ length bytes.now) }
         ensures some { 0 < length bytes.now → IfOk result (λ k. 0 < k) }
         ensures bytes { WriteAppends None None result bytes.now }
-        ensures counts { TellsRefusals
+        ensures counts { CountsAfterWrite
             (record { taken = None; faults = self.old.faults; shortages = 0 })
             (record { taken = None; faults = self.new.faults; shortages = 0 }) result }
         ensures refused { IfErr result (λ refusal. refusal ≡ Refusal.Failed) }

@@ -1,6 +1,6 @@
 -- The number that the words say is the one that was read.
 use Rattle.std.proofs.Common.{◌≡◌, ℕ, subst}
-use Rattle.fixed_calc.specs.Calls.{WritesTell}
+use Rattle.fixed_calc.specs.Calls.{WritesOfStatus}
 use Rattle.fixed_calc.specs.Demo.{summary}
 use Rattle.fixed_calc.specs.Headline.{WhenDemoDone, WhenDemoWriteFault, WhenDemoMemory}
 use Rattle.fixed_calc.proofs.Asked.{one_asked}
@@ -24,4 +24,4 @@ returns-in-Some-Demo-clause-demo_memory g c = λ n asked.
 pub returns-in-Some-Demo-clause-demo_writes : goal.returns-in-Some-Demo-clause-demo_writes
 returns-in-Some-Demo-clause-demo_writes g c = λ n asked.
     let same = one_asked c.args.words.now c.in-Some-Demo.lines n (rw c.in-Some-Demo.field-0-is at c.in-Some-Demo.ensures) asked in
-    subst (λ (m : ℕ). WritesTell g.K.Sink.write_gives (λ bytes. bytes ≡ summary m) c.args.sink.now c.demonstrate.new.sink c.demonstrate.result) same c.demonstrate.ensures.writes
+    subst (λ (m : ℕ). WritesOfStatus g.K.Sink.write_gives (λ bytes. bytes ≡ summary m) c.args.sink.now c.demonstrate.new.sink c.demonstrate.result) same c.demonstrate.ensures.writes
