@@ -4,7 +4,7 @@ ghost use Rattle.std.specs.Prelude.{◌≡◌, ◌≤◌, ◌≢◌, ◌≤ℤ�
 ghost use Rattle.fixed_word.specs.Policies.{saturating};
 ghost use Rattle.fixed_kernel.specs.Rows.{exact_abs, exact_add, exact_dist, exact_div, exact_div_euclid, exact_div_euclid_int, exact_div_int, exact_mul, exact_mul_int, exact_neg, exact_next_multiple_of, exact_recip, exact_rem_euclid_int, exact_signum, exact_sqrt, exact_sub};
 
-use crate::numbers::saturating_number;
+use crate::numbers::{clamped_number, held_number, saturating_number};
 use fixed_kernel::{
     abs_of, add_of, dist_of, div_euclid_int_of, div_euclid_of, div_int_of, div_of, mixed_add_of,
     mixed_sub_of, mul_int_of, mul_of, neg_of, next_multiple_of_of, recip_of, rem_euclid_int_of,
@@ -123,7 +123,7 @@ impl<T: Word, const F: u32> Saturating for Fixed<T, F> {
     }
 
     fn saturating_mul(self, rhs: Self) -> Self {
-        saturating_number(mul_of(self.bits, rhs.bits, F))
+        held_number(mul_of(self.bits, rhs.bits, F))
     }
 
     fn saturating_div(self, rhs: Self) -> Self {
@@ -139,7 +139,7 @@ impl<T: Word, const F: u32> Saturating for Fixed<T, F> {
     }
 
     fn saturating_dist(self, other: Self) -> Self {
-        saturating_number(dist_of(self.bits, other.bits))
+        held_number(dist_of(self.bits, other.bits))
     }
 
     fn saturating_next_multiple_of(self, other: Self) -> Self {
@@ -147,7 +147,7 @@ impl<T: Word, const F: u32> Saturating for Fixed<T, F> {
     }
 
     fn saturating_mul_int(self, rhs: T) -> Self {
-        saturating_number(mul_int_of(self.bits, rhs))
+        held_number(mul_int_of(self.bits, rhs))
     }
 
     fn saturating_div_int(self, rhs: T) -> Self {
@@ -193,7 +193,7 @@ pub trait SaturatingSigned: Saturating {
 
 impl<T: SignedWord, const F: u32> SaturatingSigned for Fixed<T, F> {
     fn saturating_abs(self) -> Self {
-        saturating_number(abs_of(self.bits))
+        clamped_number(abs_of(self.bits))
     }
 
     fn saturating_signum(self) -> Self {
@@ -201,11 +201,11 @@ impl<T: SignedWord, const F: u32> SaturatingSigned for Fixed<T, F> {
     }
 
     fn saturating_add_unsigned(self, rhs: Fixed<T::Unsigned, F>) -> Self {
-        saturating_number(mixed_add_of(self.bits, rhs.bits))
+        clamped_number(mixed_add_of(self.bits, rhs.bits))
     }
 
     fn saturating_sub_unsigned(self, rhs: Fixed<T::Unsigned, F>) -> Self {
-        saturating_number(mixed_sub_of(self.bits, rhs.bits))
+        clamped_number(mixed_sub_of(self.bits, rhs.bits))
     }
 }
 
@@ -224,10 +224,10 @@ pub trait SaturatingUnsigned: Saturating {
 
 impl<T: UnsignedWord, const F: u32> SaturatingUnsigned for Fixed<T, F> {
     fn saturating_add_signed(self, rhs: Fixed<T::Signed, F>) -> Self {
-        saturating_number(mixed_add_of(self.bits, rhs.bits))
+        clamped_number(mixed_add_of(self.bits, rhs.bits))
     }
 
     fn saturating_sub_signed(self, rhs: Fixed<T::Signed, F>) -> Self {
-        saturating_number(mixed_sub_of(self.bits, rhs.bits))
+        clamped_number(mixed_sub_of(self.bits, rhs.bits))
     }
 }

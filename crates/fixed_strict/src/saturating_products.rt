@@ -4,7 +4,7 @@ ghost use Rattle.std.specs.Prelude.{◌≡◌, ◌≤◌, Some};
 ghost use Rattle.fixed_word.specs.Policies.{saturating};
 ghost use Rattle.fixed_kernel.specs.Rows.{exact_add_prod, exact_mul_add};
 
-use crate::numbers::saturating_number;
+use crate::numbers::held_number;
 use fixed_kernel::{add_prod_of, mul_add_of};
 use fixed_num::{Fixed, Held, Number};
 use fixed_word::{RawWord, Word};
@@ -25,7 +25,7 @@ impl<T: Word, const F: u32, const G: u32> SaturatingMulAdd<G> for Fixed<T, F> {
         ensures { Some (T.value result.bits) ≡ saturating T.SIGNED T.BITS
             (Some (exact_mul_add (T.value self.bits) (T.value mul.bits) (T.value add.bits) G)) }
     {
-        saturating_number(mul_add_of(self.bits, mul.bits, add.bits, G))
+        held_number(mul_add_of(self.bits, mul.bits, add.bits, G))
     }
 }
 
@@ -59,7 +59,7 @@ impl<T: Word, const F: u32, const A: u32, const B: u32> SaturatingProducts<A, B>
         ensures { Some (T.value result.bits) ≡ saturating T.SIGNED T.BITS
             (Some (exact_add_prod (T.value self.bits) (T.value a.bits) (T.value b.bits) F A B)) }
     {
-        saturating_number(add_prod_of(self.bits, a.bits, b.bits, F, A, B))
+        held_number(add_prod_of(self.bits, a.bits, b.bits, F, A, B))
     }
 
     fn saturating_mul_acc(&mut self, a: Fixed<T, A>, b: Fixed<T, B>)

@@ -1,12 +1,15 @@
 -- The number that fits and is nearest, and the test whether a number fits.
-use Rattle.std.proofs.Common.{◌≡◌, ◌⊎◌, ◌+◌, ◌≤◌, ◌≤ℤ◌, ◌<ℤ◌, ◌-ℤ◌, ℕ, ℤ, Bool, true, false, IsTrue, sym, arith, inl, inr}
-use Rattle.std.specs.Prelude.{◌↔◌, int_lt, unsigned_abs}
+use Rattle.std.proofs.Common.{◌≡◌, ◌⊎◌, ◌+◌, ◌≤◌, ◌≤ℤ◌, ◌<ℤ◌, ◌-ℤ◌, ℕ, ℤ, Bool, true, false, IsTrue, sym, ◌∙◌, arith, inl, inr}
+use Rattle.std.specs.Prelude.{◌↔◌, int_lt, unsigned_abs, if◌then◌else◌}
 use Rattle.std.proofs.lemmas.Int.{ints}
 use Rattle.std.proofs.lemmas.Bool.{cases_lt}
 use borrow.Author.Differences.{up, down}
-use Rattle.fixed_word.specs.Format.{lowest, highest, InRange, fits, clamp}
-use Rattle.fixed_word.proofs.Sides.{lowest_sign, highest_sign}
-use Rattle.fixed_word.proofs.Standings.{clamp_same}
+use Rattle.fixed_word.specs.declared.outcome.Side.TheVariants.{Fits, Above, Below}
+use Rattle.fixed_word.specs.declared.outcome.Outcome.{Outcome}
+use Rattle.fixed_word.specs.Format.{IsWidth, lowest, highest, InRange, fits, clamp}
+use Rattle.fixed_word.specs.Standing.{StandsFor}
+use Rattle.fixed_word.proofs.Sides.{lowest_sign, highest_sign, side_above, side_below, side_fits}
+use Rattle.fixed_word.proofs.Standings.{clamp_same, clamp_where_fits}
 
 pub cases_int : (a b : ℤ) → (a <ℤ b) ⊎ (b ≤ℤ a)
 cases_int a b = elim (cases_lt (up a + down b) (up b + down a)) [
@@ -63,3 +66,21 @@ clamp_nearest s n x y r =
 
 pub fits_is : (s : Bool) (n : ℕ) (x : ℤ) → IsTrue (fits s n x) ↔ InRange s n x
 fits_is s n x = grind (arith, ints)
+
+-- an outcome's word, by a choice at each end, where a and b say whether its number lies above and below
+pub clamp_by_choices : {T : Type 0} (value : T → ℤ) (s : Bool) (n : ℕ) (x : ℤ) (o : Outcome T) (least greatest : T) (a b : Bool)
+    → IsWidth n → StandsFor value s n x o → value least ≡ lowest s n → value greatest ≡ highest s n
+    → (o.side ≡ Fits → (a ≡ false) × (b ≡ false)) → (o.side ≡ Above → (a ≡ true) × (b ≡ false)) → (o.side ≡ Below → b ≡ true)
+    → value (if b then least else (if a then greatest else o.wrapped)) ≡ clamp s n x
+clamp_by_choices value s n x o least greatest a b w h l m fits above below = elim (places s n x) [
+  | inl p ↦ rw (below (h.side ∙ side_below s n x p)) (l ∙ sym (clamp_below s n x p))
+  | inr rest ↦ elim rest [
+    | inl p ↦
+        let f = above (h.side ∙ side_above s n x p) in
+        rw (f.0, f.1) (m ∙ sym (clamp_above s n x p))
+    | inr p ↦
+        let e = h.side ∙ side_fits s n x p.0 p.1 in
+        let f = fits e in
+        rw (f.0, f.1) (sym (clamp_where_fits value s n x o w h e))
+  ]
+]

@@ -7,7 +7,7 @@ ghost use Rattle.fixed_word.specs.Standing.{StandsFor};
 ghost use Rattle.fixed_word.specs.Policies.{checked, overflowing, wrapping, saturating, strict};
 
 use crate::outcome::{Outcome, Side};
-use crate::word::Word;
+use crate::word::{RawWord, Word};
 
 /// The number, and None exactly where it does not fit.
 pub fn checked_of<T: Word>(outcome: Outcome<T>) -> Option<T>
@@ -59,6 +59,18 @@ pub fn saturating_of<T: Word>(outcome: Outcome<T>) -> T
         Side::Fits => outcome.wrapped,
         _ => end,
     }
+}
+
+/// The same, by a choice at each end, as loops of products take it in one instruction.
+#[inline]
+pub fn clamped_of<T: Word>(outcome: Outcome<T>) -> T
+    ensures { (x : ℤ) → StandsFor T.value T.SIGNED T.BITS x outcome
+        → Some (T.value result) ≡ saturating T.SIGNED T.BITS (Some x) }
+{
+    outcome
+        .wrapped
+        .unless(outcome.side == Side::Above, T::MAX)
+        .unless(outcome.side == Side::Below, T::MIN)
 }
 
 /// The number, which has to fit.

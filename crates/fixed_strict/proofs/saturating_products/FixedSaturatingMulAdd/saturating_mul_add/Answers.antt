@@ -1,4 +1,4 @@
 use Rattle.fixed_strict.proofs.saturating_products.FixedSaturatingMulAdd.saturating_mul_add.Goals as goal
 
 pub returns : goal.returns
-returns g c = c.saturating_number.ensures _ c.mul_add_of.ensures
+returns g c = c.held_number.ensures _ c.mul_add_of.ensures

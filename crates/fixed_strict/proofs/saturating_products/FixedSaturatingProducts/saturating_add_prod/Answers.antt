@@ -1,4 +1,4 @@
 use Rattle.fixed_strict.proofs.saturating_products.FixedSaturatingProducts.saturating_add_prod.Goals as goal
 
 pub returns : goal.returns
-returns g c = c.saturating_number.ensures _ c.add_prod_of.ensures
+returns g c = c.held_number.ensures _ c.add_prod_of.ensures
