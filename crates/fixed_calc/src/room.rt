@@ -12,10 +12,13 @@ use crate::answer::Answer;
 use crate::buffer::Buffer;
 use crate::cause::Cause;
 use crate::piece::read_and_step;
+use crate::quick::{LONGEST, quick_line};
+use crate::quick_step::quick_step;
 use crate::register::{Register, with_sign};
 use crate::stepping::step_registers;
 use fixed_script::{Header, Line};
 use fixed_text::{WordName, piece_end};
+use fixed_word::Word;
 use std::alloc::{AllocError, Global};
 use std::marker::Model;
 
@@ -201,6 +204,40 @@ impl Room {
     {
         let word = self.word.unwrap();
         read_and_step(word, &mut self.registers, piece, number)
+    }
+
+    /// Runs the line in front, if it is read quickly and has no cause, and adds its answer. Answers where
+    /// it ends.
+    #[inline(always)]
+    fn step_quickly<T: Word>(&mut self, rest: &[u8], count: u8) -> Option<usize> {
+        let (line, end) = match quick_line(rest, count) {
+            Some(found) => found,
+            None => return None,
+        };
+        match quick_step::<T>(&mut self.registers, line) {
+            Some(answer) => {
+                self.answers.push_text(answer);
+                Some(end)
+            }
+            None => None,
+        }
+    }
+
+    /// Runs lines as long as they are read quickly and have no cause, and adds their answers. Answers where
+    /// the next line begins, and its number.
+    #[inline(always)]
+    pub(crate) fn run_quickly<T: Word>(&mut self, lines: &[u8], from: usize, first: u64) -> (usize, u64) {
+        let count = self.registers.len().min(100) as u8;
+        let mut at = from;
+        let mut number = first;
+        while lines.len() - at >= LONGEST {
+            match self.step_quickly::<T>(&lines[at..], count) {
+                Some(end) => at += end,
+                None => return (at, number),
+            }
+            number += 1;
+        }
+        (at, number)
     }
 
     /// Adds the text of an answer, for which there is room.

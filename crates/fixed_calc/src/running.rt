@@ -11,6 +11,7 @@ use crate::cause::{Cause, RunFault};
 use crate::room::{Answers, Room};
 use fixed_script::header_of_piece;
 use fixed_text::{WordName, piece_end};
+use fixed_word::Word;
 use std::alloc::Global;
 
 /// The first line of the rest. Answers where it ends.
@@ -33,6 +34,23 @@ fn answer_line(word: WordName, rest: &[u8], number: u64, room: &mut Room) -> Res
     }
 }
 
+/// The lines after the header, over one word.
+fn answer_lines_as<T: Word>(word: WordName, lines: &[u8], room: &mut Room) -> Result<(), Cause> {
+    let mut at = 0;
+    let mut number = 2;
+    while at < lines.len() {
+        (at, number) = room.run_quickly::<T>(lines, at, number);
+        if at < lines.len() {
+            match answer_line(word, &lines[at..], number, room) {
+                Ok(end) => at += end,
+                Err(cause) => return Err(cause),
+            }
+            number += 1;
+        }
+    }
+    Ok(())
+}
+
 /// The lines after the header.
 fn answer_lines(word: WordName, lines: &[u8], room: &mut Room) -> Result<(), Cause>
     requires word { room.old.word ≡ Some word }
@@ -41,16 +59,16 @@ fn answer_lines(word: WordName, lines: &[u8], room: &mut Room) -> Result<(), Cau
         (run_lines (state_in word room.old.registers) 2 (pieces lines.now))) result room.new }
     ensures kept { KeepsRoom room.old room.new }
 {
-    let mut at = 0;
-    let mut number = 2;
-    while at < lines.len() {
-        match answer_line(word, &lines[at..], number, room) {
-            Ok(end) => at += end,
-            Err(cause) => return Err(cause),
-        }
-        number += 1;
+    match word {
+        WordName::I8 => answer_lines_as::<i8>(word, lines, room),
+        WordName::I16 => answer_lines_as::<i16>(word, lines, room),
+        WordName::I32 => answer_lines_as::<i32>(word, lines, room),
+        WordName::I64 => answer_lines_as::<i64>(word, lines, room),
+        WordName::U8 => answer_lines_as::<u8>(word, lines, room),
+        WordName::U16 => answer_lines_as::<u16>(word, lines, room),
+        WordName::U32 => answer_lines_as::<u32>(word, lines, room),
+        WordName::U64 => answer_lines_as::<u64>(word, lines, room),
     }
-    Ok(())
 }
 
 /// Runs a script in a room that suffices for it, from a fresh start, and asks for no memory. Ok with all

@@ -57,22 +57,30 @@ fn is_signed(word: WordName) -> bool
     }
 }
 
+/// Whether the operation is offered under that policy on signed words, or on unsigned ones.
+#[inline(always)]
 #[tactic(auto, unfolding(crate::specs::Offered::is_offered))]
-fn is_offered(word: WordName, policy: Policy, op: Op) -> bool
-    ensures { result ≡ offered (signed word) policy op }
+pub(crate) fn is_offered_on(is_signed: bool, policy: Policy, op: Op) -> bool
+    ensures { result ≡ offered is_signed policy op }
 {
     match op {
-        Op::Abs | Op::Signum => is_signed(word),
+        Op::Abs | Op::Signum => is_signed,
         Op::Rem | Op::RemInt | Op::RemEuclid => match policy {
             Policy::Checked | Policy::Strict => true,
             Policy::Saturating | Policy::Wrapping | Policy::Overflowing => false,
         },
         Op::NextPowerOfTwo => match policy {
-            Policy::Checked | Policy::Wrapping | Policy::Strict => !is_signed(word),
+            Policy::Checked | Policy::Wrapping | Policy::Strict => !is_signed,
             Policy::Saturating | Policy::Overflowing => false,
         },
         _ => true,
     }
+}
+
+fn is_offered(word: WordName, policy: Policy, op: Op) -> bool
+    ensures { result ≡ offered (signed word) policy op }
+{
+    is_offered_on(is_signed(word), policy, op)
 }
 
 /// Whether the operation of the line is not offered under its policy on the word.
@@ -89,7 +97,8 @@ fn is_unoffered(word: WordName, line: &Line) -> bool
     }
 }
 
-fn fits_as<T: Word>(literal: Literal) -> bool
+#[inline(always)]
+pub(crate) fn fits_as<T: Word>(literal: Literal) -> bool
     ensures { result ≡ fits T.SIGNED T.BITS (literal_value literal) }
 {
     outcome_of::<T>(literal.below_zero, literal.magnitude).side == Side::Fits
@@ -353,7 +362,8 @@ fn destination(line: &Line) -> u128
 }
 
 /// Stores a number in a register.
-fn store(registers: &mut [Register], dest: u128, x: i128)
+#[inline(always)]
+pub(crate) fn store(registers: &mut [Register], dest: u128, x: i128)
     requires there { dest < length registers.old }
     requires size { unsigned_abs x < 2 ^ 64 }
     ensures { cells_of registers.new ≡ set (cells_of registers.old) dest
