@@ -109,6 +109,7 @@ fn push_with(out: &mut Vec<u8>, n: i128, text: [u8; 56], tail: usize)
 }
 
 /// Adds the text of an answer.
+#[inline(always)]
 pub(crate) fn push_answer(out: &mut Vec<u8>, answer: Answer)
     requires { vec_len out.old + length (answer_text answer) + 32 ≤ vec_capacity out.old }
     ensures items { out.new.items ≡ out.old.items ++ answer_text answer }

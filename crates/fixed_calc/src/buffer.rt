@@ -70,6 +70,7 @@ impl Buffer {
     }
 
     /// Adds the text of an answer, for which there is room.
+    #[inline(always)]
     pub(crate) fn push_text(&mut self, answer: Answer)
         requires { length self.old.bytes + length (answer_text answer) ≤ self.old.room }
         ensures { self.new
