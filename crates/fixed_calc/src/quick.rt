@@ -1,13 +1,51 @@
-//! A quick reading of a line of the common form, in one pass over the bytes from the line's start on. It
-//! answers only where registers have one or two digits and numbers at most nineteen, and where the script has as
-//! many bytes left as the longest such line may have; for any other the general reading follows.
+//! A quick reading of a line of the common form, in one pass over the bytes from its start on. It answers
+//! only where registers have one or two digits and numbers at most nineteen, and where at least as many
+//! bytes are left as the longest such line may have. Any other line is left to the general reading.
 
-ghost use Rattle.std.specs.Prelude.{◌≡◌, ◌≤◌, ◌+◌, ◌++◌, drop, length, true};
+ghost use Rattle.std.specs.Prelude.{◌≡◌, ◌≤◌, ◌<◌, ◌+◌, ◌∷◌, ◌++◌, drop, take, length, true, Some, IfSome};
+ghost use Rattle.std.specs.List.{list_all};
+ghost use Rattle.std.specs.Char.{is_ascii_digit};
+ghost use Rattle.std.specs.Str.Parse.{digits_value};
+ghost use Rattle.fixed_word.specs.Decimal.{natural_text, whole_text};
+ghost use Rattle.fixed_word.specs.Format.{with_sign};
+ghost use Rattle.fixed_script.specs.Names.{policy_name, op_name};
+ghost use Rattle.fixed_script.specs.Text.{register_text};
+ghost use Rattle.fixed_calc.specs.inside.Quick.{Stands, HasOperands, IsQuickLine};
 
 use fixed_script::{Op, Policy, Shape, shape_of};
 
-/// How many bytes are left where a line is read quickly.
+/// The longest line that is read quickly, newline included; so many bytes have to be left.
 pub(crate) const LONGEST: usize = 64;
+
+/// A policy and an operation.
+#[derive(Clone, Copy)]
+pub(crate) struct Applied {
+    pub policy: Policy,
+    pub op: Op,
+}
+
+/// A line that was read quickly. Of registers that its operation does not take, it names its first one
+/// again; of a number that it does not take, it says 0.
+#[derive(Clone, Copy)]
+pub(crate) struct QuickLine {
+    /// None of a line that sets a register.
+    pub applied: Option<Applied>,
+    pub dest: usize,
+    pub a: usize,
+    pub b: usize,
+    pub c: usize,
+    pub below_zero: bool,
+    pub magnitude: u64,
+}
+
+/// Whether a byte stands at a place.
+#[inline(always)]
+fn is_one(bytes: &[u8], at: usize, byte: u8) -> bool
+    requires { at + 1 ≤ length bytes.now }
+    ensures { result ≡ true → drop at bytes.now ≡ byte ∷ drop (at + 1) bytes.now }
+{
+    bytes[at] == byte
+}
 
 /// Whether the four bytes of a name stand at a place. They are compared at once.
 #[inline(always)]
@@ -35,10 +73,12 @@ fn is_eight(bytes: &[u8], at: usize, name: &[u8; 8]) -> bool
 #[inline(always)]
 fn policy_at(bytes: &[u8], at: usize) -> Option<(Policy, usize)>
     requires { at + 12 ≤ length bytes.now }
+    ensures { IfSome result
+        (λ found. Stands bytes.now at (policy_name found.0) 32 12 found.1) }
 {
     if is_eight(bytes, at, b"checked ") {
         Some((Policy::Checked, at + 8))
-    } else if is_eight(bytes, at, b"wrapping") && bytes[at + 8] == b' ' {
+    } else if is_eight(bytes, at, b"wrapping") && is_one(bytes, at + 8, b' ') {
         Some((Policy::Wrapping, at + 9))
     } else if is_eight(bytes, at, b"overflow") && is_four(bytes, at + 8, b"ing ") {
         Some((Policy::Overflowing, at + 12))
@@ -51,38 +91,11 @@ fn policy_at(bytes: &[u8], at: usize) -> Option<(Policy, usize)>
     }
 }
 
-/// The operation, where the byte at its end is a space.
+/// The operation that stands at a place, if its name has three letters.
 #[inline(always)]
-fn ended(bytes: &[u8], end: usize, op: Op) -> Option<(Op, usize)>
-    requires { end + 1 ≤ length bytes.now }
-{
-    if bytes[end] == b' ' {
-        Some((op, end + 1))
-    } else {
-        None
-    }
-}
-
-/// The operation whose name ends in `euclid` or `euclid_int`.
-#[inline(always)]
-fn euclid_at(bytes: &[u8], at: usize, plain: Op, by_integer: Op) -> Option<(Op, usize)>
-    requires { at + 11 ≤ length bytes.now }
-{
-    if !is_four(bytes, at, b"eucl") || bytes[at + 4] != b'i' || bytes[at + 5] != b'd' {
-        None
-    } else if bytes[at + 6] == b' ' {
-        Some((plain, at + 7))
-    } else if is_four(bytes, at + 6, b"_int") {
-        ended(bytes, at + 10, by_integer)
-    } else {
-        None
-    }
-}
-
-/// The operation that stands at a place, and where what comes after its space begins.
-#[inline(always)]
-fn op_at(bytes: &[u8], at: usize) -> Option<(Op, usize)>
+fn short_op_at(bytes: &[u8], at: usize) -> Option<(Op, usize)>
     requires { at + 18 ≤ length bytes.now }
+    ensures { IfSome result (λ found. Stands bytes.now at (op_name found.0) 32 18 found.1) }
 {
     if is_four(bytes, at, b"neg ") {
         Some((Op::Neg, at + 4))
@@ -98,78 +111,114 @@ fn op_at(bytes: &[u8], at: usize) -> Option<(Op, usize)>
         Some((Op::Abs, at + 4))
     } else if is_four(bytes, at, b"rem ") {
         Some((Op::Rem, at + 4))
-    } else if is_four(bytes, at, b"sqrt") {
-        ended(bytes, at + 4, Op::Sqrt)
-    } else if is_four(bytes, at, b"dist") {
-        ended(bytes, at + 4, Op::Dist)
-    } else if is_four(bytes, at, b"reci") {
-        if bytes[at + 4] == b'p' {
-            ended(bytes, at + 5, Op::Recip)
-        } else {
-            None
-        }
-    } else if is_four(bytes, at, b"sign") {
-        if bytes[at + 4] == b'u' && bytes[at + 5] == b'm' {
-            ended(bytes, at + 6, Op::Signum)
-        } else {
-            None
-        }
-    } else if is_four(bytes, at, b"mul_") {
-        if is_four(bytes, at + 4, b"add ") {
-            Some((Op::MulAdd, at + 8))
-        } else if is_four(bytes, at + 4, b"int ") {
-            Some((Op::MulInt, at + 8))
-        } else {
-            None
-        }
-    } else if is_four(bytes, at, b"add_") {
-        if is_four(bytes, at + 4, b"prod") {
-            ended(bytes, at + 8, Op::AddProd)
-        } else {
-            None
-        }
-    } else if is_four(bytes, at, b"div_") {
-        if is_four(bytes, at + 4, b"int ") {
-            Some((Op::DivInt, at + 8))
-        } else {
-            euclid_at(bytes, at + 4, Op::DivEuclid, Op::DivEuclidInt)
-        }
-    } else if is_four(bytes, at, b"rem_") {
-        if is_four(bytes, at + 4, b"int ") {
-            Some((Op::RemInt, at + 8))
-        } else {
-            euclid_at(bytes, at + 4, Op::RemEuclid, Op::RemEuclidInt)
-        }
-    } else if is_four(bytes, at, b"next") {
-        if is_eight(bytes, at + 4, b"_multipl") && is_four(bytes, at + 12, b"e_of") {
-            ended(bytes, at + 16, Op::NextMultipleOf)
-        } else if is_eight(bytes, at + 4, b"_power_o")
-            && is_four(bytes, at + 12, b"f_tw")
-            && bytes[at + 16] == b'o'
-        {
-            ended(bytes, at + 17, Op::NextPowerOfTwo)
-        } else {
-            None
-        }
     } else {
         None
     }
 }
 
-/// The register of two digits that stands at a place, and what comes after the separator behind it begins
-/// where.
+/// The same, if its name is one word of four to six letters.
+#[inline(always)]
+fn word_op_at(bytes: &[u8], at: usize) -> Option<(Op, usize)>
+    requires { at + 18 ≤ length bytes.now }
+    ensures { IfSome result (λ found. Stands bytes.now at (op_name found.0) 32 18 found.1) }
+{
+    if is_four(bytes, at, b"sqrt") && is_one(bytes, at + 4, b' ') {
+        Some((Op::Sqrt, at + 5))
+    } else if is_four(bytes, at, b"dist") && is_one(bytes, at + 4, b' ') {
+        Some((Op::Dist, at + 5))
+    } else if is_four(bytes, at, b"reci") && is_four(bytes, at + 2, b"cip ") {
+        Some((Op::Recip, at + 6))
+    } else if is_four(bytes, at, b"sign") && is_four(bytes, at + 3, b"num ") {
+        Some((Op::Signum, at + 7))
+    } else {
+        None
+    }
+}
+
+/// The same, if its name has several words.
+#[inline(always)]
+fn words_op_at(bytes: &[u8], at: usize) -> Option<(Op, usize)>
+    requires { at + 18 ≤ length bytes.now }
+    ensures { IfSome result (λ found. Stands bytes.now at (op_name found.0) 32 18 found.1) }
+{
+    if is_eight(bytes, at, b"mul_add ") {
+        Some((Op::MulAdd, at + 8))
+    } else if is_eight(bytes, at, b"add_prod") && is_one(bytes, at + 8, b' ') {
+        Some((Op::AddProd, at + 9))
+    } else if is_eight(bytes, at, b"mul_int ") {
+        Some((Op::MulInt, at + 8))
+    } else if is_eight(bytes, at, b"div_int ") {
+        Some((Op::DivInt, at + 8))
+    } else if is_eight(bytes, at, b"rem_int ") {
+        Some((Op::RemInt, at + 8))
+    } else if is_eight(bytes, at, b"div_eucl") && is_four(bytes, at + 7, b"lid ") {
+        Some((Op::DivEuclid, at + 11))
+    } else if is_eight(bytes, at, b"rem_eucl") && is_four(bytes, at + 7, b"lid ") {
+        Some((Op::RemEuclid, at + 11))
+    } else if is_eight(bytes, at, b"div_eucl") && is_eight(bytes, at + 7, b"lid_int ") {
+        Some((Op::DivEuclidInt, at + 15))
+    } else if is_eight(bytes, at, b"rem_eucl") && is_eight(bytes, at + 7, b"lid_int ") {
+        Some((Op::RemEuclidInt, at + 15))
+    } else {
+        None
+    }
+}
+
+/// The same, if its name begins with `next`.
+#[inline(always)]
+fn next_op_at(bytes: &[u8], at: usize) -> Option<(Op, usize)>
+    requires { at + 18 ≤ length bytes.now }
+    ensures { IfSome result (λ found. Stands bytes.now at (op_name found.0) 32 18 found.1) }
+{
+    if is_eight(bytes, at, b"next_mul")
+        && is_eight(bytes, at + 8, b"tiple_of")
+        && is_one(bytes, at + 16, b' ')
+    {
+        Some((Op::NextMultipleOf, at + 17))
+    } else if is_eight(bytes, at, b"next_pow")
+        && is_eight(bytes, at + 8, b"er_of_tw")
+        && is_four(bytes, at + 14, b"two ")
+    {
+        Some((Op::NextPowerOfTwo, at + 18))
+    } else {
+        None
+    }
+}
+
+/// The operation that stands at a place, and where what comes after its space begins.
+#[inline(always)]
+fn op_at(bytes: &[u8], at: usize) -> Option<(Op, usize)>
+    requires { at + 18 ≤ length bytes.now }
+    ensures { IfSome result (λ found. Stands bytes.now at (op_name found.0) 32 18 found.1) }
+{
+    if let Some(found) = short_op_at(bytes, at) {
+        Some(found)
+    } else if let Some(found) = word_op_at(bytes, at) {
+        Some(found)
+    } else if let Some(found) = words_op_at(bytes, at) {
+        Some(found)
+    } else {
+        next_op_at(bytes, at)
+    }
+}
+
+/// The register of two digits that stands at a place.
 #[inline(always)]
 fn long_register_before(bytes: &[u8], at: usize, separator: u8, count: u8) -> Option<(usize, usize)>
     requires { at + 4 ≤ length bytes.now }
+    ensures { IfSome result (λ found. (found.0 < count)
+        × Stands bytes.now at (register_text found.0) separator 4 found.1) }
 {
-    let tens = bytes[at + 1].wrapping_sub(b'0');
-    let ones = bytes[at + 2].wrapping_sub(b'0');
-    if bytes[at] != b'r' || tens == 0 || tens > 9 || ones > 9 || bytes[at + 3] != separator {
+    let (tens, ones) = (bytes[at + 1], bytes[at + 2]);
+    if bytes[at] != b'r' || bytes[at + 3] != separator {
         return None;
     }
-    let number = tens * 10 + ones;
+    if !tens.is_ascii_digit() || tens == b'0' || !ones.is_ascii_digit() {
+        return None;
+    }
+    let number = (tens - b'0') * 10 + (ones - b'0');
     if number < count {
-        Some((number as usize, at + 4))
+        Some((usize::from(number), at + 4))
     } else {
         None
     }
@@ -179,87 +228,125 @@ fn long_register_before(bytes: &[u8], at: usize, separator: u8, count: u8) -> Op
 /// separator stands behind it, and where what comes after that begins.
 #[inline(always)]
 fn register_before(bytes: &[u8], at: usize, separator: u8, count: u8) -> Option<(usize, usize)>
-    requires room { at + 4 ≤ length bytes.now }
-    requires count { count ≤ 100 }
+    requires { at + 4 ≤ length bytes.now }
+    ensures { IfSome result (λ found. (found.0 < count)
+        × Stands bytes.now at (register_text found.0) separator 4 found.1) }
 {
     if bytes[at + 2] != separator {
         return long_register_before(bytes, at, separator, count);
     }
-    let digit = bytes[at + 1].wrapping_sub(b'0');
-    if bytes[at] == b'r' && digit < 10 && digit < count {
-        Some((digit as usize, at + 3))
+    if bytes[at] != b'r' || !bytes[at + 1].is_ascii_digit() {
+        return None;
+    }
+    let number = bytes[at + 1] - b'0';
+    if number < count {
+        Some((usize::from(number), at + 3))
     } else {
         None
     }
 }
 
-/// The number of at most nineteen digits that stands at a place, before a newline, and where that stands.
+/// The digits that stand at a place, at most nineteen, as a number, and how many they are.
 #[inline(always)]
-fn literal_at(bytes: &[u8], from: usize) -> Option<(bool, u64, usize)>
-    requires { from + 21 ≤ length bytes.now }
+fn digits_at(bytes: &[u8], at: usize) -> (u64, usize)
+    requires { at + 19 ≤ length bytes.now }
+    ensures most { result.1 ≤ 19 }
+    ensures digits { list_all is_ascii_digit (take result.1 (drop at bytes.now)) ≡ true }
+    ensures value { result.0 ≡ digits_value 10 (take result.1 (drop at bytes.now)) }
 {
-    let below_zero = bytes[from] == b'-';
-    let start = if below_zero { from + 1 } else { from };
     let mut value = 0;
-    let mut at = start;
-    while at - start < 19 && bytes[at].is_ascii_digit() {
-        value = value * 10 + u64::from(bytes[at] - b'0');
-        at += 1;
+    let mut count = 0;
+    while count < 19 && bytes[at + count].is_ascii_digit() {
+        value = value * 10 + u64::from(bytes[at + count] - b'0');
+        count += 1;
     }
-    if at == start || bytes[at] != b'\n' {
+    (value, count)
+}
+
+/// The natural number of at most nineteen digits that stands at a place before a newline, and where the
+/// next line begins.
+#[inline(always)]
+fn natural_at(bytes: &[u8], at: usize) -> Option<(u64, usize)>
+    requires { at + 20 ≤ length bytes.now }
+    ensures { IfSome result (λ found. Stands bytes.now at (natural_text found.0) 10 20 found.1) }
+{
+    let (value, count) = digits_at(bytes, at);
+    if count == 0 || bytes[at + count] != b'\n' || (count > 1 && bytes[at] == b'0') {
         return None;
     }
-    // No 0 stands before another digit, and no minus before 0.
-    if bytes[start] == b'0' && (below_zero || at - start > 1) {
+    Some((value, at + count + 1))
+}
+
+/// The same of a whole number: whether it is below 0, and its magnitude. No minus stands before 0.
+#[inline(always)]
+fn literal_at(bytes: &[u8], at: usize) -> Option<(bool, u64, usize)>
+    requires { at + 21 ≤ length bytes.now }
+    ensures { IfSome result
+        (λ found. Stands bytes.now at (whole_text (with_sign found.0 found.1)) 10 21 found.2) }
+{
+    let below_zero = bytes[at] == b'-';
+    let start = if below_zero { at + 1 } else { at };
+    let (magnitude, end) = natural_at(bytes, start)?;
+    if below_zero && magnitude == 0 {
         return None;
     }
-    Some((below_zero, value, at))
+    Some((below_zero, magnitude, end))
 }
 
-/// A policy and an operation.
-#[derive(Clone, Copy)]
-pub(crate) struct Applied {
-    pub policy: Policy,
-    pub op: Op,
+/// The line with the operands that stand at a place, and where the next line begins.
+#[inline(always)]
+fn operands_at(
+    bytes: &[u8],
+    at: usize,
+    count: u8,
+    kind: Shape,
+    line: QuickLine,
+) -> Option<(QuickLine, usize)>
+    requires room { at + 25 ≤ length bytes.now }
+    requires dest { line.dest < count }
+    requires spare { line.a ≡ line.dest × line.b ≡ line.dest × line.c ≡ line.dest }
+    ensures { IfSome result (λ found. HasOperands kind count bytes.now at line found.0 found.1) }
+{
+    match kind {
+        Shape::Unary => {
+            let (a, end) = register_before(bytes, at, b'\n', count)?;
+            Some((QuickLine { a, ..line }, end))
+        }
+        Shape::Binary => {
+            let (a, at) = register_before(bytes, at, b' ', count)?;
+            let (b, end) = register_before(bytes, at, b'\n', count)?;
+            Some((QuickLine { a, b, ..line }, end))
+        }
+        Shape::ByInteger => {
+            let (a, at) = register_before(bytes, at, b' ', count)?;
+            let (below_zero, magnitude, end) = literal_at(bytes, at)?;
+            let line = QuickLine {
+                a,
+                below_zero,
+                magnitude,
+                ..line
+            };
+            Some((line, end))
+        }
+        Shape::Ternary => {
+            let (a, at) = register_before(bytes, at, b' ', count)?;
+            let (b, at) = register_before(bytes, at, b' ', count)?;
+            let (c, end) = register_before(bytes, at, b'\n', count)?;
+            Some((QuickLine { a, b, c, ..line }, end))
+        }
+    }
 }
 
-/// A line that was read quickly. Of registers that its operation does not take, it names its first one
-/// again; of a number that it does not take, it says 0.
-#[derive(Clone, Copy)]
-pub(crate) struct QuickLine {
-    /// None of a line that sets a register.
-    pub applied: Option<Applied>,
-    pub dest: usize,
-    pub a: usize,
-    pub b: usize,
-    pub c: usize,
-    pub below_zero: bool,
-    pub magnitude: u64,
-}
-
-/// The line in front, and where the next one begins. All its registers are below `count`.
+/// The line in front, and where the next one begins.
 #[inline(always)]
 pub(crate) fn quick_line(bytes: &[u8], count: u8) -> Option<(QuickLine, usize)>
-    requires { LONGEST ≤ length bytes.now }
+    requires room { 64 ≤ length bytes.now }
+    requires count { count ≤ 100 }
+    ensures { IfSome result (λ found. IsQuickLine count bytes.now found.0 found.1) }
 {
     let (dest, at) = register_before(bytes, 0, b' ', count)?;
-    if is_four(bytes, at, b"set ") {
-        let (below_zero, magnitude, end) = literal_at(bytes, at + 4)?;
-        let line = QuickLine {
-            applied: None,
-            dest,
-            a: dest,
-            b: dest,
-            c: dest,
-            below_zero,
-            magnitude,
-        };
-        return Some((line, end + 1));
-    }
-    let (policy, at) = policy_at(bytes, at)?;
-    let (op, at) = op_at(bytes, at)?;
-    let mut line = QuickLine {
-        applied: Some(Applied { policy, op }),
+    let line = QuickLine {
+        applied: None,
         dest,
         a: dest,
         b: dest,
@@ -267,35 +354,23 @@ pub(crate) fn quick_line(bytes: &[u8], count: u8) -> Option<(QuickLine, usize)>
         below_zero: false,
         magnitude: 0,
     };
-    match shape_of(op) {
-        Shape::Unary => {
-            let (a, end) = register_before(bytes, at, b'\n', count)?;
-            line.a = a;
-            Some((line, end))
-        }
-        Shape::Binary => {
-            let (a, at) = register_before(bytes, at, b' ', count)?;
-            let (b, end) = register_before(bytes, at, b'\n', count)?;
-            line.a = a;
-            line.b = b;
-            Some((line, end))
-        }
-        Shape::ByInteger => {
-            let (a, at) = register_before(bytes, at, b' ', count)?;
-            let (below_zero, magnitude, end) = literal_at(bytes, at)?;
-            line.a = a;
-            line.below_zero = below_zero;
-            line.magnitude = magnitude;
-            Some((line, end + 1))
-        }
-        Shape::Ternary => {
-            let (a, at) = register_before(bytes, at, b' ', count)?;
-            let (b, at) = register_before(bytes, at, b' ', count)?;
-            let (c, end) = register_before(bytes, at, b'\n', count)?;
-            line.a = a;
-            line.b = b;
-            line.c = c;
-            Some((line, end))
-        }
+    if is_four(bytes, at, b"set ") {
+        let (below_zero, magnitude, end) = literal_at(bytes, at + 4)?;
+        let line = QuickLine {
+            below_zero,
+            magnitude,
+            ..line
+        };
+        return Some((line, end));
     }
+    let (policy, at) = policy_at(bytes, at)?;
+    let (op, at) = op_at(bytes, at)?;
+    let applied = Some(Applied { policy, op });
+    operands_at(
+        bytes,
+        at,
+        count,
+        shape_of(op),
+        QuickLine { applied, ..line },
+    )
 }

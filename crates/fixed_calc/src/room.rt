@@ -1,8 +1,9 @@
 //! Where a script runs: its registers and its answers, with room that is made once.
 
-ghost use Rattle.std.specs.Prelude.{◌≡◌, ◌≤◌, ◌<◌, ◌*◌, ◌+◌, ◌++◌, [], length, vec_len, vec_capacity, IfOk, IfErr, OnOk, IsSome, IfSome, IsTrue, ◌↔◌, Some, None, true, false};
+ghost use Rattle.std.specs.Prelude.{◌≡◌, ◌≤◌, ◌<◌, ◌*◌, ◌+◌, ◌++◌, [], drop, length, vec_len, vec_capacity, IfOk, IfErr, OnOk, IsSome, IfSome, IsTrue, ◌↔◌, Some, None, true, false};
 ghost use Rattle.fixed_calc.specs.Answers.{answer_text};
-ghost use Rattle.fixed_text.specs.Words.{width as width_in};
+ghost use Rattle.fixed_text.specs.Words.{is_signed as signed, width as width_in};
+ghost use Rattle.fixed_calc.specs.inside.Moves.{HasMoved, HaveMoved};
 ghost use Rattle.fixed_calc.specs.Meaning.{has_wide as is_wide, zeros};
 ghost use Rattle.fixed_script.specs.Capped.{checked_script_line};
 ghost use Rattle.fixed_calc.specs.Rooms.{KeepsTheRest, spaces, spaces_in};
@@ -207,14 +208,32 @@ impl Room {
     }
 
     /// Runs the line in front, if it is read quickly and has no cause, and adds its answer. Answers where
-    /// it ends.
+    /// it ends. Conditions: as many bytes are left as such a line may have, and there are so many registers.
     #[inline(always)]
-    fn step_quickly<T: Word>(&mut self, rest: &[u8], count: u8) -> Option<usize> {
+    fn step_quickly<T: Word>(
+        &mut self,
+        word: WordName,
+        rest: &[u8],
+        count: u8,
+        number: u64,
+    ) -> Option<usize>
+        requires signed { T.SIGNED ≡ signed word }
+        requires bits { T.BITS ≡ width_in word }
+        requires word { self.old.word ≡ Some word }
+        requires long { 64 ≤ length rest.now }
+        requires few { count ≤ 100 }
+        requires count { count ≤ length self.old.registers }
+        requires space { length self.old.answers + 2 * length rest.now ≤ self.old.answer_room }
+        ensures some { IfSome result (λ end. HasMoved word number rest.now end self.old self.new) }
+        ensures none { result ≡ None → self.new ≡ self.old }
+        ensures count { length self.new.registers ≡ length self.old.registers }
+        ensures kept { KeepsRoom self.old self.new }
+    {
         let (line, end) = match quick_line(rest, count) {
             Some(found) => found,
             None => return None,
         };
-        match quick_step::<T>(&mut self.registers, line) {
+        match quick_step::<T>(word, &mut self.registers, line, number) {
             Some(answer) => {
                 self.answers.push_text(answer);
                 Some(end)
@@ -223,15 +242,30 @@ impl Room {
         }
     }
 
-    /// Runs lines as long as they are read quickly and have no cause, and adds their answers. Answers where
-    /// the next line begins, and its number.
+    /// Runs the lines from a place on, as long as they are read quickly and have no cause, and adds their
+    /// answers. Answers where the next line begins, and its number.
     #[inline(always)]
-    pub(crate) fn run_quickly<T: Word>(&mut self, lines: &[u8], from: usize, first: u64) -> (usize, u64) {
+    pub(crate) fn run_quickly<T: Word>(
+        &mut self,
+        word: WordName,
+        lines: &[u8],
+        from: usize,
+        first: u64,
+    ) -> (usize, u64)
+        requires signed { T.SIGNED ≡ signed word }
+        requires bits { T.BITS ≡ width_in word }
+        requires word { self.old.word ≡ Some word }
+        requires within { from ≤ length lines.now }
+        requires number { first ≤ from + 2 }
+        requires space { length self.old.answers + 2 * length (drop from lines.now) ≤ self.old.answer_room }
+        ensures moved { HaveMoved word lines.now from first result.0 result.1 self.old self.new }
+        ensures kept { KeepsRoom self.old self.new }
+    {
         let count = self.registers.len().min(100) as u8;
         let mut at = from;
         let mut number = first;
         while lines.len() - at >= LONGEST {
-            match self.step_quickly::<T>(&lines[at..], count) {
+            match self.step_quickly::<T>(word, &lines[at..], count, number) {
                 Some(end) => at += end,
                 None => return (at, number),
             }

@@ -1,6 +1,7 @@
 //! A whole script in a room.
 
 ghost use Rattle.std.specs.Prelude.{◌≡◌, ◌≤◌, ◌<◌, ◌*◌, ◌+◌, length, Some, Err, IfOk, IfErr};
+ghost use Rattle.fixed_text.specs.Words.{is_signed, width};
 ghost use Rattle.fixed_word.specs.Pieces.{pieces};
 ghost use Rattle.fixed_calc.specs.Meaning.{after, meaning, run_lines, run_of};
 ghost use Rattle.fixed_calc.specs.inside.Moves.{HasMoved};
@@ -34,12 +35,20 @@ fn answer_line(word: WordName, rest: &[u8], number: u64, room: &mut Room) -> Res
     }
 }
 
-/// The lines after the header, over one word.
-fn answer_lines_as<T: Word>(word: WordName, lines: &[u8], room: &mut Room) -> Result<(), Cause> {
+/// The lines after the header, over the word of that name.
+fn answer_lines_as<T: Word>(word: WordName, lines: &[u8], room: &mut Room) -> Result<(), Cause>
+    requires signed { T.SIGNED ≡ is_signed word }
+    requires bits { T.BITS ≡ width word }
+    requires word { room.old.word ≡ Some word }
+    requires space { length room.old.answers + 2 * length lines.now ≤ room.old.answer_room }
+    ensures tells { IsAnswerOfRun (after room.old.answers
+        (run_lines (state_in word room.old.registers) 2 (pieces lines.now))) result room.new }
+    ensures kept { KeepsRoom room.old room.new }
+{
     let mut at = 0;
     let mut number = 2;
     while at < lines.len() {
-        (at, number) = room.run_quickly::<T>(lines, at, number);
+        (at, number) = room.run_quickly::<T>(word, lines, at, number);
         if at < lines.len() {
             match answer_line(word, &lines[at..], number, room) {
                 Ok(end) => at += end,

@@ -48,6 +48,7 @@ fn is_shaped(line: &Line) -> bool
     }
 }
 
+#[inline(always)]
 fn is_signed(word: WordName) -> bool
     ensures { result ≡ signed word }
 {
@@ -57,30 +58,24 @@ fn is_signed(word: WordName) -> bool
     }
 }
 
-/// Whether the operation is offered under that policy on signed words, or on unsigned ones.
+/// Whether the operation is offered under that policy on the word.
 #[inline(always)]
 #[tactic(auto, unfolding(crate::specs::Offered::is_offered))]
-pub(crate) fn is_offered_on(is_signed: bool, policy: Policy, op: Op) -> bool
-    ensures { result ≡ offered is_signed policy op }
+pub(crate) fn is_offered(word: WordName, policy: Policy, op: Op) -> bool
+    ensures { result ≡ offered (signed word) policy op }
 {
     match op {
-        Op::Abs | Op::Signum => is_signed,
+        Op::Abs | Op::Signum => is_signed(word),
         Op::Rem | Op::RemInt | Op::RemEuclid => match policy {
             Policy::Checked | Policy::Strict => true,
             Policy::Saturating | Policy::Wrapping | Policy::Overflowing => false,
         },
         Op::NextPowerOfTwo => match policy {
-            Policy::Checked | Policy::Wrapping | Policy::Strict => !is_signed,
+            Policy::Checked | Policy::Wrapping | Policy::Strict => !is_signed(word),
             Policy::Saturating | Policy::Overflowing => false,
         },
         _ => true,
     }
-}
-
-fn is_offered(word: WordName, policy: Policy, op: Op) -> bool
-    ensures { result ≡ offered (signed word) policy op }
-{
-    is_offered_on(is_signed(word), policy, op)
 }
 
 /// Whether the operation of the line is not offered under its policy on the word.
@@ -98,14 +93,15 @@ fn is_unoffered(word: WordName, line: &Line) -> bool
 }
 
 #[inline(always)]
-pub(crate) fn fits_as<T: Word>(literal: Literal) -> bool
+fn fits_as<T: Word>(literal: Literal) -> bool
     ensures { result ≡ fits T.SIGNED T.BITS (literal_value literal) }
 {
     outcome_of::<T>(literal.below_zero, literal.magnitude).side == Side::Fits
 }
 
 /// Whether a literal is a value of the word.
-fn is_literal(word: WordName, literal: Literal) -> bool
+#[inline(always)]
+pub(crate) fn is_literal(word: WordName, literal: Literal) -> bool
     ensures { result ≡ is_value word (literal_value literal) }
 {
     match word {
