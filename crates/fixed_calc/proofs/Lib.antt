@@ -11,6 +11,7 @@ pub mod Drawn
 pub mod Ended
 pub mod Demonstrated
 pub mod Pushed
+pub mod QuickSteps
 pub mod Asked
 pub mod Wider
 pub mod WidenedRuns

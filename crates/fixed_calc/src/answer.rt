@@ -66,6 +66,35 @@ fn push_front(out: &mut Vec<u8>, text: &[u8], count: usize)
     out.truncate(end);
 }
 
+/// Puts what follows a number at its place.
+#[inline(always)]
+fn put_tail(tail: &[u8; 8], text: &mut [u8; 56])
+    ensures { drop 24 text.new ≡ tail.now ++ drop 32 text.old }
+{
+    text[DIGITS_END..DIGITS_END + 8].copy_from_slice(tail);
+}
+
+/// Adds a number of 64 bits and a sign, and so many bytes of what stands behind it in its text.
+#[inline(always)]
+fn push_before(
+    out: &mut Vec<u8>,
+    text: &mut [u8; 56],
+    below_zero: bool,
+    magnitude: u64,
+    count: usize,
+)
+    requires count { count ≤ 8 }
+    requires room { vec_len out.old + 32 ≤ vec_capacity out.old }
+    ensures items { out.new.items ≡ out.old.items
+        ++ (signed_text below_zero magnitude ++ take count (drop 24 text.old)) }
+    ensures len { vec_len out.new
+        ≡ vec_len out.old + (length (signed_text below_zero magnitude) + count) }
+    ensures capacity { vec_capacity out.old ≤ vec_capacity out.new }
+{
+    let start = put_signed(below_zero, magnitude, text);
+    push_front(out, &text[start..start + SPARE], DIGITS_END - start + count);
+}
+
 /// Adds a number of 64 bits and a sign, and so many bytes of what follows it.
 #[inline(always)]
 fn push_number(
@@ -84,9 +113,8 @@ fn push_number(
         ≡ vec_len out.old + (length (signed_text below_zero magnitude) + count) }
     ensures capacity { vec_capacity out.old ≤ vec_capacity out.new }
 {
-    text[DIGITS_END..DIGITS_END + 8].copy_from_slice(tail);
-    let start = put_signed(below_zero, magnitude, text);
-    push_front(out, &text[start..start + SPARE], DIGITS_END - start + count);
+    put_tail(tail, text);
+    push_before(out, text, below_zero, magnitude, count);
 }
 
 /// Adds a number and so many bytes of what follows it.

@@ -112,7 +112,10 @@ fn answer_of_applied<T: Word>(
         b,
         c: registers[line.c],
     };
-    answer_as::<T>(applied.policy, applied.op, None, &taken, number).ok()
+    match answer_as::<T>(applied.policy, applied.op, None, &taken, number) {
+        Ok(answer) => Some(answer),
+        Err(_) => None,
+    }
 }
 
 /// The answer of a line; None where it has a cause.

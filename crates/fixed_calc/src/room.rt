@@ -1,9 +1,9 @@
 //! Where a script runs: its registers and its answers, with room that is made once.
 
-ghost use Rattle.std.specs.Prelude.{◌≡◌, ◌≤◌, ◌<◌, ◌*◌, ◌+◌, ◌++◌, [], drop, length, vec_len, vec_capacity, IfOk, IfErr, OnOk, IsSome, IfSome, IsTrue, ◌↔◌, Some, None, true, false};
+ghost use Rattle.std.specs.Prelude.{◌≡◌, ◌≤◌, ◌<◌, ◌*◌, ◌+◌, ◌++◌, [], length, vec_len, vec_capacity, IfOk, IfErr, OnOk, IsSome, IfSome, IsTrue, ◌↔◌, Some, None, Ok, true, false};
 ghost use Rattle.fixed_calc.specs.Answers.{answer_text};
 ghost use Rattle.fixed_text.specs.Words.{is_signed as signed, width as width_in};
-ghost use Rattle.fixed_calc.specs.inside.Moves.{HasMoved, HaveMoved};
+ghost use Rattle.fixed_calc.specs.inside.Quick.{script_line_of_quick};
 ghost use Rattle.fixed_calc.specs.Meaning.{has_wide as is_wide, zeros};
 ghost use Rattle.fixed_script.specs.Capped.{checked_script_line};
 ghost use Rattle.fixed_calc.specs.Rooms.{KeepsTheRest, spaces, spaces_in};
@@ -13,7 +13,7 @@ use crate::answer::Answer;
 use crate::buffer::Buffer;
 use crate::cause::Cause;
 use crate::piece::read_and_step;
-use crate::quick::{LONGEST, quick_line};
+use crate::quick::QuickLine;
 use crate::quick_step::quick_step;
 use crate::register::{Register, with_sign};
 use crate::stepping::step_registers;
@@ -207,74 +207,33 @@ impl Room {
         read_and_step(word, &mut self.registers, piece, number)
     }
 
-    /// Runs the line in front, if it is read quickly and has no cause, and adds its answer. Answers where
-    /// it ends. Conditions: as many bytes are left as such a line may have, and there are so many registers.
+    /// Runs a line that was read quickly; None where it has a cause. It asks for the word by its name and
+    /// its type.
     #[inline(always)]
-    fn step_quickly<T: Word>(
+    pub(crate) fn step_quick_line<T: Word>(
         &mut self,
         word: WordName,
-        rest: &[u8],
-        count: u8,
+        line: QuickLine,
         number: u64,
-    ) -> Option<usize>
+    ) -> Option<Answer>
         requires signed { T.SIGNED ≡ signed word }
         requires bits { T.BITS ≡ width_in word }
         requires word { self.old.word ≡ Some word }
-        requires long { 64 ≤ length rest.now }
-        requires few { count ≤ 100 }
-        requires count { count ≤ length self.old.registers }
-        requires space { length self.old.answers + 2 * length rest.now ≤ self.old.answer_room }
-        ensures some { IfSome result (λ end. HasMoved word number rest.now end self.old self.new) }
-        ensures none { result ≡ None → self.new ≡ self.old }
+        requires dest { line.dest < length self.old.registers }
+        requires a { line.a < length self.old.registers }
+        requires b { line.b < length self.old.registers }
+        requires c { line.c < length self.old.registers }
+        ensures some { IfSome result (λ answer. IsStepOfLine (state_in word self.old.registers)
+            (Some (script_line_of_quick line)) number (Ok answer) self.new.registers) }
+        ensures none { result ≡ None → self.new.registers ≡ self.old.registers }
         ensures count { length self.new.registers ≡ length self.old.registers }
-        ensures kept { KeepsRoom self.old self.new }
+        ensures kept { KeepsTheRest self.old self.new }
     {
-        let (line, end) = match quick_line(rest, count) {
-            Some(found) => found,
-            None => return None,
-        };
-        match quick_step::<T>(word, &mut self.registers, line, number) {
-            Some(answer) => {
-                self.answers.push_text(answer);
-                Some(end)
-            }
-            None => None,
-        }
-    }
-
-    /// Runs the lines from a place on, as long as they are read quickly and have no cause, and adds their
-    /// answers. Answers where the next line begins, and its number.
-    #[inline(always)]
-    pub(crate) fn run_quickly<T: Word>(
-        &mut self,
-        word: WordName,
-        lines: &[u8],
-        from: usize,
-        first: u64,
-    ) -> (usize, u64)
-        requires signed { T.SIGNED ≡ signed word }
-        requires bits { T.BITS ≡ width_in word }
-        requires word { self.old.word ≡ Some word }
-        requires within { from ≤ length lines.now }
-        requires number { first ≤ from + 2 }
-        requires space { length self.old.answers + 2 * length (drop from lines.now) ≤ self.old.answer_room }
-        ensures moved { HaveMoved word lines.now from first result.0 result.1 self.old self.new }
-        ensures kept { KeepsRoom self.old self.new }
-    {
-        let count = self.registers.len().min(100) as u8;
-        let mut at = from;
-        let mut number = first;
-        while lines.len() - at >= LONGEST {
-            match self.step_quickly::<T>(word, &lines[at..], count, number) {
-                Some(end) => at += end,
-                None => return (at, number),
-            }
-            number += 1;
-        }
-        (at, number)
+        quick_step::<T>(word, &mut self.registers, line, number)
     }
 
     /// Adds the text of an answer, for which there is room.
+    #[inline(always)]
     pub(crate) fn push(&mut self, answer: Answer)
         requires { length self.old.answers + length (answer_text answer) ≤ self.old.answer_room }
         ensures answers { self.new.answers ≡ self.old.answers ++ answer_text answer }

@@ -1,5 +1,5 @@
 -- What the parts of a quick step say.
-use Rattle.std.specs.Prelude.{◌≡◌, ◌≤◌, ℕ, ◌*◌, ◌+◌, List, length, drop, true, Some}
+use Rattle.std.specs.Prelude.{◌≡◌, List, true}
 use Rattle.fixed_script.specs.declared.line.Shape.{Shape}
 use Rattle.fixed_script.specs.declared.line.Shape.TheVariants.{ByInteger}
 use Rattle.fixed_text.specs.declared.names.WordName.{WordName}
