@@ -7,3 +7,4 @@ pub mod Stepping
 pub mod Groups
 pub mod Spelling
 pub mod Signed
+pub mod Quick

@@ -18,6 +18,8 @@ mod memory;
 mod outside;
 mod piece;
 mod projected;
+mod quick;
+mod quick_names;
 mod reading;
 mod register;
 mod room;
