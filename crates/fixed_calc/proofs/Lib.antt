@@ -20,3 +20,4 @@ pub mod Before
 pub mod Lacks
 pub mod Spellings
 pub mod Calls
+pub mod QuickText

@@ -1,27 +1,36 @@
 -- The text of a line that is read quickly, part by part.
-use Rattle.std.proofs.Common.{◌≡◌, ◌+◌, ◌-◌, ◌*◌, ◌^◌, ◌<◌, ◌≤◌, ℕ, ℤ, pos, zero, suc, Bool, true, false, List, [], ◌∷◌, ◌++◌, length, take, drop, get_or, length-append, append_assoc, Option, Some, None, refl, sym, ap, ◌∙◌, arith, codes}
+use Rattle.std.proofs.Common.{◌≡◌, ◌+◌, ◌-◌, ◌*◌, ◌^◌, ◌<◌, ◌≤◌, ℕ, zero, suc, true, false, List, [], ◌∷◌, ◌++◌, length, take, drop, get_or, length-append, append_assoc, Option, Some, None, refl, sym, ap, subst, ◌∙◌, arith, codes}
 use Rattle.std.specs.Char.{is_ascii_digit}
 use Rattle.std.specs.List.{list_all, join_with_byte}
-use Rattle.std.specs.Str.Parse.{digits_value}
-use Rattle.std.proofs.lemmas.List.{drop_more, drop-drop, take-append-drop, take_at, length-take-le, get_or-take, get_or-drop, length-drop}
+use Rattle.std.specs.Str.Parse.{digits_value, AllDigits}
+use Rattle.std.proofs.Math.Nat.{pow-le-pow_right}
+use Rattle.std.proofs.lemmas.Int.Digits.{digits_value-lt}
+use Rattle.std.proofs.lemmas.List.{drop_more, drop-drop, take-append-drop, take_at, drop_at, length-take-le, length-take, get_or-take, get_or-drop, length-drop}
 use Rattle.fixed_word.specs.Decimal.{natural_text, whole_text}
 use Rattle.fixed_word.specs.Format.{with_sign}
 use Rattle.fixed_word.specs.Pieces.{pieces}
 use Rattle.fixed_text.proofs.Capping.{digit_value_is}
-use Rattle.fixed_text.proofs.Decimals.{natural_takes, natural_text_step, natural_text_digit}
+use Rattle.fixed_text.proofs.Decimals.{both, natural_takes, natural_text_step, natural_text_digit}
 use Rattle.fixed_text.proofs.Fronts.{natural_is, digits_more, value_grows}
 use Rattle.fixed_text.proofs.Shown.{one_digit}
 use Rattle.fixed_script.specs.declared.line.Shape.{Shape}
 use Rattle.fixed_script.specs.declared.line.Shape.TheVariants.{Unary, Binary, ByInteger, Ternary}
 use Rattle.fixed_script.specs.Names.{policy_name, op_name}
 use Rattle.fixed_script.specs.Lines.{line_of_piece}
-use Rattle.fixed_script.specs.Text.{ScriptLine, SetTo, Apply, IsLine, line_text, register_text, operand_tokens, shape, shape_of}
+use Rattle.fixed_script.specs.Text.{IsLine, line_text, register_text, operand_tokens, shape, shape_of}
 use Rattle.fixed_calc.specs.Demo.{ended}
 use Rattle.fixed_calc.specs.declared.quick.Applied.{Applied}
 use Rattle.fixed_calc.specs.declared.quick.QuickLine.{QuickLine}
-use Rattle.fixed_calc.specs.inside.Quick.{Stands, HasOperands, IsQuickLine, applied_or_set, quick_operands, quick_number, script_line_of_quick}
+use Rattle.fixed_calc.specs.inside.Quick.{Stands, HasOperands, IsQuickLine, applied_or_set, quick_operands, quick_number}
 use Rattle.fixed_calc.proofs.Ended.{pieces_ended, line_read}
 use Rattle.fixed_calc.proofs.Lacks.{line_lacks}
+
+-- ---- names
+-- a name whose parts share some bytes
+pub overlapped : (bytes front behind back : List ℕ) (at place after end : ℕ) → drop at bytes ≡ front ++ behind → place ≡ at + length front → drop place bytes ≡ back ++ drop after bytes → after ≡ end → drop at bytes ≡ front ++ (back ++ drop end bytes)
+overlapped bytes front behind back at place after end first is second ends =
+    let same : drop place bytes ≡ behind = ap (λ n. drop n bytes) is ∙ sym (drop-drop (length front) at bytes) ∙ ap (drop (length front)) first ∙ drop_at front behind (length front) refl in
+    first ∙ ap (λ (t : List ℕ). front ++ t) (sym same ∙ second ∙ ap (λ n. back ++ drop n bytes) ends)
 
 -- ---- registers
 -- the byte at a place, and what comes after it
@@ -69,6 +78,34 @@ register_two bytes at n s room letter tens above ones is separator =
     above_zero c le not = grind (arith, le, not)
 
 -- ---- numbers
+-- one more digit
+all_below : (ds : List ℕ) → list_all is_ascii_digit ds ≡ true → AllDigits 10 ds
+all_below [] digits = tt
+all_below (c ∷ cs) digits =
+    let parts = both (is_ascii_digit c) (list_all is_ascii_digit cs) digits in
+    let d = digit_value_is c parts.0 in
+    (omega (arith, d.0, d.1, d.2), all_below cs parts.1)
+
+pub value_small : (bytes : List ℕ) (at count v : ℕ) → count < 19 → list_all is_ascii_digit (take count (drop at bytes)) ≡ true → v ≡ digits_value 10 (take count (drop at bytes)) → v < 1000000000000000000
+value_small bytes at count v few digits is =
+    let ds = take count (drop at bytes) in
+    let below = digits_value-lt 10 ds (all_below ds digits) in
+    let short : length ds ≤ 18 = omega (arith, length-take count (drop at bytes)) in
+    let power : 10 ^ length ds ≤ 10 ^ 18 = pow-le-pow_right (omega arith) short in
+    omega (arith, below, power, is)
+
+pub digits_step : (bytes : List ℕ) (at count : ℕ) → at + 19 ≤ length bytes → count < 19 → list_all is_ascii_digit (take count (drop at bytes)) ≡ true → is_ascii_digit (get_or bytes (at + count) 0) ≡ true
+    → list_all is_ascii_digit (take (count + 1) (drop at bytes)) ≡ true
+digits_step bytes at count room few digits here =
+    let lt : count < length (drop at bytes) = omega (arith, length-drop at bytes) in
+    digits_more (drop at bytes) count lt digits (ap is_ascii_digit (get_or-drop at bytes count 0) ∙ here)
+
+pub value_step : (bytes : List ℕ) (at count v : ℕ) → at + 19 ≤ length bytes → count < 19 → v ≡ digits_value 10 (take count (drop at bytes)) → is_ascii_digit (get_or bytes (at + count) 0) ≡ true
+    → v * 10 + (get_or bytes (at + count) 0 - 48) ≡ digits_value 10 (take (count + 1) (drop at bytes))
+value_step bytes at count v room few is here =
+    let lt : count < length (drop at bytes) = omega (arith, length-drop at bytes) in
+    ap (λ k. v * 10 + (k - 48)) (sym (get_or-drop at bytes count 0)) ∙ value_grows (drop at bytes) count v lt is (ap is_ascii_digit (get_or-drop at bytes count 0) ∙ here)
+
 pub natural_stands : (bytes : List ℕ) (at v count : ℕ) → at + 20 ≤ length bytes → 0 < count → count ≤ 19 → (1 < count → get_or bytes at 0 ≡ 48 → ⊥) → list_all is_ascii_digit (take count (drop at bytes)) ≡ true
     → v ≡ digits_value 10 (take count (drop at bytes)) → v < 2 ^ 64 → get_or bytes (at + count) 0 ≡ 10 → Stands bytes at (natural_text v) 10 20 (at + count + 1)
 natural_stands bytes at v count room some most first digits is small newline =
@@ -149,9 +186,10 @@ set_is_quick count bytes line at end applied declared first name number room =
     let named : drop at bytes ≡ (codes "set" ++ (32 ∷ whole)) ++ rest = then_stands (codes "set") whole (drop at bytes) (drop (at + 4) bytes) rest name number.reads in
     is_quick count bytes line end None applied tt (then_stands (register_text line.dest) (codes "set" ++ (32 ∷ whole)) bytes (drop at bytes) rest first.reads named) (omega (arith, first.within, number.within, room)) declared
 
-pub applied_is_quick : (count : ℕ) (bytes : List ℕ) (line read : QuickLine) (at next place end : ℕ) (x : Applied) → line.applied ≡ Some x → line.dest < count → Stands bytes 0 (register_text line.dest) 32 4 at → Stands bytes at (policy_name x.policy) 32 12 next
-    → Stands bytes next (op_name x.op) 32 18 place → HasOperands (shape x.op) count bytes place line read end → 64 ≤ length bytes → IsQuickLine count bytes read end
-applied_is_quick count bytes line read at next place end x applied dest first policy op operands room =
+pub applied_is_quick : (count : ℕ) (bytes : List ℕ) (line read : QuickLine) (at next place end : ℕ) (x : Applied) (kind : Shape) → kind ≡ shape x.op → line.applied ≡ Some x → line.dest < count → Stands bytes 0 (register_text line.dest) 32 4 at → Stands bytes at (policy_name x.policy) 32 12 next
+    → Stands bytes next (op_name x.op) 32 18 place → HasOperands kind count bytes place line read end → 64 ≤ length bytes → IsQuickLine count bytes read end
+applied_is_quick count bytes line read at next place end x kind same applied dest first policy op found room =
+    let operands : HasOperands (shape x.op) count bytes place line read end = subst (λ (k : Shape). HasOperands k count bytes place line read end) same found in
     let rest = 10 ∷ drop end bytes in
     let xs = join_with_byte 32 (operand_tokens (quick_operands (shape x.op) read)) in
     let from_op = then_stands (op_name x.op) xs (drop next bytes) (drop place bytes) rest op.reads operands.text in

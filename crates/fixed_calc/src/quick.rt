@@ -203,5 +203,11 @@ pub(crate) fn quick_line(bytes: &[u8], count: u8) -> Option<(QuickLine, usize)>
     let (policy, at) = policy_at(bytes, at)?;
     let (op, at) = op_at(bytes, at)?;
     let applied = Some(Applied { policy, op });
-    operands_at(bytes, at, count, shape_of(op), QuickLine { applied, ..line })
+    operands_at(
+        bytes,
+        at,
+        count,
+        shape_of(op),
+        QuickLine { applied, ..line },
+    )
 }
