@@ -21,3 +21,4 @@ pub mod Before
 pub mod Lacks
 pub mod Spellings
 pub mod Calls
+pub mod QuickText

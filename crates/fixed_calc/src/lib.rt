@@ -19,6 +19,7 @@ mod outside;
 mod piece;
 mod projected;
 mod quick;
+mod quick_names;
 mod quick_step;
 mod reading;
 mod register;
