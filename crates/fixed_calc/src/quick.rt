@@ -91,10 +91,12 @@ fn digits_at(bytes: &[u8], at: usize) -> (u64, usize)
     ensures digits { list_all is_ascii_digit (take result.1 (drop at bytes.now)) ≡ true }
     ensures value { result.0 ≡ digits_value 10 (take result.1 (drop at bytes.now)) }
 {
+    // A slice of that length, so that no index in the loop is tested.
+    let digits = &bytes[at..at + 19];
     let mut value = 0;
     let mut count = 0;
-    while count < 19 && bytes[at + count].is_ascii_digit() {
-        value = value * 10 + u64::from(bytes[at + count] - b'0');
+    while count < 19 && digits[count].is_ascii_digit() {
+        value = value * 10 + u64::from(digits[count] - b'0');
         count += 1;
     }
     (value, count)
