@@ -173,7 +173,9 @@ def cause(policy, op, number, low, high):
 
 
 def run(script):
-    header, *lines = script.split("\n")[:-1]
+    header, *lines, rest = script.split("\n")
+    if rest:
+        lines.append("")  # what no newline ends is no line
     word, *fractions = header.split(" ")
     signed, width = WORDS[word]
     low, high = ends(signed, width)

@@ -5,6 +5,11 @@
 Half of the lines of operations that may name their rounding do so; small numbers, small fractions and small even
 divisors come often and bring ties. In every third script one line is spoilt: something is added at its end, mostly what
 no line may end in, or its registers are taken from all that there are and one that was not declared.
+
+Every second script is short and has forms at the edge of the quick reading: registers of one, two and three digits, numbers
+at both ends of the word and one past them, each policy on each operation, and in the first, a middle or the last line a 0 in
+front, two spaces, a rounding, or another fault. It is run as a whole and with each of its lines as the last one, with a newline
+and without.
 """
 import random
 import subprocess
@@ -73,16 +78,74 @@ def script(rnd):
     return "\n".join([header] + lines) + "\n"
 
 
+def edge_value(signed, width, rnd):
+    low, high = ends(signed, width)
+    if rnd.random() < 0.03:
+        return rnd.choice([low - 1, high + 1, 10**19 - 1, 10**19, -10**18, 2**64, 10**30])
+    return rnd.choice([low, high, 0, 1, 2, 9, 10, 99, value(signed, width, rnd)])
+
+
+def edge_line(signed, width, count, rnd):
+    def register():
+        past = rnd.random() < 0.01
+        return f"r{count if past else rnd.choice([rnd.randrange(count), rnd.randrange(min(count, 12)), count - 1])}"
+
+    if rnd.random() < 0.3:
+        return f"{register()} set {edge_value(signed, width, rnd)}"
+    op = rnd.choice(UNARY + BINARY + BY_INT + TERNARY)
+    policy = rnd.choice(TOTAL_POLICIES + ["strict"])
+    if (op in PARTIAL or not is_offered(signed, policy, op)) and rnd.random() < 0.95:
+        policy = "checked"
+    if not is_offered(signed, policy, op) and rnd.random() < 0.95:
+        op = "mul"
+    operands = [register() for _ in range(1 if op in UNARY + BY_INT else 3 if op in TERNARY else 2)]
+    if op in BY_INT:
+        operands.append(str(edge_value(signed, width, rnd) or 3))
+    return " ".join([register(), policy, op] + operands)
+
+
+def spoilt(text, rnd):
+    """The line with a byte more, less or changed, mostly at the edge of a word, or with one of the endings."""
+    if rnd.random() < 0.3:
+        return text + rnd.choice(ENDINGS)
+    place = rnd.choice([0, len(text)] + [i + 1 for i, letter in enumerate(text) if letter in " r"])
+    more = rnd.choice(["0", "-", " ", "\t", "+", "r", "1", "\n", "\r", "-0", "_", ""])
+    return text[:place] + more + text[place + (rnd.random() < 0.3):]
+
+
+def edge_scripts(rnd):
+    """A short script, and it with each of its lines as the last one."""
+    word = rnd.choice(list(WORDS))
+    signed, width = WORDS[word]
+    count = rnd.choice([1, 3, 9, 10, 11, 12, 99, 100, 101, 120])
+    shared = rnd.choice([0, 1, width // 2, width - 1, width])
+    fractions = [shared if rnd.random() < 0.995 else rnd.randint(0, width) for _ in range(count)]
+    lines = [edge_line(signed, width, count, rnd) for _ in range(rnd.randint(1, 12))]
+    if rnd.random() < 0.5:
+        place = rnd.choice([0, len(lines) // 2, -1])
+        lines[place] = spoilt(lines[place], rnd)
+    header = " ".join([word] + [str(fraction) for fraction in fractions])
+    for last in range(len(lines)):
+        text = "\n".join([header] + lines[: last + 1])
+        yield text + "\n"
+        yield text
+
+
+def compare(program, text, which):
+    want = run(text)
+    done = subprocess.run([program], input=text.encode(), capture_output=True)
+    got = (done.stdout if done.returncode == 0 else done.stderr).decode()
+    if got != want or (done.returncode != 0 and done.stdout):
+        sys.exit(f"script {which} differs:\n{text}\nwanted:\n{want}\ngot:\n{got}")
+
+
 def main():
     seed, count = int(sys.argv[1]), int(sys.argv[2])
     program = sys.argv[3] if len(sys.argv) > 3 else "crates/fixed_prog/out/fixed_prog"
     for i in range(count):
-        text = script(random.Random(seed * 1_000_003 + i))
-        want = run(text)
-        done = subprocess.run([program], input=text.encode(), capture_output=True)
-        got = (done.stdout if done.returncode == 0 else done.stderr).decode()
-        if got != want or (done.returncode != 0 and done.stdout):
-            sys.exit(f"script {i} differs:\n{text}\nwanted:\n{want}\ngot:\n{got}")
+        rnd = random.Random(seed * 1_000_003 + i)
+        for text in edge_scripts(rnd) if i % 2 else [script(rnd)]:
+            compare(program, text, i)
     print(f"{count} scripts agree")
 
 

@@ -11,6 +11,7 @@ pub mod Drawn
 pub mod Ended
 pub mod Demonstrated
 pub mod Pushed
+pub mod QuickSteps
 pub mod Asked
 pub mod Wider
 pub mod WidenedRuns
@@ -20,3 +21,4 @@ pub mod Before
 pub mod Lacks
 pub mod Spellings
 pub mod Calls
+pub mod QuickText

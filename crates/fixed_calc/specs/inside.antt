@@ -2,6 +2,8 @@
 pub mod Buffers
 pub mod Commands
 pub mod Moves
+pub mod Quick
+pub mod QuickSteps
 pub mod ReadFaults
 pub mod Stepping
 pub mod Groups

@@ -23,13 +23,6 @@ pub(crate) const SPARE: usize = 32;
 /// Where the digits of a number end in its text.
 const DIGITS_END: usize = 24;
 
-/// Room for the digits of a number, what follows them, and bytes that are taken off again.
-const PLAIN: [u8; 56] = *b"........................\n...............................";
-
-const FITS: [u8; 56] = *b"........................ false\n.........................";
-
-const EXCEEDS: [u8; 56] = *b"........................ true\n..........................";
-
 /// The sign and the magnitude of a number.
 #[inline(always)]
 fn sign_and_magnitude(n: i128) -> (bool, u128)
@@ -73,43 +66,79 @@ fn push_front(out: &mut Vec<u8>, text: &[u8], count: usize)
     out.truncate(end);
 }
 
-/// Adds a number of 64 bits and a sign, and so many bytes of what follows it.
+/// Puts what follows a number at its place.
 #[inline(always)]
-fn push_number(out: &mut Vec<u8>, below_zero: bool, magnitude: u64, text: [u8; 56], tail: usize)
-    requires tail { tail ≤ 8 }
+fn put_tail(tail: &[u8; 8], text: &mut [u8; 56])
+    ensures { drop 24 text.new ≡ tail.now ++ drop 32 text.old }
+{
+    text[DIGITS_END..DIGITS_END + 8].copy_from_slice(tail);
+}
+
+/// Adds a number of 64 bits and a sign, and so many bytes of what stands behind it in its text.
+#[inline(always)]
+fn push_before(
+    out: &mut Vec<u8>,
+    text: &mut [u8; 56],
+    below_zero: bool,
+    magnitude: u64,
+    count: usize,
+)
+    requires count { count ≤ 8 }
     requires room { vec_len out.old + 32 ≤ vec_capacity out.old }
     ensures items { out.new.items ≡ out.old.items
-        ++ (signed_text below_zero magnitude ++ take tail (drop 24 text)) }
+        ++ (signed_text below_zero magnitude ++ take count (drop 24 text.old)) }
     ensures len { vec_len out.new
-        ≡ vec_len out.old + (length (signed_text below_zero magnitude) + tail) }
+        ≡ vec_len out.old + (length (signed_text below_zero magnitude) + count) }
     ensures capacity { vec_capacity out.old ≤ vec_capacity out.new }
 {
-    let mut text = text;
-    let start = put_signed(below_zero, magnitude, &mut text);
-    push_front(out, &text[start..start + SPARE], DIGITS_END - start + tail);
+    let start = put_signed(below_zero, magnitude, text);
+    push_front(out, &text[start..start + SPARE], DIGITS_END - start + count);
+}
+
+/// Adds a number of 64 bits and a sign, and so many bytes of what follows it.
+#[inline(always)]
+fn push_number(
+    out: &mut Vec<u8>,
+    text: &mut [u8; 56],
+    below_zero: bool,
+    magnitude: u64,
+    tail: &[u8; 8],
+    count: usize,
+)
+    requires count { count ≤ 8 }
+    requires room { vec_len out.old + 32 ≤ vec_capacity out.old }
+    ensures items { out.new.items ≡ out.old.items
+        ++ (signed_text below_zero magnitude ++ take count tail.now) }
+    ensures len { vec_len out.new
+        ≡ vec_len out.old + (length (signed_text below_zero magnitude) + count) }
+    ensures capacity { vec_capacity out.old ≤ vec_capacity out.new }
+{
+    put_tail(tail, text);
+    push_before(out, text, below_zero, magnitude, count);
 }
 
 /// Adds a number and so many bytes of what follows it.
 #[inline(always)]
-fn push_with(out: &mut Vec<u8>, n: i128, text: [u8; 56], tail: usize)
-    requires tail { tail ≤ 8 }
-    requires room { vec_len out.old + (length (whole_text n) + tail) ≤ vec_capacity out.old }
+fn push_with(out: &mut Vec<u8>, text: &mut [u8; 56], n: i128, tail: &[u8; 8], count: usize)
+    requires count { count ≤ 8 }
+    requires room { vec_len out.old + (length (whole_text n) + count) ≤ vec_capacity out.old }
     requires spare { vec_len out.old + 32 ≤ vec_capacity out.old }
-    ensures items { out.new.items ≡ out.old.items ++ (whole_text n ++ take tail (drop 24 text)) }
-    ensures len { vec_len out.new ≡ vec_len out.old + (length (whole_text n) + tail) }
+    ensures items { out.new.items ≡ out.old.items ++ (whole_text n ++ take count tail.now) }
+    ensures len { vec_len out.new ≡ vec_len out.old + (length (whole_text n) + count) }
     ensures capacity { vec_capacity out.old ≤ vec_capacity out.new }
 {
     let (below_zero, magnitude) = sign_and_magnitude(n);
     if magnitude < 1 << 64 {
-        push_number(out, below_zero, magnitude as u64, text, tail);
+        push_number(out, text, below_zero, magnitude as u64, tail, count);
     } else {
         push_whole(out, n);
-        push_all(out, &text[DIGITS_END..DIGITS_END + tail]);
+        push_all(out, &tail[..count]);
     }
 }
 
-/// Adds the text of an answer.
-pub(crate) fn push_answer(out: &mut Vec<u8>, answer: Answer)
+/// Adds the text of an answer. Its number is written in room that is lent.
+#[inline(always)]
+pub(crate) fn push_answer(out: &mut Vec<u8>, text: &mut [u8; 56], answer: Answer)
     requires { vec_len out.old + length (answer_text answer) + 32 ≤ vec_capacity out.old }
     ensures items { out.new.items ≡ out.old.items ++ answer_text answer }
     ensures len { vec_len out.new ≡ vec_len out.old + length (answer_text answer) }
@@ -117,12 +146,12 @@ pub(crate) fn push_answer(out: &mut Vec<u8>, answer: Answer)
 {
     match answer {
         Answer::Absent => push_all(out, b"none\n"),
-        Answer::Bits(n) => push_with(out, n, PLAIN, 1),
+        Answer::Bits(n) => push_with(out, text, n, b"\n.......", 1),
         Answer::Flagged(n, verdict) => {
             if verdict {
-                push_with(out, n, EXCEEDS, 6);
+                push_with(out, text, n, b" true\n..", 6);
             } else {
-                push_with(out, n, FITS, 7);
+                push_with(out, text, n, b" false\n.", 7);
             }
         }
     }

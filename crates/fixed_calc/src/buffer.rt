@@ -8,11 +8,13 @@ use crate::answer::{Answer, SPARE, push_answer};
 use std::alloc::{AllocError, Global};
 use std::marker::Model;
 
-/// Bytes, with room for a fixed number of them, and spare room behind it.
+/// Bytes, with room for a fixed number of them, and spare room behind it; and room in which the number of an
+/// answer is written.
 #[derive(Drop)]
 pub(crate) struct Buffer {
     held: Vec<u8>,
     most: usize,
+    text: [u8; 56],
 }
 
 impl Model for Buffer {
@@ -36,6 +38,7 @@ impl Buffer {
             Some(total) => Ok(Buffer {
                 held: Vec::with_capacity(alloc, total)?,
                 most: room,
+                text: [0; 56],
             }),
             None => Err(AllocError),
         }
@@ -70,11 +73,12 @@ impl Buffer {
     }
 
     /// Adds the text of an answer, for which there is room.
+    #[inline(always)]
     pub(crate) fn push_text(&mut self, answer: Answer)
         requires { length self.old.bytes + length (answer_text answer) ≤ self.old.room }
         ensures { self.new
             ≡ record { bytes = self.old.bytes ++ answer_text answer; room = self.old.room } }
     {
-        push_answer(&mut self.held, answer);
+        push_answer(&mut self.held, &mut self.text, answer);
     }
 }

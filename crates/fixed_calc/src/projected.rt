@@ -21,6 +21,7 @@ use fixed_word::{
 };
 
 /// The number of a word.
+#[inline(always)]
 fn number_of<T: RawWord>(word: T) -> i128
     ensures { result ≡ T.value word }
 {
@@ -33,6 +34,7 @@ fn number_of<T: RawWord>(word: T) -> i128
 }
 
 /// The word of a register.
+#[inline(always)]
 fn word_held<T: Word>(register: Register) -> T
     requires { IsTrue (fits T.SIGNED T.BITS (cell_of register).bits) }
     ensures { T.value result ≡ (cell_of register).bits }
@@ -41,6 +43,7 @@ fn word_held<T: Word>(register: Register) -> T
 }
 
 /// The operand that a register holds.
+#[inline(always)]
 fn operand_of<T: Word>(register: Register) -> Operand<T>
     requires { IsTrue (fits T.SIGNED T.BITS (cell_of register).bits) }
     ensures bits { T.value result.bits ≡ (cell_of register).bits }
@@ -53,6 +56,7 @@ fn operand_of<T: Word>(register: Register) -> Operand<T>
 }
 
 /// What the policy makes of the number that an outcome stands for.
+#[inline(always)]
 fn answered<T: Word>(policy: Policy, outcome: Outcome<T>, number: u64) -> Result<Answer, Cause>
     ensures { (x : ℤ) → StandsFor T.value T.SIGNED T.BITS x outcome
         → IsAnswerOfNumber T.SIGNED T.BITS policy x number result }
@@ -77,6 +81,7 @@ fn answered<T: Word>(policy: Policy, outcome: Outcome<T>, number: u64) -> Result
 
 /// What the policy makes of a row that is undefined.
 #[tactic(auto, unfolding(crate::specs::Machine::row_causes))]
+#[inline(always)]
 fn unanswered(policy: Policy, op: Op, number: u64) -> Result<Answer, Cause>
     ensures { (signed : Bool) (n : ℕ) (row : Option ℤ) → row ≡ None
         → IsAnswerOfRow signed n policy op row number result }
@@ -91,8 +96,9 @@ fn unanswered(policy: Policy, op: Op, number: u64) -> Result<Answer, Cause>
 }
 
 /// The answer of an operation on registers of a word, or its cause.
+#[inline(always)]
 #[tactic(auto, unfolding(crate::specs::Machine::row_causes))]
-fn answer_as<T: Word>(
+pub(crate) fn answer_as<T: Word>(
     policy: Policy,
     op: Op,
     rounding: Option<Rounding>,

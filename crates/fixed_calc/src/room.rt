@@ -1,8 +1,9 @@
 //! Where a script runs: its registers and its answers, with room that is made once.
 
-ghost use Rattle.std.specs.Prelude.{◌≡◌, ◌≤◌, ◌<◌, ◌*◌, ◌+◌, ◌++◌, [], length, vec_len, vec_capacity, IfOk, IfErr, OnOk, IsSome, IfSome, IsTrue, ◌↔◌, Some, None, true, false};
+ghost use Rattle.std.specs.Prelude.{◌≡◌, ◌≤◌, ◌<◌, ◌*◌, ◌+◌, ◌++◌, [], length, vec_len, vec_capacity, IfOk, IfErr, OnOk, IsSome, IfSome, IsTrue, ◌↔◌, Some, None, Ok, true, false};
 ghost use Rattle.fixed_calc.specs.Answers.{answer_text};
-ghost use Rattle.fixed_text.specs.Words.{width as width_in};
+ghost use Rattle.fixed_text.specs.Words.{is_signed as signed, width as width_in};
+ghost use Rattle.fixed_calc.specs.inside.Quick.{script_line_of_quick};
 ghost use Rattle.fixed_calc.specs.Meaning.{has_wide as is_wide, zeros};
 ghost use Rattle.fixed_script.specs.Capped.{checked_script_line};
 ghost use Rattle.fixed_calc.specs.Rooms.{KeepsTheRest, spaces, spaces_in};
@@ -12,10 +13,13 @@ use crate::answer::Answer;
 use crate::buffer::Buffer;
 use crate::cause::Cause;
 use crate::piece::read_and_step;
+use crate::quick::QuickLine;
+use crate::quick_step::quick_step;
 use crate::register::{Register, with_sign};
 use crate::stepping::step_registers;
 use fixed_script::{Header, Line};
 use fixed_text::{WordName, piece_end};
+use fixed_word::Word;
 use std::alloc::{AllocError, Global};
 use std::marker::Model;
 
@@ -203,7 +207,33 @@ impl Room {
         read_and_step(word, &mut self.registers, piece, number)
     }
 
+    /// Runs a line that was read quickly; None where it has a cause. It asks for the word by its name and
+    /// its type.
+    #[inline(always)]
+    pub(crate) fn step_quick_line<T: Word>(
+        &mut self,
+        word: WordName,
+        line: QuickLine,
+        number: u64,
+    ) -> Option<Answer>
+        requires signed { T.SIGNED ≡ signed word }
+        requires bits { T.BITS ≡ width_in word }
+        requires word { self.old.word ≡ Some word }
+        requires dest { line.dest < length self.old.registers }
+        requires a { line.a < length self.old.registers }
+        requires b { line.b < length self.old.registers }
+        requires c { line.c < length self.old.registers }
+        ensures some { IfSome result (λ answer. IsStepOfLine (state_in word self.old.registers)
+            (Some (script_line_of_quick line)) number (Ok answer) self.new.registers) }
+        ensures none { result ≡ None → self.new.registers ≡ self.old.registers }
+        ensures count { length self.new.registers ≡ length self.old.registers }
+        ensures kept { KeepsTheRest self.old self.new }
+    {
+        quick_step::<T>(word, &mut self.registers, line, number)
+    }
+
     /// Adds the text of an answer, for which there is room.
+    #[inline(always)]
     pub(crate) fn push(&mut self, answer: Answer)
         requires { length self.old.answers + length (answer_text answer) ≤ self.old.answer_room }
         ensures answers { self.new.answers ≡ self.old.answers ++ answer_text answer }

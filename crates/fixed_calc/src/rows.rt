@@ -38,6 +38,7 @@ pub(crate) enum Group {
 }
 
 /// The operation's group.
+#[inline(always)]
 fn group_of(op: Op) -> Group
     ensures { result ≡ group op }
 {
@@ -59,6 +60,7 @@ fn group_of(op: Op) -> Group
 }
 
 /// The outcome of an operation on one number, where it is defined.
+#[inline(always)]
 #[tactic(auto, unfolding(crate::specs::Rows::exact, crate::specs::Offered::is_offered))]
 fn outcome_of_one<T: Word>(policy: Policy, op: Op, x: T, frac: u32) -> Option<Outcome<T>>
     requires group { group op ≡ OfOne }
@@ -91,6 +93,7 @@ fn outcome_of_one<T: Word>(policy: Policy, op: Op, x: T, frac: u32) -> Option<Ou
 }
 
 /// The outcome of a sum, a difference or a product.
+#[inline(always)]
 #[tactic(auto, unfolding(crate::specs::Rows::exact))]
 fn outcome_of_sum_or_product<T: Word>(
     op: Op,
@@ -120,6 +123,7 @@ fn outcome_of_sum_or_product<T: Word>(
 }
 
 /// The outcome of a quotient, a remainder or a multiple. Condition: the divisor is not 0.
+#[inline(always)]
 fn outcome_of_quotient<T: Word>(op: Op, x: T, y: T, frac: u32) -> Option<Outcome<T>>
     requires group { group op ≡ ByDivisor }
     requires divisor { T.value y ≢ pos 0 }
@@ -142,6 +146,7 @@ fn outcome_of_quotient<T: Word>(op: Op, x: T, y: T, frac: u32) -> Option<Outcome
 }
 
 /// The same, and None where the divisor is 0.
+#[inline(always)]
 fn outcome_by_divisor<T: Word>(op: Op, x: T, y: T, frac: u32) -> Option<Outcome<T>>
     requires group { group op ≡ ByDivisor }
     requires frac { frac ≤ T.BITS }
@@ -155,6 +160,7 @@ fn outcome_by_divisor<T: Word>(op: Op, x: T, y: T, frac: u32) -> Option<Outcome<
 }
 
 /// The outcome of the operation's row, where it is defined.
+#[inline(always)]
 #[tactic(auto)]
 fn outcome_as<T: Word>(
     policy: Policy,
@@ -244,6 +250,7 @@ fn rounded_outcome_as<T: Word>(
 
 /// The outcome of the operation's row with the rounding that a line names, if it names one, where the row
 /// is defined.
+#[inline(always)]
 pub(crate) fn outcome_by<T: Word>(
     rounding: Option<Rounding>,
     policy: Policy,

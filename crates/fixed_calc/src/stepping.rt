@@ -48,6 +48,7 @@ fn is_shaped(line: &Line) -> bool
     }
 }
 
+#[inline(always)]
 fn is_signed(word: WordName) -> bool
     ensures { result ≡ signed word }
 {
@@ -57,8 +58,10 @@ fn is_signed(word: WordName) -> bool
     }
 }
 
+/// Whether the operation is offered under that policy on the word.
+#[inline(always)]
 #[tactic(auto, unfolding(crate::specs::Offered::is_offered))]
-fn is_offered(word: WordName, policy: Policy, op: Op) -> bool
+pub(crate) fn is_offered(word: WordName, policy: Policy, op: Op) -> bool
     ensures { result ≡ offered (signed word) policy op }
 {
     match op {
@@ -89,6 +92,7 @@ fn is_unoffered(word: WordName, line: &Line) -> bool
     }
 }
 
+#[inline(always)]
 fn fits_as<T: Word>(literal: Literal) -> bool
     ensures { result ≡ fits T.SIGNED T.BITS (literal_value literal) }
 {
@@ -96,7 +100,8 @@ fn fits_as<T: Word>(literal: Literal) -> bool
 }
 
 /// Whether a literal is a value of the word.
-fn is_literal(word: WordName, literal: Literal) -> bool
+#[inline(always)]
+pub(crate) fn is_literal(word: WordName, literal: Literal) -> bool
     ensures { result ≡ is_value word (literal_value literal) }
 {
     match word {
@@ -353,7 +358,8 @@ fn destination(line: &Line) -> u128
 }
 
 /// Stores a number in a register.
-fn store(registers: &mut [Register], dest: u128, x: i128)
+#[inline(always)]
+pub(crate) fn store(registers: &mut [Register], dest: u128, x: i128)
     requires there { dest < length registers.old }
     requires size { unsigned_abs x < 2 ^ 64 }
     ensures { cells_of registers.new ≡ set (cells_of registers.old) dest

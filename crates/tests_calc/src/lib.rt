@@ -18,6 +18,8 @@ mod pairs;
 #[cfg(test)]
 mod programs;
 #[cfg(test)]
+mod quick;
+#[cfg(test)]
 mod refused;
 #[cfg(test)]
 mod spelled;

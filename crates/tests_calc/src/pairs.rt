@@ -7,7 +7,7 @@ use std::process::Abort;
 use std::test::Fail;
 
 /// A script for each operation on a signed and on an unsigned word, and its answers.
-const PAIRS: [(&str, &str); 41] = [
+pub const PAIRS: [(&str, &str); 41] = [
     (
         "i8 4 4\nr1 set -128\nr0 checked neg r1\nr0 saturating neg r1\nr0 wrapping neg r1\n\
          r0 overflowing neg r1\nr1 set 5\nr0 strict neg r1\n",

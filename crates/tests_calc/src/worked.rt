@@ -5,7 +5,7 @@ use fixed_calc::{Cause, RunFault, Status, run};
 use std::test::Fail;
 
 /// Scripts and their answers.
-const ANSWERS: [(&str, &str); 41] = [
+pub const ANSWERS: [(&str, &str); 41] = [
     ("i32 16\n", ""),
     ("i8 4\n", ""),
     ("u64 0 64 32\n", ""),

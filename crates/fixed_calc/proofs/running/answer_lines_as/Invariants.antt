@@ -3,11 +3,11 @@ use Rattle.fixed_word.specs.Pieces.{pieces}
 use Rattle.fixed_calc.specs.Meaning.{after, run_lines}
 use Rattle.fixed_calc.specs.Step.{state_in}
 use Rattle.fixed_calc.specs.Rooms.{KeepsRoom}
-use Rattle.fixed_calc.proofs.running.answer_lines.Given as goal
+use Rattle.fixed_calc.proofs.running.answer_lines_as.Given as goal
 
 -- the run from here, after the answers so far, is the run of all
 abbrev pub invariant-loop-at : goal.invariant-loop-at
-invariant-loop-at l =
+invariant-loop-at g l =
     record {
       within : l.at ≤ length l.lines;
       word : l.room.word ≡ Some l.fn.word;
@@ -18,4 +18,4 @@ invariant-loop-at l =
     }
 
 abbrev pub decreases-loop-at : goal.decreases-loop-at
-decreases-loop-at l = length l.lines - l.at
+decreases-loop-at g l = length l.lines - l.at

@@ -4,10 +4,10 @@ use Rattle.fixed_word.specs.Pieces.{pieces}
 use Rattle.fixed_calc.specs.Meaning.{after, run_lines}
 use Rattle.fixed_calc.specs.Step.{state_in}
 use Rattle.fixed_calc.proofs.Runs.{run_ends, told_end}
-use Rattle.fixed_calc.proofs.running.answer_lines.Goals as goal
+use Rattle.fixed_calc.proofs.running.answer_lines_as.Goals as goal
 
 pub returns-clause-tells : goal.returns-clause-tells
-returns-clause-tells c =
+returns-clause-tells g c =
     let room = c.loop-at.room in
     let s = state_in c.args.word room.registers in
     let k = c.loop-at.number in
