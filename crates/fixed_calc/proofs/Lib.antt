@@ -10,6 +10,7 @@ pub mod Letters
 pub mod Drawn
 pub mod Ended
 pub mod Demonstrated
+pub mod Parts
 pub mod Pushed
 pub mod QuickSteps
 pub mod Asked

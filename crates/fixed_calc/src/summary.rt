@@ -1,6 +1,6 @@
 //! The summary of a demonstration.
 
-ghost use Rattle.std.specs.Prelude.{◌≡◌, ◌==◌, ◌≤◌, List, count_by, flat_map, IfOk};
+ghost use Rattle.std.specs.Prelude.{◌≡◌, ◌==◌, ◌≤◌, ◌<◌, ◌^◌, List, count_by, flat_map, length, IfOk};
 ghost use Rattle.fixed_calc.specs.declared.answer.Answer.{Answer};
 ghost use Rattle.fixed_calc.specs.Answers.{answer_text};
 ghost use Rattle.fixed_calc.specs.Demo.{is_absent, has_true_verdict, summary, summary_text as text_of};
@@ -12,15 +12,34 @@ use crate::running::run;
 use crate::short_text::ShortText;
 use std::alloc::{AllocError, Global};
 
+/// How many bytes are counted at once.
+const PART: usize = 60_000;
+
+/// How often a byte stands in a text of so few bytes: its count is a short word, of which the compiler takes
+/// many at once.
+fn count_in_part(part: &[u8], byte: u8) -> u16
+    requires { length part.now < 2 ^ 16 }
+    ensures { result ≡ count_by (λ b. b == byte) part.now }
+{
+    let mut count = 0;
+    for b in part {
+        if *b == byte {
+            count += 1;
+        }
+    }
+    count
+}
+
 /// How often a byte stands in a text.
 fn count_of(text: &[u8], byte: u8) -> usize
     ensures { result ≡ count_by (λ b. b == byte) text.now }
 {
     let mut count = 0;
-    for b in text {
-        if *b == byte {
-            count += 1;
-        }
+    let mut at = 0;
+    while at < text.len() {
+        let end = at + (text.len() - at).min(PART);
+        count += usize::from(count_in_part(&text[at..end], byte));
+        at = end;
     }
     count
 }
