@@ -58,7 +58,7 @@ impl Buffer {
         self.held.as_slice()
     }
 
-    /// The bytes, for good.
+    /// Turns the buffer into its bytes.
     pub(crate) fn into_bytes(self) -> Vec<u8>
         ensures { result.items ≡ self.bytes }
     {

@@ -119,7 +119,7 @@ impl Answers {
         &self.bytes
     }
 
-    /// The bytes, for good. It takes no memory.
+    /// Turns the answers into their bytes. It takes no memory.
     pub fn into_bytes(self) -> Vec<u8>
         ensures { result.items ≡ self }
     {
@@ -135,7 +135,7 @@ impl Room {
     ghost use Rattle.fixed_calc.specs.Step.{IsStepOfLine, state_in};
 
     /// A room without a header, registers and answers, for as many registers as the script's first piece has
-    /// spaces and for twice the script's length of answer bytes; or want of memory.
+    /// spaces and for twice the script's length of answer bytes. AllocError says that memory ran out.
     pub fn for_script(alloc: Global, script: &[u8]) -> Result<Room, AllocError>
         ensures { IfOk result
             (λ room. IsEmptySpace (spaces script.now) (2 * length script.now) room) }
@@ -297,7 +297,7 @@ impl Room {
         self.answers.bytes()
     }
 
-    /// The answers so far, for good. It takes no memory.
+    /// Turns the room into its answers so far. It takes no memory.
     pub fn into_answers(self) -> Answers
         ensures { result ≡ self.answers }
     {

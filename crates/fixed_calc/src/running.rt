@@ -171,7 +171,8 @@ pub fn run_in(script: &[u8], room: &mut Room) -> Result<(), Cause>
     }
 }
 
-/// Runs a script: its answers, its first cause, or want of memory. On a fault nothing is handed out.
+/// Runs a script: its answers, its first cause, or a report that memory ran out. On a fault nothing is
+/// handed out.
 pub fn run(alloc: Global, script: &[u8]) -> Result<Answers, RunFault>
     ensures { IsAnswerOfMeaning (meaning script.now) result }
 {

@@ -61,7 +61,7 @@ pub fn recip_round_of<T: Word>(a: T, frac: u32, rounding: Rounding) -> Outcome<T
 }
 
 /// The quotient and the remainder of `2^128` by the divisor; in place of the quotient `2^128` itself,
-/// `2^127`, which no word tells from it.
+/// `2^127`, of which every word keeps the same.
 fn whole_over(divisor: u128) -> (u128, u128)
     requires { 0 < divisor }
     ensures one { divisor ≡ 1 → (result.0 ≡ 2 ^ 127) × (result.1 ≡ 0) }

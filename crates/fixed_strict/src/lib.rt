@@ -2,8 +2,8 @@
 //!
 //! The functions `.._of` are those of [`fixed_word`](fixed_word), offered again: they read an
 //! [`Outcome`](fixed_word::Outcome). The traits have the typed calls of [`Fixed`](fixed_num::Fixed), each
-//! named by its policy and its operation; the unwrapped forms answer what the strict ones do. Below, "the
-//! crate" is the Rust crate `fixed`. No function takes memory.
+//! named by its policy and its operation, as in the Rust crate `fixed`; the unwrapped forms answer what the
+//! strict ones do. No function takes memory.
 #![tactic(auto)]
 
 mod numbers;

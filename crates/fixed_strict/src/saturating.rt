@@ -13,7 +13,7 @@ use fixed_kernel::{
 use fixed_num::{Fixed, Held, Number};
 use fixed_word::{RawWord, SignedWord, UnsignedWord, Word};
 
-/// The `saturating_` forms of all numbers (the crate's). Answers are bits, in units of `2^-F`; an integer
+/// The `saturating_` forms of all numbers. Answers are bits, in units of `2^-F`; an integer
 /// operand is a whole number. A call that uses F has the condition that it is at most the width.
 pub trait Saturating: Number {
     /// The negated number, held at the ends.
@@ -167,7 +167,7 @@ impl<T: Word, const F: u32> Saturating for Fixed<T, F> {
     }
 }
 
-/// The `saturating_` forms of signed numbers (the crate's).
+/// The `saturating_` forms of signed numbers.
 pub trait SaturatingSigned: Saturating {
     /// The magnitude, held at the ends.
     fn saturating_abs(self) -> Self
@@ -209,7 +209,7 @@ impl<T: SignedWord, const F: u32> SaturatingSigned for Fixed<T, F> {
     }
 }
 
-/// The `saturating_` forms of unsigned numbers (the crate's).
+/// The `saturating_` forms of unsigned numbers.
 pub trait SaturatingUnsigned: Saturating {
     /// The sum with a signed number, held at the ends.
     fn saturating_add_signed(self, rhs: Self::Signed) -> Self

@@ -13,7 +13,7 @@ use fixed_kernel::{
 use fixed_num::{Fixed, Held, Number, exact_number};
 use fixed_word::{RawWord, SignedWord, UnsignedWord, Word};
 
-/// The `strict_` forms of all numbers (the crate's). Answers are bits, in units of `2^-F`; an integer
+/// The `strict_` forms of all numbers. Answers are bits, in units of `2^-F`; an integer
 /// operand is a whole number. A call that uses F has the condition that it is at most the width.
 pub trait Strict: Number {
     /// The negated number; condition that the answer fits.
@@ -242,7 +242,7 @@ impl<T: Word, const F: u32> Strict for Fixed<T, F> {
     }
 }
 
-/// The `strict_` forms of signed numbers (the crate's).
+/// The `strict_` forms of signed numbers.
 pub trait StrictSigned: Strict {
     /// The magnitude; condition that the answer fits.
     fn strict_abs(self) -> Self
@@ -287,7 +287,7 @@ impl<T: SignedWord, const F: u32> StrictSigned for Fixed<T, F> {
     }
 }
 
-/// The `strict_` forms of unsigned numbers (the crate's).
+/// The `strict_` forms of unsigned numbers.
 pub trait StrictUnsigned: Strict {
     /// The least power of two, in units, that is at least the number; condition that the answer
     /// fits.

@@ -9,7 +9,7 @@ use crate::strict::{Strict, StrictSigned, StrictUnsigned};
 use fixed_num::{Fixed, Held, Number};
 use fixed_word::{RawWord, SignedWord, UnsignedWord, Word};
 
-/// The `unwrapped_` forms of all numbers (the crate's). Answers are bits, in units of `2^-F`; an integer
+/// The `unwrapped_` forms of all numbers. Answers are bits, in units of `2^-F`; an integer
 /// operand is a whole number. A call that uses F has the condition that it is at most the width.
 pub trait Unwrapped: Number {
     /// The negated number; condition that the answer fits.
@@ -238,7 +238,7 @@ impl<T: Word, const F: u32> Unwrapped for Fixed<T, F> {
     }
 }
 
-/// The `unwrapped_` forms of signed numbers (the crate's).
+/// The `unwrapped_` forms of signed numbers.
 pub trait UnwrappedSigned: Unwrapped {
     /// The magnitude; condition that the answer fits.
     fn unwrapped_abs(self) -> Self
@@ -283,7 +283,7 @@ impl<T: SignedWord, const F: u32> UnwrappedSigned for Fixed<T, F> {
     }
 }
 
-/// The `unwrapped_` forms of unsigned numbers (the crate's).
+/// The `unwrapped_` forms of unsigned numbers.
 pub trait UnwrappedUnsigned: Unwrapped {
     /// The least power of two, in units, that is at least the number; condition that the answer
     /// fits.

@@ -8,7 +8,7 @@ use crate::strict_products::{StrictMulAdd, StrictProducts};
 use fixed_num::{Fixed, Held, Number};
 use fixed_word::{RawWord, Word};
 
-/// Multiply-add by a factor of G fraction bits (the crate's).
+/// Multiply-add by a factor of G fraction bits.
 pub trait UnwrappedMulAdd<const G: u32>: Number {
     /// The product by `mul`, rounded down, plus `add`; condition that the sum fits. The product
     /// alone may lie outside. Condition: G is at most the width.
@@ -32,7 +32,7 @@ impl<T: Word, const F: u32, const G: u32> UnwrappedMulAdd<G> for Fixed<T, F> {
     }
 }
 
-/// Sums with a product of factors of A and B fraction bits (the crate's).
+/// Sums with a product of factors of A and B fraction bits.
 pub trait UnwrappedProducts<const A: u32, const B: u32>: Number {
     /// The number plus the product of `a` and `b`, which is brought to the number's fraction and
     /// rounded down; condition that the sum fits. Condition: every fraction is at most the width.
