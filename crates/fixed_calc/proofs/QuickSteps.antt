@@ -1,11 +1,11 @@
 -- A line that was read quickly: its operands, its tests and its answer.
-use Rattle.std.proofs.Common.{◌≡◌, ◌<◌, ◌≤◌, ◌||◌, ℕ, ℤ, Bool, true, false, nat_le, List, [], ◌∷◌, get_or, length, Option, Some, None, Result, Ok, Err, not, refl, ap, ◌∙◌, sym, arith, subst}
+use Rattle.std.proofs.Common.{◌≡◌, ◌<◌, ℕ, ℤ, Bool, true, false, nat_le, List, get_or, length, Option, None, Result, Ok, not, refl, ap, ◌∙◌, sym, arith, subst}
 use Rattle.std.proofs.lemmas.Bool.Decides.{nat_tests}
-use Rattle.std.specs.List.{list_any, All}
+use Rattle.std.specs.List.{All}
 use Rattle.std.proofs.lemmas.List.{length-map, get_or-map}
 use Rattle.fixed_script.specs.declared.line.Shape.{Shape}
 use Rattle.fixed_script.specs.declared.line.Shape.TheVariants.{Unary, Binary, ByInteger, Ternary}
-use Rattle.fixed_script.specs.Text.{shape, ScriptLine, SetTo, Apply}
+use Rattle.fixed_script.specs.Text.{shape, SetTo, Apply}
 use Rattle.fixed_text.specs.declared.names.WordName.{WordName}
 use Rattle.fixed_text.specs.Words.{is_signed, width}
 use Rattle.fixed_script.specs.declared.names.Policy.{Policy}
@@ -19,7 +19,7 @@ use Rattle.fixed_calc.specs.declared.register.Register.{Register}
 use Rattle.fixed_calc.specs.declared.register.OperandRegisters.{OperandRegisters}
 use Rattle.fixed_calc.specs.Rows.{exact}
 use Rattle.fixed_calc.specs.Offered.{is_offered}
-use Rattle.fixed_calc.specs.Machine.{State, Cell, OperandValues, cell_at, empty_cell, integer, is_value, is_unoffered, is_out_of_range, is_mismatched, operand_values, row_of, row_by}
+use Rattle.fixed_calc.specs.Machine.{State, Cell, OperandValues, cell_at, empty_cell, is_value, is_unoffered, is_out_of_range, is_mismatched, operand_values, row_of, row_by}
 use Rattle.fixed_calc.specs.Step.{FitsFormat, IsCell, cell_of, cells_of, state_in}
 use Rattle.fixed_calc.specs.inside.Quick.{quick_number, quick_operands}
 use Rattle.fixed_calc.specs.inside.QuickSteps.{IsSecond}

@@ -112,10 +112,10 @@ fn answer_of_applied<T: Word>(
         b,
         c: registers[line.c],
     };
-    match answer_as::<T>(applied.policy, applied.op, None, &taken, number) {
-        Ok(answer) => Some(answer),
-        Err(_) => None,
-    }
+    let Ok(answer) = answer_as::<T>(applied.policy, applied.op, None, &taken, number) else {
+        return None;
+    };
+    Some(answer)
 }
 
 /// The answer of a line; None where it has a cause.

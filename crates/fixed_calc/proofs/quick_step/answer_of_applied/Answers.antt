@@ -18,8 +18,8 @@ pub answer_as-requires-clause-c : goal.answer_as-requires-clause-c
 answer_as-requires-clause-c g c =
     in_format g.T.RawWord.SIGNED g.T.Valued.BITS c.args.word _ c.requires.signed c.requires.bits (held_cell c.args.word c.args.registers.now c.args.line.c (record { magnitude = 0; fraction = 0; below_zero = false }) c.requires.cells c.requires.c)
 
-pub returns-in-Ok : goal.returns-in-Ok
-returns-in-Ok g c =
+pub returns : goal.returns
+returns g c =
     let registers = c.args.registers.now in
     let line = c.args.line in
     let op = c.args.applied.op in
