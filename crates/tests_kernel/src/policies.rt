@@ -1,11 +1,16 @@
 //! What the policies make of a number on both sides of each end, through the bound.
 
 use fixed_word::{
-    Side, Word, checked_of, outcome_of, overflowing_of, saturating_of, strict_of, wrapping_of,
+    Side, Word, checked_of, clamped_of, outcome_of, overflowing_of, saturating_of, strict_of,
+    wrapping_of,
 };
 
-/// What checked, overflowing, wrapping and saturating make of a number, and strict where the number fits.
-fn answers<T: Word>(below_zero: bool, magnitude: u128) -> (Option<T>, (T, bool), T, T, Option<T>) {
+/// What checked, overflowing, wrapping and both forms of saturating make of a number, and strict where the
+/// number fits.
+fn answers<T: Word>(
+    below_zero: bool,
+    magnitude: u128,
+) -> (Option<T>, (T, bool), T, (T, T), Option<T>) {
     let outcome = outcome_of::<T>(below_zero, magnitude);
     let strict = match outcome.side {
         Side::Fits => Some(strict_of(outcome)),
@@ -15,7 +20,7 @@ fn answers<T: Word>(below_zero: bool, magnitude: u128) -> (Option<T>, (T, bool),
         checked_of(outcome),
         overflowing_of(outcome),
         wrapping_of(outcome),
-        saturating_of(outcome),
+        (saturating_of(outcome), clamped_of(outcome)),
         strict,
     )
 }
@@ -34,7 +39,7 @@ fn signed_ends(rt: HostRuntime) {
         let exact = if fits { Some(wrapped) } else { None };
         assert_eq!(rt;
             answers::<i8>(below_zero, magnitude),
-            (exact, (wrapped, !fits), wrapped, nearest, exact),
+            (exact, (wrapped, !fits), wrapped, (nearest, nearest), exact),
             "{below_zero} {magnitude}"
         );
     }
@@ -54,7 +59,7 @@ fn unsigned_ends(rt: HostRuntime) {
         let exact = if fits { Some(wrapped) } else { None };
         assert_eq!(rt;
             answers::<u8>(below_zero, magnitude),
-            (exact, (wrapped, !fits), wrapped, nearest, exact),
+            (exact, (wrapped, !fits), wrapped, (nearest, nearest), exact),
             "{below_zero} {magnitude}"
         );
     }
