@@ -2,8 +2,9 @@
 //! bytes are left from its start on.
 
 use super::pairs::PAIRS;
-use super::programs::answers;
+use super::programs::outcome;
 use super::worked::ANSWERS;
+use fixed_calc::Status;
 use std::alloc::Global;
 use std::process::Abort;
 use std::test::Fail;
@@ -11,42 +12,46 @@ use std::test::Fail;
 const BEHIND: &str =
     "r0 set 0\nr0 set 0\nr0 set 0\nr0 set 0\nr0 set 0\nr0 set 0\nr0 set 0\nr0 set 0\n";
 
-const BEHIND_ANSWERS: &str = "0\n0\n0\n0\n0\n0\n0\n0\n";
+/// Asserts that a script answers the same with enough behind it that its last line is read quickly.
+fn answers_either_way(rt: &impl Abort, alloc: Global, script: &str) -> Result<(), Fail> {
+    let longer = format!(in alloc; "{script}{BEHIND}")?;
+    let alone = outcome(alloc, script.as_bytes())?;
+    let quick = outcome(alloc, longer.as_bytes())?;
+    assert_eq!(rt; alone.status, Status::Done, "{script}");
+    assert_eq!(rt; quick.status, Status::Done, "{script}");
+    assert!(rt;
+        quick.sink.taken().starts_with(alone.sink.taken()),
+        "{script}"
+    );
+    Ok(())
+}
 
-/// Asserts the answers of the script up to each line: with nothing behind that line, so that it is read by
-/// its tokens, and with enough behind it to be read quickly.
-fn answers_up_to_each_line(
-    rt: &impl Abort,
-    alloc: Global,
-    script: &str,
-    want: &str,
-) -> Result<(), Fail> {
-    let mut lines = script.lines();
-    let mut text = match lines.next() {
-        Some(header) => format!(in alloc; "{header}\n")?,
-        None => format!(in alloc; "")?,
-    };
-    let mut known = format!(in alloc; "")?;
-    for (line, answer) in lines.zip(want.lines()) {
+/// Asserts it of the script up to each of its lines.
+fn lines_answer_either_way(rt: &impl Abort, alloc: Global, script: &str) -> Result<(), Fail> {
+    let mut text = format!(in alloc; "")?;
+    for line in script.lines() {
         text = format!(in alloc; "{text}{line}\n")?;
-        known = format!(in alloc; "{known}{answer}\n")?;
-        answers(rt, alloc, &text, &known)?;
-        let longer = format!(in alloc; "{text}{BEHIND}")?;
-        let more = format!(in alloc; "{known}{BEHIND_ANSWERS}")?;
-        answers(rt, alloc, &longer, &more)?;
+        answers_either_way(rt, alloc, &text)?;
     }
     Ok(())
 }
 
-/// The scripts of the tables answer the same whichever way their lines are read.
+/// Each pair of a policy and an operation answers the same whichever way its line is read.
 #[test]
-fn read_either_way(rt: HostRuntime) -> Result<(), Fail> {
+fn pairs_either_way(rt: HostRuntime) -> Result<(), Fail> {
     let alloc = rt.alloc();
-    for (script, want) in PAIRS {
-        answers_up_to_each_line(&rt, alloc, script, want)?;
+    for (script, _) in PAIRS {
+        lines_answer_either_way(&rt, alloc, script)?;
     }
-    for (script, want) in ANSWERS {
-        answers_up_to_each_line(&rt, alloc, script, want)?;
+    Ok(())
+}
+
+/// So do the scripts with known answers.
+#[test]
+fn known_either_way(rt: HostRuntime) -> Result<(), Fail> {
+    let alloc = rt.alloc();
+    for (script, _) in ANSWERS {
+        lines_answer_either_way(&rt, alloc, script)?;
     }
     Ok(())
 }

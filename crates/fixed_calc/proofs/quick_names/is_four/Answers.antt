@@ -1,0 +1,5 @@
+use Rattle.fixed_calc.proofs.QuickText.{copied_is}
+use Rattle.fixed_calc.proofs.quick_names.is_four.Goals as goal
+
+pub returns : goal.returns
+returns c = copied_is c.args.bytes.now c.args.name.now c.copy_from_slice.new.self c.args.at 4 c.eq.result c.copy_from_slice.ensures.after c.eq.ensures
