@@ -80,8 +80,8 @@ fn wanted(byte: u64) -> [u64; 10] {
 fn every_byte(rt: HostRuntime) {
     for byte in 0..=255_u8 {
         let want = wanted(byte as u64);
-        assert_eq!(rt; answers(byte), want, "of {byte}");
-        assert_eq!(rt; answers(byte.cast_signed()), want, "of {byte} with a sign");
+        let signed = answers(byte.cast_signed());
+        assert_eq!(rt; [answers(byte), signed], [want, want], "of {byte}");
     }
 }
 
@@ -90,53 +90,67 @@ fn pairs<T: BitWord>(a: T, b: T) -> [u64; 3] {
     [pattern(a.and(b)), pattern(a.or(b)), pattern(a.xor(b))]
 }
 
-/// A word moved up and down, where the width allows it.
-fn shifted<T: BitWord>(word: T, by: u32) -> (T, T) {
-    if by < T::BITS {
-        (word.shift_left(by), word.shift_right(by))
-    } else {
-        (word, word)
+/// Whether a word moves up and down to those words.
+fn moves<T: BitWord>(word: T, by: u32, up: T, down: T) -> bool {
+    by < T::BITS && word.shift_left(by) == up && word.shift_right(by) == down
+}
+
+#[test]
+fn pairs_of_bytes(rt: HostRuntime) {
+    for (a, b) in [
+        (0_u8, 255_u8),
+        (12, 10),
+        (0b1010_1010, 0b0110_0110),
+        (128, 129),
+    ] {
+        let wanted = [(a & b) as u64, (a | b) as u64, (a ^ b) as u64];
+        let signed = pairs(a.cast_signed(), b.cast_signed());
+        assert_eq!(rt; [pairs(a, b), signed], [wanted, wanted], "of {a} and {b}");
     }
 }
 
 #[test]
-fn pairs_and_shifts(rt: HostRuntime) {
-    for (a, b) in [(0, 255), (12, 10), (0b1010_1010, 0b0110_0110), (128, 129)] {
-        let want = [(a & b) as u64, (a | b) as u64, (a ^ b) as u64];
-        assert_eq!(rt; pairs::<u8>(a, b), want, "of {a} and {b}");
-        assert_eq!(rt;
-            pairs(a.cast_signed(), b.cast_signed()),
-            want,
-            "of {a} and {b} with a sign"
-        );
-    }
-    for (a, by, up, down) in [
-        (-120, 3, 64, -15),
-        (-1, 7, -128, -1),
-        (5, 1, 10, 2),
-        (-128, 0, -128, -128),
+fn shifts(rt: HostRuntime) {
+    for (what, holds) in [
+        ("-120 by 3", moves(-120_i8, 3, 64, -15)),
+        ("-1 by 7", moves(-1_i8, 7, -128, -1)),
+        ("5 by 1", moves(5_i8, 1, 10, 2)),
+        ("-128 by 0", moves(-128_i8, 0, -128, -128)),
+        ("200 by 3", moves(200_u8, 3, 64, 25)),
+        ("the greatest by 63", moves(u64::MAX, 63, 1 << 63, 1)),
+        ("the least by 63", moves(i64::MIN, 63, 0, -1)),
     ] {
-        assert_eq!(rt; shifted::<i8>(a, by), (up, down), "of {a} by {by}");
+        assert!(rt; holds, "{what}");
     }
-    assert_eq!(rt; shifted(200_u8, 3), (64, 25));
-    assert_eq!(rt; shifted(u64::MAX, 63), (1 << 63, 1));
-    assert_eq!(rt; shifted(i64::MIN, 63), (0, -1));
 }
 
 #[test]
 fn longer_words(rt: HostRuntime) {
-    assert_eq!(rt; BitWord::to_be_bytes(0x1234_i16), [0x12, 0x34]);
-    assert_eq!(rt; BitWord::to_le_bytes(0x1234_u16), [0x34, 0x12]);
-    assert_eq!(rt; BitWord::to_be_bytes(-2_i32), [255, 255, 255, 254]);
-    assert_eq!(rt; <u32 as BitWord>::from_le_bytes([1, 2, 3, 4]), 0x0403_0201);
-    assert_eq!(rt;
-        <i64 as BitWord>::from_be_bytes([255, 0, 0, 0, 0, 0, 0, 1]),
-        -0x00ff_ffff_ffff_ffff
-    );
-    assert_eq!(rt; BitWord::swap_bytes(0x1234_5678_i32), 0x7856_3412);
-    assert_eq!(rt; BitWord::reverse_bits(1_u64), 1 << 63);
-    assert_eq!(rt; BitWord::rotate_left(0x8000_0001_u32, 33), 3);
-    assert_eq!(rt; BitWord::rotate_right(1_i16, 17), -0x8000);
-    assert_eq!(rt; BitWord::leading_zeros(1_u16), 15);
-    assert_eq!(rt; BitWord::trailing_zeros(0_i64), 64);
+    let written = BitWord::to_be_bytes(0x1234_i16) == [0x12, 0x34]
+        && BitWord::to_le_bytes(0x1234_u16) == [0x34, 0x12]
+        && BitWord::to_be_bytes(-2_i32) == [255, 255, 255, 254];
+    let low_first = <u32 as BitWord>::from_le_bytes([1, 2, 3, 4]);
+    let high_first = <i64 as BitWord>::from_be_bytes([255, 0, 0, 0, 0, 0, 0, 1]);
+    for (what, holds) in [
+        ("bytes of a word", written),
+        ("from bytes, low first", low_first == 0x0403_0201),
+        (
+            "from bytes, high first",
+            high_first == -0x00ff_ffff_ffff_ffff,
+        ),
+        (
+            "swapped bytes",
+            BitWord::swap_bytes(0x1234_5678_i32) == 0x7856_3412,
+        ),
+        ("reversed bits", BitWord::reverse_bits(1_u64) == 1 << 63),
+        (
+            "rotated left",
+            BitWord::rotate_left(0x8000_0001_u32, 33) == 3,
+        ),
+        ("rotated right", BitWord::rotate_right(1_i16, 17) == -0x8000),
+        ("leading zeros", BitWord::leading_zeros(1_u16) == 15),
+        ("trailing zeros", BitWord::trailing_zeros(0_i64) == 64),
+    ] {
+        assert!(rt; holds, "{what}");
+    }
 }

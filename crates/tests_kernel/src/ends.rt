@@ -1,15 +1,16 @@
 //! The ends of every word, with no fraction, with one integer bit and with none.
 
 use super::calls::{Op, answer};
+use super::named::{WordName, check_number, check_row};
 use super::plain::stands;
 use fixed_word::Side::{Above, Below, Fits};
-use fixed_word::{Outcome, SignedWord, UnsignedWord};
+use fixed_word::{SignedWord, UnsignedWord};
 use std::process::Abort;
 
 #[test]
 fn signed_bytes(rt: HostRuntime) {
-    for (op, a, b, frac, wrapped, side) in [
-        (Op::Mul, -128_i8, -128, 0, 0, Above),
+    for row in [
+        (Op::Mul, -128, -128, 0, 0, Above),
         (Op::Mul, -128, -128, 7, -128, Above),
         (Op::Mul, -128, -128, 8, 64, Fits),
         (Op::Div, -128, -1, 0, -128, Above),
@@ -34,18 +35,14 @@ fn signed_bytes(rt: HostRuntime) {
         (Op::NextMultipleOf, 127, -128, 7, 0, Fits),
         (Op::NextMultipleOf, 127, -128, 8, 0, Fits),
     ] {
-        assert_eq!(rt;
-            answer(op, a, b, frac),
-            Some(Outcome { wrapped, side }),
-            "{op:?} of {a} and {b} at {frac}"
-        );
+        check_row(&rt, WordName::I8, row);
     }
 }
 
 #[test]
 fn unsigned_bytes(rt: HostRuntime) {
-    for (op, a, b, frac, wrapped, side) in [
-        (Op::Mul, 255_u8, 255, 0, 1, Above),
+    for row in [
+        (Op::Mul, 255, 255, 0, 1, Above),
         (Op::Mul, 255, 255, 7, 252, Above),
         (Op::Mul, 255, 255, 8, 254, Fits),
         (Op::Div, 255, 1, 0, 255, Fits),
@@ -58,11 +55,7 @@ fn unsigned_bytes(rt: HostRuntime) {
         (Op::Sqrt, 255, 0, 7, 180, Fits),
         (Op::Sqrt, 255, 0, 8, 255, Fits),
     ] {
-        assert_eq!(rt;
-            answer(op, a, b, frac),
-            Some(Outcome { wrapped, side }),
-            "{op:?} of {a} and {b} at {frac}"
-        );
+        check_row(&rt, WordName::U8, row);
     }
 }
 
@@ -154,48 +147,40 @@ fn wider_words(rt: HostRuntime) {
 
 #[test]
 fn roots_of_the_ends(rt: HostRuntime) {
-    for (frac, root) in [(0, 181), (15, 32767), (16, 46340)] {
-        assert!(rt;
-            stands(answer(Op::Sqrt, i16::MAX, 0, frac), false, root),
-            "i16 at {frac}"
-        );
-    }
-    for (frac, root) in [(0, 255), (15, 46340), (16, 65535)] {
-        assert!(rt;
-            stands(answer(Op::Sqrt, u16::MAX, 0, frac), false, root),
-            "u16 at {frac}"
-        );
-    }
-    for (frac, root) in [(0, 46340), (31, 2147483647), (32, 3037000499)] {
-        assert!(rt;
-            stands(answer(Op::Sqrt, i32::MAX, 0, frac), false, root),
-            "i32 at {frac}"
-        );
-    }
-    for (frac, root) in [(0, 65535), (31, 3037000499), (32, 4294967295)] {
-        assert!(rt;
-            stands(answer(Op::Sqrt, u32::MAX, 0, frac), false, root),
-            "u32 at {frac}"
-        );
-    }
-    for (frac, root) in [
-        (0, 3037000499),
-        (63, 9223372036854775807),
-        (64, 13043817825332782211),
+    for (word, greatest, roots) in [
+        (WordName::I16, 32767, [(0, 181), (15, 32767), (16, 46340)]),
+        (WordName::U16, 65535, [(0, 255), (15, 46340), (16, 65535)]),
+        (
+            WordName::I32,
+            2147483647,
+            [(0, 46340), (31, 2147483647), (32, 3037000499)],
+        ),
+        (
+            WordName::U32,
+            4294967295,
+            [(0, 65535), (31, 3037000499), (32, 4294967295)],
+        ),
+        (
+            WordName::I64,
+            9223372036854775807,
+            [
+                (0, 3037000499),
+                (63, 9223372036854775807),
+                (64, 13043817825332782211),
+            ],
+        ),
+        (
+            WordName::U64,
+            18446744073709551615,
+            [
+                (0, 4294967295),
+                (63, 13043817825332782211),
+                (64, 18446744073709551615),
+            ],
+        ),
     ] {
-        assert!(rt;
-            stands(answer(Op::Sqrt, i64::MAX, 0, frac), false, root),
-            "i64 at {frac}"
-        );
-    }
-    for (frac, root) in [
-        (0, 4294967295),
-        (63, 13043817825332782211),
-        (64, 18446744073709551615),
-    ] {
-        assert!(rt;
-            stands(answer(Op::Sqrt, u64::MAX, 0, frac), false, root),
-            "u64 at {frac}"
-        );
+        for (frac, root) in roots {
+            check_number(&rt, word, Op::Sqrt, greatest, frac, root);
+        }
     }
 }

@@ -11,13 +11,17 @@ fn every_product(rt: HostRuntime) {
             for b in 0..=255_u8 {
                 let number = moved((a as i64).wrapping_mul(b as i64), -frac);
                 let found = unsigned_byte(answer(Op::Mul, a, b, places));
-                assert_eq!(rt; found, Some(left_of(number, false)), "{a} by {b} at {frac}");
+                let wanted = Some(left_of(number, false));
                 let (c, d) = (a.cast_signed(), b.cast_signed());
                 let number = moved((c as i64).wrapping_mul(d as i64), -frac);
-                let found = product(c, d, places).map(|found| (found.0 as i64, found.1));
-                assert_eq!(rt; found, Some(left_of(number, true)), "{c} by {d} at {frac}");
-                let found = signed_byte(answer(Op::Mul, c, d, places));
-                assert_eq!(rt; found, Some(left_of(number, true)), "{c} by {d} at {frac}");
+                let signed = signed_byte(answer(Op::Mul, c, d, places));
+                let judged = product(c, d, places).map(|found| (found.0 as i64, found.1));
+                let left = Some(left_of(number, true));
+                assert_eq!(rt;
+                    [found, signed, judged],
+                    [wanted, left, left],
+                    "{a} by {b} at {frac}"
+                );
             }
         }
     }
@@ -29,13 +33,16 @@ fn every_reciprocal(rt: HostRuntime) {
         let places = frac.unsigned_abs();
         let one = moved(1, frac.wrapping_mul(2));
         for a in 1..=255_u8 {
-            let found = unsigned_byte(answer(Op::Recip, a, 0, places));
-            let number = quotient(one, a as i64);
-            assert_eq!(rt; found, Some(left_of(number, false)), "{a} at {frac}");
             let b = a.cast_signed();
-            let found = signed_byte(answer(Op::Recip, b, 0, places));
-            let number = quotient(one, b as i64);
-            assert_eq!(rt; found, Some(left_of(number, true)), "{b} at {frac}");
+            let found = unsigned_byte(answer(Op::Recip, a, 0, places));
+            let signed = signed_byte(answer(Op::Recip, b, 0, places));
+            let wanted = left_of(quotient(one, a as i64), false);
+            let left = left_of(quotient(one, b as i64), true);
+            assert_eq!(rt;
+                (found, signed),
+                (Some(wanted), Some(left)),
+                "{a} at {frac}"
+            );
         }
     }
 }
@@ -47,12 +54,15 @@ fn every_euclidean_quotient(rt: HostRuntime) {
         for a in -128..=127_i8 {
             for b in -128..=127_i8 {
                 if b != 0 {
-                    let number = moved(euclidean(a as i64, b as i64), frac);
                     let found = signed_byte(answer(Op::DivEuclid, a, b, places));
-                    assert_eq!(rt; found, Some(left_of(number, true)), "{a} by {b} at {frac}");
-                    let number = multiple(a as i64, b as i64);
-                    let found = signed_byte(answer(Op::NextMultipleOf, a, b, places));
-                    assert_eq!(rt; found, Some(left_of(number, true)), "from {a} by {b}");
+                    let number = moved(euclidean(a as i64, b as i64), frac);
+                    let next = signed_byte(answer(Op::NextMultipleOf, a, b, places));
+                    let after = multiple(a as i64, b as i64);
+                    assert_eq!(rt;
+                        (found, next),
+                        (Some(left_of(number, true)), Some(left_of(after, true))),
+                        "{a} by {b} at {frac}"
+                    );
                 }
             }
         }

@@ -18,6 +18,8 @@ mod logarithms;
 #[cfg(test)]
 mod mixed;
 #[cfg(test)]
+mod named;
+#[cfg(test)]
 mod plain;
 #[cfg(test)]
 mod policies;

@@ -65,11 +65,12 @@ fn binary_logarithms(rt: HostRuntime) -> Result<(), Fail> {
         (64, u64::MAX, 63),
     ] {
         let found = logs_in(width, greatest, two).ok_or("a word")?;
-        assert_eq!(rt; found.int, last, "greatest of {width}");
-        assert_eq!(rt; found.frac, -1, "greatest of {width}");
         let least = logs_in(width, 1, two).ok_or("a word")?;
-        assert_eq!(rt; least.int, 0, "one of {width}");
-        assert_eq!(rt; least.frac, -1 - last, "one of {width}");
+        assert_eq!(rt;
+            [found.int, found.frac, least.int, least.frac],
+            [last, -1, 0, -1 - last],
+            "greatest and one of {width}"
+        );
     }
     Ok(())
 }
@@ -167,7 +168,6 @@ fn every_byte(rt: HostRuntime) -> Result<(), Fail> {
 fn worked_values(rt: HostRuntime) -> Result<(), Fail> {
     let thousand = Base::new(1000).ok_or("a base")?;
     let two = Base::new(2).ok_or("a base")?;
-    assert!(rt; Base::new(1).is_none() && Base::new(0).is_none());
     for (val, want) in [(26, -1), (25, -2), (3, -2), (2, -3), (1, -3)] {
         let found = logs_in(8, val, thousand).ok_or("a word")?;
         assert_eq!(rt;
@@ -177,7 +177,8 @@ fn worked_values(rt: HostRuntime) -> Result<(), Fail> {
         );
     }
     let one = logs_in(64, 1, two).ok_or("a word")?;
-    assert_eq!(rt; (one.frac, one.frac_ten), (-64, -20));
+    let no_base = Base::new(1).is_none() && Base::new(0).is_none();
+    assert!(rt; no_base && one.frac == -64 && one.frac_ten == -20);
     Ok(())
 }
 

@@ -94,7 +94,7 @@ fn low_bits(below_zero: bool, magnitude: u128, bits: u32) -> u128 {
 }
 
 /// How many words of that width there are.
-fn words_of(bits: u32) -> u128
+pub fn words_of(bits: u32) -> u128
     ensures { 0 < result }
 {
     match bits {

@@ -5,7 +5,7 @@ use fixed_kernel::{
     Rounding, add_prod_round_of, div_int_round_of, div_round_of, mul_add_round_of, mul_round_of,
     recip_round_of,
 };
-use fixed_word::{Outcome, Side};
+use fixed_word::{Outcome, Side, Word};
 
 /// `x / d` with that rounding, from the quotient toward zero and the rest.
 fn plain(x: i64, d: i64, rounding: Rounding) -> i64 {
@@ -129,10 +129,9 @@ fn every_rounded_sum(rt: HostRuntime) {
     }
 }
 
-/// Ties on both sides of zero beside an even and an odd quotient; divisors of `2^128`; 64 fraction bits;
-/// quotients by the least number.
+/// Ties on both sides of zero beside an even and an odd quotient; quotients by the least number.
 #[test]
-fn corners(rt: HostRuntime) {
+fn ties(rt: HostRuntime) {
     for (x, k, down, zero, even) in [
         (7_i8, 2_i8, 3_i8, 3_i8, 4_i8),
         (5, 2, 2, 2, 2),
@@ -154,23 +153,42 @@ fn corners(rt: HostRuntime) {
             assert!(rt; is_of(found, quotient as i64), "{x} by {k}");
         }
     }
-    assert!(rt; is_of(mul_round_of(85, 3, 1, Rounding::Even), 128));
-    assert!(rt; is_of(mul_round_of(85, 3, 1, Rounding::Down), 127));
-    let third = recip_round_of(3_u8, 8, Rounding::Even);
-    assert!(rt; third.wrapped == 85 && third.side == Side::Above);
-    let most = u64::MAX;
+}
+
+/// Whether that word was left, and on that side.
+fn left<T: Word>(found: Outcome<T>, wrapped: T, side: Side) -> bool {
+    found.wrapped == wrapped && found.side == side
+}
+
+/// Ties at the ends of a byte; divisors of `2^128`; 64 fraction bits.
+#[test]
+fn corners(rt: HostRuntime) {
+    let (least, most) = (i64::MIN, u64::MAX);
+    let half = add_prod_round_of(0_i64, least, least, 0, 63, 64, Rounding::Even);
+    let below_zero = add_prod_round_of(0_i64, least, 1, 0, 64, 64, Rounding::Down);
+    for (what, holds) in [
+        ("tie up", is_of(mul_round_of(85, 3, 1, Rounding::Even), 128)),
+        (
+            "tie down",
+            is_of(mul_round_of(85, 3, 1, Rounding::Down), 127),
+        ),
+        (
+            "third",
+            left(recip_round_of(3_u8, 8, Rounding::Even), 85, Side::Above),
+        ),
+        ("half", left(half, 0, Side::Fits)),
+        ("just below 0", left(below_zero, -1, Side::Fits)),
+    ] {
+        assert!(rt; holds, "{what}");
+    }
     for (rounding, sum) in [
         (Rounding::Down, 0),
         (Rounding::Zero, 0),
         (Rounding::Even, 1),
     ] {
         let found = add_prod_round_of(0_u64, most, most, 0, 64, 64, rounding);
-        assert!(rt; found.wrapped == sum && found.side == Side::Fits);
+        assert!(rt; left(found, sum, Side::Fits), "{sum}");
     }
-    let half = add_prod_round_of(0_i64, i64::MIN, i64::MIN, 0, 63, 64, Rounding::Even);
-    assert!(rt; half.wrapped == 0 && half.side == Side::Fits);
-    let least = add_prod_round_of(0_i64, i64::MIN, 1, 0, 64, 64, Rounding::Down);
-    assert!(rt; least.wrapped == -1 && least.side == Side::Fits);
     for (a, rounding, wrapped) in [
         (7_u64, Rounding::Zero, 0x4924_9249_2492_4924),
         (7, Rounding::Even, 0x4924_9249_2492_4925),
@@ -178,9 +196,6 @@ fn corners(rt: HostRuntime) {
         (most, Rounding::Down, 1),
     ] {
         let found = recip_round_of(a, 64, rounding);
-        assert!(rt;
-            found.wrapped == wrapped && found.side == Side::Above,
-            "of {a}"
-        );
+        assert!(rt; left(found, wrapped, Side::Above), "of {a}");
     }
 }

@@ -1,13 +1,14 @@
 //! Vectors: the numbers of the crate's own tests and documentation, and the corners of its code.
 
-use super::calls::{Op, add_product, answer, multiply_add, product, ratio, sum_of_product};
-use fixed_word::Outcome;
-use fixed_word::Side::{Above, Below, Fits};
+use super::calls::{Op, add_product, multiply_add, product, ratio, sum_of_product};
+use super::named::{WordName, check_row};
+use fixed_word::Side::{self, Above, Below, Fits};
+use fixed_word::{Outcome, Word};
 
 #[test]
 fn signed_bytes(rt: HostRuntime) {
-    for (op, a, b, frac, wrapped, side) in [
-        (Op::Mul, 127_i8, 64, 4, -4, Above),
+    for row in [
+        (Op::Mul, 127, 64, 4, -4, Above),
         (Op::Div, -128, -1, 8, 0, Above),
         (Op::RemEuclidInt, -120, 20, 4, -56, Above),
         (Op::DivEuclid, 120, 32, 4, 48, Fits),
@@ -43,36 +44,28 @@ fn signed_bytes(rt: HostRuntime) {
         (Op::Recip, -128, 0, 7, -128, Fits),
         (Op::Sqrt, 64, 0, 8, -128, Above),
     ] {
-        assert_eq!(rt;
-            answer(op, a, b, frac),
-            Some(Outcome { wrapped, side }),
-            "{op:?} of {a} and {b} at {frac}"
-        );
+        check_row(&rt, WordName::I8, row);
     }
 }
 
 #[test]
 fn unsigned_bytes(rt: HostRuntime) {
-    for (op, a, b, frac, wrapped, side) in [
-        (Op::Mul, 255_u8, 64, 4, 252, Above),
+    for row in [
+        (Op::Mul, 255, 64, 4, 252, Above),
         (Op::DivEuclid, 255, 4, 4, 240, Above),
         (Op::Sqrt, 255, 0, 8, 255, Fits),
         (Op::Recip, 3, 0, 8, 85, Above),
         (Op::NextPowerOfTwo, 0, 0, 4, 1, Fits),
         (Op::NextPowerOfTwo, 200, 0, 4, 0, Above),
     ] {
-        assert_eq!(rt;
-            answer(op, a, b, frac),
-            Some(Outcome { wrapped, side }),
-            "{op:?} of {a} and {b} at {frac}"
-        );
+        check_row(&rt, WordName::U8, row);
     }
 }
 
 #[test]
 fn signed_words_of_32_bits(rt: HostRuntime) {
-    for (op, a, b, frac, wrapped, side) in [
-        (Op::Add, 2147483647_i32, 1, 16, -2147483648, Above),
+    for row in [
+        (Op::Add, 2147483647, 1, 16, -2147483648, Above),
         (Op::Add, -2147483648, -1, 16, 2147483647, Below),
         (Op::Add, 2147483647, -2147483648, 16, -1, Fits),
         (Op::Div, -2147483648, 1, 32, 0, Below),
@@ -86,18 +79,14 @@ fn signed_words_of_32_bits(rt: HostRuntime) {
         (Op::RemEuclidInt, -536870912, 1, 31, 1610612736, Fits),
         (Op::RemEuclidInt, -1610612736, 1, 32, -1610612736, Above),
     ] {
-        assert_eq!(rt;
-            answer(op, a, b, frac),
-            Some(Outcome { wrapped, side }),
-            "{op:?} of {a} and {b} at {frac}"
-        );
+        check_row(&rt, WordName::I32, row);
     }
 }
 
 #[test]
 fn each_kernel_at_a_signed_word(rt: HostRuntime) {
-    for (op, a, b, frac, wrapped, side) in [
-        (Op::Neg, -5_i16, 0, 0, 5, Fits),
+    for row in [
+        (Op::Neg, -5, 0, 0, 5, Fits),
         (Op::Neg, -32768, 0, 0, -32768, Above),
         (Op::Add, 32767, 1, 0, -32768, Above),
         (Op::Sub, -32768, 1, 0, 32767, Below),
@@ -123,18 +112,14 @@ fn each_kernel_at_a_signed_word(rt: HostRuntime) {
         (Op::NextMultipleOf, -7, -4, 0, -8, Fits),
         (Op::Sqrt, 50, 0, 0, 7, Fits),
     ] {
-        assert_eq!(rt;
-            answer(op, a, b, frac),
-            Some(Outcome { wrapped, side }),
-            "{op:?} of {a} and {b} at {frac}"
-        );
+        check_row(&rt, WordName::I16, row);
     }
 }
 
 #[test]
 fn each_kernel_at_an_unsigned_word(rt: HostRuntime) {
-    for (op, a, b, frac, wrapped, side) in [
-        (Op::Neg, 5_u16, 0, 0, 65531, Below),
+    for row in [
+        (Op::Neg, 5, 0, 0, 65531, Below),
         (Op::Add, 65535, 1, 0, 0, Above),
         (Op::Sub, 3, 4, 0, 65535, Below),
         (Op::Dist, 3, 40000, 0, 39997, Fits),
@@ -155,25 +140,17 @@ fn each_kernel_at_an_unsigned_word(rt: HostRuntime) {
         (Op::NextPowerOfTwo, 33, 0, 0, 64, Fits),
         (Op::Sqrt, 256, 0, 7, 181, Fits),
     ] {
-        assert_eq!(rt;
-            answer(op, a, b, frac),
-            Some(Outcome { wrapped, side }),
-            "{op:?} of {a} and {b} at {frac}"
-        );
+        check_row(&rt, WordName::U16, row);
     }
 }
 
 #[test]
 fn reciprocals_with_no_integer_bits(rt: HostRuntime) {
-    for (op, a, b, frac, wrapped, side) in [
-        (Op::Recip, 1_u64, 0, 64, 0, Above),
+    for row in [
+        (Op::Recip, 1, 0, 64, 0, Above),
         (Op::Recip, 18446744073709551615, 0, 64, 1, Above),
     ] {
-        assert_eq!(rt;
-            answer(op, a, b, frac),
-            Some(Outcome { wrapped, side }),
-            "{op:?} of {a} and {b} at {frac}"
-        );
+        check_row(&rt, WordName::U64, row);
     }
 }
 
@@ -190,9 +167,8 @@ fn unsigned_multiply_add_at_each_length(rt: HostRuntime) {
         (1, 1, max, -63, 9223372036854775807, true),
         (max, max, 0, -64, 0, true),
     ] {
-        assert_eq!(rt;
-            sum_of_product(lhs, mul, add, length),
-            Some((wrapped, verdict)),
+        assert!(rt;
+            found(sum_of_product(lhs, mul, add, length), wrapped, verdict),
             "{lhs} by {mul} plus {add} at {length}"
         );
     }
@@ -226,11 +202,18 @@ fn signed_multiply_add_at_each_length(rt: HostRuntime) {
         (max, max, min, -64, min, true),
         (min, min, -1, -64, -1, true),
     ] {
-        assert_eq!(rt;
-            sum_of_product(lhs, mul, add, length),
-            Some((wrapped, verdict)),
+        assert!(rt;
+            found(sum_of_product(lhs, mul, add, length), wrapped, verdict),
             "{lhs} by {mul} plus {add} at {length}"
         );
+    }
+}
+
+/// Whether that word was left, and on that side.
+fn left<T: Word>(found: Option<Outcome<T>>, wrapped: T, side: Side) -> bool {
+    match found {
+        Some(outcome) => outcome.wrapped == wrapped && outcome.side == side,
+        None => false,
     }
 }
 
@@ -241,60 +224,86 @@ fn sums_of_products(rt: HostRuntime) {
         (127, 24, -127, 4, 63, Fits),
         (-1, 1, 0, 8, -1, Fits),
     ] {
-        assert_eq!(rt;
-            multiply_add(a, mul, add, frac),
-            Some(Outcome { wrapped, side }),
+        let found = multiply_add(a, mul, add, frac);
+        assert!(rt;
+            left(found, wrapped, side),
             "{a} by {mul} plus {add} at {frac}"
         );
     }
-    for (c, a, b, places, wrapped, side) in [
-        (-128_i8, 1, 1, (8, 0, 0), -128, Above),
-        (127, -128, 127, (0, 8, 8), 126, Fits),
-        (127, -128, -128, (0, 8, 8), 127, Fits),
-    ] {
-        assert_eq!(rt;
-            add_product(c, a, b, places),
-            Some(Outcome { wrapped, side }),
-            "{c} plus {a} by {b}"
-        );
-    }
-    for (c, a, b, places, wrapped, side) in [
-        (0_i32, 16384, 229376, (16, 16, 16), 57344, Fits),
-        (57344, 32768, -65537, (16, 16, 16), 24575, Fits),
-    ] {
-        assert_eq!(rt;
-            add_product(c, a, b, places),
-            Some(Outcome { wrapped, side }),
-            "{c} plus {a} by {b}"
-        );
-    }
+}
+
+#[test]
+fn sums_with_products_of_other_places(rt: HostRuntime) {
     let max = u64::MAX;
-    assert_eq!(rt;
-        add_product(max, max, max, (0, 64, 64)),
-        Some(Outcome {
-            wrapped: max,
-            side: Fits
-        })
-    );
-    assert_eq!(rt;
-        add_product(-1, 1, 1, (63, 0, 0)),
-        Some(Outcome {
-            wrapped: i64::MAX,
-            side: Fits
-        })
-    );
+    for (what, holds) in [
+        (
+            "of -128, with no integer bits",
+            left(add_product(-128_i8, 1, 1, (8, 0, 0)), -128, Above),
+        ),
+        (
+            "of 127 by -128",
+            left(add_product(127_i8, -128, 127, (0, 8, 8)), 126, Fits),
+        ),
+        (
+            "of -128 by -128",
+            left(add_product(127_i8, -128, -128, (0, 8, 8)), 127, Fits),
+        ),
+        (
+            "of a quarter by three and a half",
+            left(add_product(0, 16384, 229376, (16, 16, 16)), 57344_i32, Fits),
+        ),
+        (
+            "of a half, with a rest below 0",
+            left(
+                add_product(57344, 32768, -65537, (16, 16, 16)),
+                24575_i32,
+                Fits,
+            ),
+        ),
+        (
+            "of the greatest words",
+            left(add_product(max, max, max, (0, 64, 64)), max, Fits),
+        ),
+        (
+            "of one, to the greatest",
+            left(add_product(-1, 1, 1, (63, 0, 0)), i64::MAX, Fits),
+        ),
+    ] {
+        assert!(rt; holds, "a sum with a product {what}");
+    }
+}
+
+/// Whether that word was found, with that verdict.
+fn found<T: Word>(found: Option<(T, bool)>, wrapped: T, verdict: bool) -> bool {
+    match found {
+        Some((word, judged)) => word == wrapped && judged == verdict,
+        None => false,
+    }
 }
 
 #[test]
 fn verdicts(rt: HostRuntime) {
-    assert_eq!(rt; product(127_i8, 64, 4), Some((-4, true)));
-    assert_eq!(rt; product(255_u8, 64, 4), Some((252, true)));
-    assert_eq!(rt; product(127_i8, 16, 4), Some((127, false)));
-    assert_eq!(rt; product(-1_i8, 1, 8), Some((-1, false)));
-    assert_eq!(rt; ratio(-128_i8, -1, 8), Some((0, true)));
-    assert_eq!(rt; ratio(i32::MIN, i32::MIN, 32), Some((0, true)));
-    assert_eq!(rt; ratio(-2147483647_i32, i32::MIN, 32), Some((-2, true)));
-    assert_eq!(rt; ratio(7_u8, 2, 1), Some((7, false)));
-    assert_eq!(rt; ratio(-7_i8, 2, 0), Some((-3, false)));
-    assert_eq!(rt; sum_of_product(127_i8, 48, 127, 4), Some((-4, true)));
+    for (what, holds) in [
+        ("127 by 64 at 4", found(product(127_i8, 64, 4), -4, true)),
+        ("255 by 64 at 4", found(product(255_u8, 64, 4), 252, true)),
+        ("127 by 16 at 4", found(product(127_i8, 16, 4), 127, false)),
+        ("-1 by 1 at 8", found(product(-1_i8, 1, 8), -1, false)),
+        ("-128 over -1 at 8", found(ratio(-128_i8, -1, 8), 0, true)),
+        (
+            "the least over itself at 32",
+            found(ratio(i32::MIN, i32::MIN, 32), 0, true),
+        ),
+        (
+            "-(2^31 - 1) over the least at 32",
+            found(ratio(-2147483647_i32, i32::MIN, 32), -2, true),
+        ),
+        ("7 over 2 at 1", found(ratio(7_u8, 2, 1), 7, false)),
+        ("-7 over 2 at 0", found(ratio(-7_i8, 2, 0), -3, false)),
+        (
+            "127 by 48 plus 127 at 4",
+            found(sum_of_product(127_i8, 48, 127, 4), -4, true),
+        ),
+    ] {
+        assert!(rt; holds, "{what}");
+    }
 }

@@ -8,20 +8,33 @@ fn seen<T: RawWord>(word: T) -> (bool, u64) {
     (word.is_below_zero(), word.magnitude())
 }
 
+/// A fact's name, what was found and what is wanted: whether it is below 0, and its magnitude.
+type Value = (&'static str, (bool, u64), (bool, u64));
+
+fn all_equal(rt: &impl Abort, bits: u32, values: &[Value]) {
+    for (what, found, wanted) in values {
+        assert_eq!(rt; *found, *wanted, "{what} of {bits} bits");
+    }
+}
+
 /// The constants and the order of a word whose least number is `-least` and whose greatest is
 /// `greatest`.
 fn constants<T: RawWord>(rt: &impl Abort, bits: u32, least: u64, greatest: u64) {
-    assert_eq!(rt; T::BITS, bits);
-    assert_eq!(rt; T::SIGNED, least > 0, "{bits} bits");
-    assert_eq!(rt; seen(T::ZERO), (false, 0), "{bits} bits");
-    assert_eq!(rt; seen(T::ONE), (false, 1), "{bits} bits");
-    assert_eq!(rt; seen(T::MIN), (least > 0, least), "{bits} bits");
-    assert_eq!(rt; seen(T::MAX), (false, greatest), "{bits} bits");
-    assert!(rt;
-        T::MIN < T::MAX && T::ZERO < T::ONE && T::MIN <= T::ZERO,
-        "{bits} bits"
-    );
-    assert!(rt; T::MAX == T::MAX && T::MIN != T::MAX, "{bits} bits");
+    let values = [
+        (
+            "width",
+            (T::SIGNED, T::BITS as u64),
+            (least > 0, bits as u64),
+        ),
+        ("zero", seen(T::ZERO), (false, 0)),
+        ("one", seen(T::ONE), (false, 1)),
+        ("least", seen(T::MIN), (least > 0, least)),
+        ("greatest", seen(T::MAX), (false, greatest)),
+    ];
+    all_equal(rt, bits, &values);
+    let rises = T::MIN < T::MAX && T::ZERO < T::ONE && T::MIN <= T::ZERO;
+    let same = T::MAX == T::MAX && T::MIN != T::MAX;
+    assert!(rt; rises && same, "{bits} bits");
 }
 
 /// What is left of a number.
@@ -34,24 +47,24 @@ fn residues<T: RawWord>(rt: &impl Abort, bits: u32, least: u64, greatest: u64) {
     let signed = least > 0;
     let minus_one = if signed { (true, 1) } else { (false, greatest) };
     let turn = greatest as u128 + least as u128 + 1;
-    assert_eq!(rt;
-        left::<T>(false, greatest as u128 + 1),
-        (signed, least),
-        "{bits} bits"
-    );
-    assert_eq!(rt;
-        left::<T>(true, least as u128 + 1),
-        (false, greatest),
-        "{bits} bits"
-    );
-    assert_eq!(rt;
-        left::<T>(true, least as u128),
-        (signed, least),
-        "{bits} bits"
-    );
-    assert_eq!(rt; left::<T>(false, turn), (false, 0), "{bits} bits");
-    assert_eq!(rt; left::<T>(false, u128::MAX), minus_one, "{bits} bits");
-    assert_eq!(rt; left::<T>(true, u128::MAX), (false, 1), "{bits} bits");
+    let (most, lowest) = (greatest as u128, least as u128);
+    let values = [
+        (
+            "past the greatest",
+            left::<T>(false, most + 1),
+            (signed, least),
+        ),
+        (
+            "past the least",
+            left::<T>(true, lowest + 1),
+            (false, greatest),
+        ),
+        ("least", left::<T>(true, lowest), (signed, least)),
+        ("turn", left::<T>(false, turn), (false, 0)),
+        ("all ones", left::<T>(false, u128::MAX), minus_one),
+        ("all ones below 0", left::<T>(true, u128::MAX), (false, 1)),
+    ];
+    all_equal(rt, bits, &values);
 }
 
 /// Whether that number leaves that word and lies on that side.
@@ -64,15 +77,22 @@ fn lies<T: Word>(below_zero: bool, magnitude: u128, wrapped: T, side: Side) -> b
 fn ends<T: Word>(rt: &impl Abort, bits: u32, least: u64, greatest: u64) {
     let least = least as u128;
     let greatest = greatest as u128;
-    assert!(rt; lies(false, greatest, T::MAX, Side::Fits), "{bits} bits");
-    assert!(rt;
-        lies(false, greatest + 1, T::MIN, Side::Above),
-        "{bits} bits"
-    );
-    assert!(rt; lies(true, least, T::MIN, Side::Fits), "{bits} bits");
-    assert!(rt; lies(true, least + 1, T::MAX, Side::Below), "{bits} bits");
-    assert!(rt; lies(true, 0, T::ZERO, Side::Fits), "{bits} bits");
-    assert!(rt; lies(true, u128::MAX, T::ONE, Side::Below), "{bits} bits");
+    for (what, holds) in [
+        ("greatest", lies(false, greatest, T::MAX, Side::Fits)),
+        (
+            "past the greatest",
+            lies(false, greatest + 1, T::MIN, Side::Above),
+        ),
+        ("least", lies(true, least, T::MIN, Side::Fits)),
+        ("past the least", lies(true, least + 1, T::MAX, Side::Below)),
+        ("zero below 0", lies(true, 0, T::ZERO, Side::Fits)),
+        (
+            "all ones below 0",
+            lies(true, u128::MAX, T::ONE, Side::Below),
+        ),
+    ] {
+        assert!(rt; holds, "{what} of {bits} bits");
+    }
 }
 
 /// Whether the way through the unsigned word leads back.
@@ -89,14 +109,25 @@ fn ways<T: Word>(rt: &impl Abort, bits: u32, least: u64, greatest: u64) {
     let signed = least > 0;
     let least_signed = if signed { (true, least) } else { (false, 0) };
     let greatest_signed = if signed { (false, greatest) } else { (true, 1) };
-    assert_eq!(rt; seen(T::MIN.to_unsigned()), (false, least), "{bits} bits");
-    assert_eq!(rt;
-        seen(T::MAX.to_unsigned()),
-        (false, greatest),
-        "{bits} bits"
-    );
-    assert_eq!(rt; seen(T::MIN.to_signed()), least_signed, "{bits} bits");
-    assert_eq!(rt; seen(T::MAX.to_signed()), greatest_signed, "{bits} bits");
+    let values = [
+        (
+            "least, unsigned",
+            seen(T::MIN.to_unsigned()),
+            (false, least),
+        ),
+        (
+            "greatest, unsigned",
+            seen(T::MAX.to_unsigned()),
+            (false, greatest),
+        ),
+        ("least, signed", seen(T::MIN.to_signed()), least_signed),
+        (
+            "greatest, signed",
+            seen(T::MAX.to_signed()),
+            greatest_signed,
+        ),
+    ];
+    all_equal(rt, bits, &values);
 }
 
 fn word<T: Word>(rt: &impl Abort, bits: u32, least: u64, greatest: u64) {
@@ -118,28 +149,47 @@ fn eight_words(rt: HostRuntime) {
     word::<i64>(&rt, 64, 1 << 63, i64::MAX as u64);
 }
 
+/// A call's name, the count after it, and what it is to be.
+type Counted = (&'static str, u64, u64);
+
+fn all_counted(rt: &impl Abort, counts: &[Counted]) {
+    for (what, found, wanted) in counts {
+        assert_eq!(rt; *found, *wanted, "count after {what}");
+    }
+}
+
 /// Each of the eight calls raises the count by one.
 fn counted<D: Digits<Count> + RawWord>(rt: &impl Abort, greatest: u64) {
     let mut steps = Steps::new(Count::new());
     let one = <D as RawWord>::ONE;
     let three = D::add(D::add(one, one, &mut steps), one, &mut steps);
-    assert_eq!(rt; steps.ledger().count(), 2);
+    let sums = steps.ledger().count();
     let two = D::sub(three, one, &mut steps);
-    assert_eq!(rt; (seen(two), steps.ledger().count()), ((false, 2), 3));
+    let difference = steps.ledger().count();
     let eight = D::shl(two, 2, &mut steps);
-    assert_eq!(rt; (seen(eight), steps.ledger().count()), ((false, 8), 4));
-    assert!(rt; D::shr(eight, 3, &mut steps) == one);
-    assert_eq!(rt; steps.ledger().count(), 5);
-    assert!(rt; D::at_most(two, three, &mut steps) && !D::at_most(three, two, &mut steps));
-    assert_eq!(rt; steps.ledger().count(), 7);
+    let up = steps.ledger().count();
+    let again = D::shr(eight, 3, &mut steps);
+    let down = steps.ledger().count();
+    let ordered = D::at_most(two, three, &mut steps) && !D::at_most(three, two, &mut steps);
+    let orders = steps.ledger().count();
     let zeros = Digits::leading_zeros(<D as RawWord>::ZERO, &mut steps);
-    assert_eq!(rt; (zeros, steps.ledger().count()), (D::BITS, 8));
+    let zeros_counted = steps.ledger().count();
     let all = D::times(D::MAX, one, &mut steps);
     let past = D::times(D::MAX, two, &mut steps);
-    assert!(rt; all == Some(D::MAX) && past == None);
     let known = D::literal(greatest, &mut steps);
-    assert!(rt; known == Some(D::MAX));
-    assert_eq!(rt; steps.ledger().count(), 11);
+    assert!(rt; seen(two) == (false, 2) && seen(eight) == (false, 8) && again == one);
+    assert!(rt; ordered && zeros == D::BITS);
+    assert!(rt; all == Some(D::MAX) && past == None && known == Some(D::MAX));
+    let counts = [
+        ("two sums", sums, 2),
+        ("a difference", difference, 3),
+        ("a shift up", up, 4),
+        ("a shift down", down, 5),
+        ("two comparisons", orders, 7),
+        ("leading zeros", zeros_counted, 8),
+        ("two products and a literal", steps.ledger().count(), 11),
+    ];
+    all_counted(rt, &counts);
 }
 
 #[test]

@@ -1,0 +1,104 @@
+//! The kernels by the name of a word, on plain numbers: one function names the eight words, so
+//! that no test pays for their laws.
+
+use super::calls::{Op, answer};
+use super::plain::words_of;
+use fixed_word::{Side, Word, checked_of, outcome_of};
+use std::process::Abort;
+
+/// A word by its name.
+#[derive(Clone, Copy, Debug)]
+pub enum WordName {
+    U8,
+    U16,
+    U32,
+    U64,
+    I8,
+    I16,
+    I32,
+    I64,
+}
+
+/// The word of that value; nothing where the type does not hold it.
+fn word_of<T: Word>(value: i128) -> Option<T> {
+    checked_of(outcome_of(value < 0, value.unsigned_abs()))
+}
+
+fn value_of<T: Word>(word: T) -> i128 {
+    let magnitude = word.magnitude() as i128;
+    if word.is_below_zero() {
+        -magnitude
+    } else {
+        magnitude
+    }
+}
+
+fn answer_as<T: Word>(op: Op, a: i128, b: i128, frac: u32) -> Option<(i128, Side)> {
+    let outcome = answer::<T>(op, word_of(a)?, word_of(b)?, frac)?;
+    Some((value_of(outcome.wrapped), outcome.side))
+}
+
+/// What the kernel answers at words of that name and those values.
+pub fn answer_in(word: WordName, op: Op, a: i128, b: i128, frac: u32) -> Option<(i128, Side)> {
+    match word {
+        WordName::U8 => answer_as::<u8>(op, a, b, frac),
+        WordName::U16 => answer_as::<u16>(op, a, b, frac),
+        WordName::U32 => answer_as::<u32>(op, a, b, frac),
+        WordName::U64 => answer_as::<u64>(op, a, b, frac),
+        WordName::I8 => answer_as::<i8>(op, a, b, frac),
+        WordName::I16 => answer_as::<i16>(op, a, b, frac),
+        WordName::I32 => answer_as::<i32>(op, a, b, frac),
+        WordName::I64 => answer_as::<i64>(op, a, b, frac),
+    }
+}
+
+/// Operands with what the kernel is to leave of its number, and the side where the number lies.
+pub type Row = (Op, i128, i128, u32, i128, Side);
+
+/// That the kernel answers as the row says, at words of that name.
+pub fn check_row(rt: &impl Abort, word: WordName, row: Row) {
+    let (op, a, b, frac, wrapped, side) = row;
+    let found = answer_in(word, op, a, b, frac);
+    assert_eq!(rt;
+        found,
+        Some((wrapped, side)),
+        "{word:?}: {op:?} of {a} and {b} at {frac}"
+    );
+}
+
+/// That the kernel of one operand leaves what the word leaves of that number, which is at least 0.
+pub fn check_number(rt: &impl Abort, word: WordName, op: Op, a: i128, frac: u32, number: u64) {
+    let found = answer_in(word, op, a, 0, frac);
+    let stands = match found {
+        Some((wrapped, side)) => {
+            let apart = wrapped.wrapping_sub(number as i128).unsigned_abs();
+            let fits = number <= greatest(word);
+            apart % words_of(width(word)) == 0
+                && side == if fits { Side::Fits } else { Side::Above }
+        }
+        None => false,
+    };
+    assert!(rt; stands, "{word:?}: {op:?} of {a} at {frac}: {found:?}");
+}
+
+fn width(word: WordName) -> u32 {
+    match word {
+        WordName::U8 | WordName::I8 => 8,
+        WordName::U16 | WordName::I16 => 16,
+        WordName::U32 | WordName::I32 => 32,
+        WordName::U64 | WordName::I64 => 64,
+    }
+}
+
+fn greatest(word: WordName) -> u64 {
+    match word {
+        WordName::U8 => u8::MAX as u64,
+        WordName::U16 => u16::MAX as u64,
+        WordName::U32 => u32::MAX as u64,
+        WordName::U64 => u64::MAX,
+        WordName::I8 => 127,
+        WordName::I16 => 32_767,
+        WordName::I32 => 2_147_483_647,
+        WordName::I64 => 9_223_372_036_854_775_807,
+    }
+}
