@@ -1,8 +1,10 @@
 -- The text of a line that is read quickly, part by part.
-use Rattle.std.proofs.Common.{◌≡◌, ◌+◌, ◌-◌, ◌*◌, ◌^◌, ◌<◌, ◌≤◌, ℕ, zero, suc, true, false, List, [], ◌∷◌, ◌++◌, length, take, drop, get_or, length-append, append_assoc, Option, Some, None, refl, sym, ap, subst, ◌∙◌, arith, codes}
+use Rattle.std.proofs.Common.{◌≡◌, ◌+◌, ◌-◌, ◌*◌, ◌^◌, ◌<◌, ◌≤◌, ℕ, Bool, zero, suc, true, false, List, [], ◌∷◌, ◌++◌, length, take, drop, get_or, length-append, append_assoc, Option, Some, None, refl, sym, ap, subst, ◌∙◌, arith, codes}
 use Rattle.std.specs.Char.{is_ascii_digit}
 use Rattle.std.specs.List.{list_all, join_with_byte}
+use Rattle.std.specs.Str.{bytes_eq}
 use Rattle.std.specs.Str.Parse.{digits_value, AllDigits}
+use Rattle.std.proofs.lemmas.Slice.Eq.{bytes_eq-Decides}
 use Rattle.std.proofs.Math.Nat.{pow-le-pow_right}
 use Rattle.std.proofs.lemmas.Int.Digits.{digits_value-lt}
 use Rattle.std.proofs.lemmas.List.{drop_more, drop-drop, take-append-drop, take_at, drop_at, length-take-le, length-take, get_or-take, get_or-drop, length-drop}
@@ -26,6 +28,14 @@ use Rattle.fixed_calc.proofs.Ended.{pieces_ended, line_read}
 use Rattle.fixed_calc.proofs.Lacks.{line_lacks}
 
 -- ---- names
+-- a copy of some bytes that is a name
+pub copied_is : (bytes name copy : List ℕ) (at n : ℕ) (same : Bool) → copy ≡ take (at + n - at) (drop at bytes) → same ≡ bytes_eq copy name → same ≡ true → drop at bytes ≡ name ++ drop (at + n) bytes
+copied_is bytes name copy at n same taken tested holds =
+    let back : at + n - at ≡ n = omega arith in
+    let is : copy ≡ name = (bytes_eq-Decides copy name).0 (sym tested ∙ holds) in
+    let front : take n (drop at bytes) ≡ name = ap (λ k. take k (drop at bytes)) (sym back) ∙ sym taken ∙ is in
+    sym (take-append-drop n (drop at bytes)) ∙ ap (λ (t : List ℕ). t ++ drop n (drop at bytes)) front ∙ ap (λ (t : List ℕ). name ++ t) (drop-drop n at bytes)
+
 -- a name whose parts share some bytes
 pub overlapped : (bytes front behind back : List ℕ) (at place after end : ℕ) → drop at bytes ≡ front ++ behind → place ≡ at + length front → drop place bytes ≡ back ++ drop after bytes → after ≡ end → drop at bytes ≡ front ++ (back ++ drop end bytes)
 overlapped bytes front behind back at place after end first is second ends =
