@@ -86,7 +86,7 @@ fn short_op_at(bytes: &[u8], at: usize) -> Option<(Op, usize)>
 }
 
 /// The same, if its name is one word of four to six letters.
-#[inline(always)]
+#[inline]
 fn word_op_at(bytes: &[u8], at: usize) -> Option<(Op, usize)>
     requires { at + 18 ≤ length bytes.now }
     ensures { IfSome result (λ found. Stands bytes.now at (op_name found.0) 32 18 found.1) }
@@ -105,7 +105,7 @@ fn word_op_at(bytes: &[u8], at: usize) -> Option<(Op, usize)>
 }
 
 /// The same, if its name has several words.
-#[inline(always)]
+#[inline]
 fn words_op_at(bytes: &[u8], at: usize) -> Option<(Op, usize)>
     requires { at + 18 ≤ length bytes.now }
     ensures { IfSome result (λ found. Stands bytes.now at (op_name found.0) 32 18 found.1) }
@@ -134,7 +134,7 @@ fn words_op_at(bytes: &[u8], at: usize) -> Option<(Op, usize)>
 }
 
 /// The same, if its name begins with `next`.
-#[inline(always)]
+#[inline]
 fn next_op_at(bytes: &[u8], at: usize) -> Option<(Op, usize)>
     requires { at + 18 ≤ length bytes.now }
     ensures { IfSome result (λ found. Stands bytes.now at (op_name found.0) 32 18 found.1) }
