@@ -1,13 +1,13 @@
 -- The text of a line that is read quickly, part by part.
-use Rattle.std.proofs.Common.{◌≡◌, ◌+◌, ◌-◌, ◌*◌, ◌^◌, ◌<◌, ◌≤◌, ℕ, Bool, zero, suc, true, false, List, [], ◌∷◌, ◌++◌, length, take, drop, get_or, length-append, append_assoc, Option, Some, None, refl, sym, ap, subst, ◌∙◌, arith, codes}
+use Rattle.std.proofs.Common.{◌≡◌, ◌+◌, ◌-◌, ◌*◌, ◌%◌, ◌^◌, ◌<◌, ◌≤◌, ℕ, min, zero, suc, true, false, List, [], ◌∷◌, ◌++◌, length, take, drop, get_or, length-append, append_assoc, Option, Some, None, refl, sym, ap, subst, ◌∙◌, arith, codes}
 use Rattle.std.specs.Char.{is_ascii_digit}
 use Rattle.std.specs.List.{list_all, join_with_byte}
-use Rattle.std.specs.Str.{bytes_eq}
+use Rattle.std.specs.Int.{Width, from_le_bytes, to_le_bytes}
 use Rattle.std.specs.Str.Parse.{digits_value, AllDigits}
-use Rattle.std.proofs.lemmas.Slice.Eq.{bytes_eq-Decides}
 use Rattle.std.proofs.Math.Nat.{pow-le-pow_right}
+use Rattle.std.proofs.Math.Seq.{take-add}
 use Rattle.std.proofs.lemmas.Int.Digits.{digits_value-lt}
-use Rattle.std.proofs.lemmas.List.{drop_more, drop-drop, take-append-drop, take_at, drop_at, length-take-le, length-take, get_or-take, get_or-drop, length-drop}
+use Rattle.std.proofs.lemmas.List.{drop_more, drop-drop, take-append-drop, take-take, take_all, take_at, length-take-le, length-take, get_or-take, get_or-drop, length-drop}
 use Rattle.fixed_word.specs.Decimal.{natural_text, whole_text}
 use Rattle.fixed_word.specs.Format.{with_sign}
 use Rattle.fixed_word.specs.Pieces.{pieces}
@@ -28,31 +28,64 @@ use Rattle.fixed_calc.proofs.Ended.{pieces_ended, line_read}
 use Rattle.fixed_calc.proofs.Lacks.{line_lacks}
 
 -- ---- names
--- a copy of some bytes that is a name
-pub copied_is : (bytes name copy : List ℕ) (at n : ℕ) (same : Bool) → copy ≡ take (at + n - at) (drop at bytes) → same ≡ bytes_eq copy name → same ≡ true → drop at bytes ≡ name ++ drop (at + n) bytes
-copied_is bytes name copy at n same taken tested holds =
-    let back : at + n - at ≡ n = omega arith in
-    let is : copy ≡ name = (bytes_eq-Decides copy name).0 (sym tested ∙ holds) in
-    let front : take n (drop at bytes) ≡ name = ap (λ k. take k (drop at bytes)) (sym back) ∙ sym taken ∙ is in
-    sym (take-append-drop n (drop at bytes)) ∙ ap (λ (t : List ℕ). t ++ drop n (drop at bytes)) front ∙ ap (λ (t : List ℕ). name ++ t) (drop-drop n at bytes)
+-- the first bytes of a list of bytes
+front_bytes : (k : ℕ) (xs : List ℕ) → ((i : ℕ) → get_or xs i 0 < 256) → (i : ℕ) → get_or (take k xs) i 0 < 256
+front_bytes zero xs bytes i = omega arith
+front_bytes (suc k) [] bytes i = bytes i
+front_bytes (suc k) (x ∷ xs) bytes zero = bytes zero
+front_bytes (suc k) (x ∷ xs) bytes (suc i) = front_bytes k xs (λ j. bytes (suc j)) i
 
--- a name whose parts share some bytes
-pub overlapped : (bytes front behind back : List ℕ) (at place after end : ℕ) → drop at bytes ≡ front ++ behind → place ≡ at + length front → drop place bytes ≡ back ++ drop after bytes → after ≡ end → drop at bytes ≡ front ++ (back ++ drop end bytes)
-overlapped bytes front behind back at place after end first is second ends =
-    let same : drop place bytes ≡ behind = ap (λ n. drop n bytes) is ∙ sym (drop-drop (length front) at bytes) ∙ ap (drop (length front)) first ∙ drop_at front behind (length front) refl in
-    first ∙ ap (λ (t : List ℕ). front ++ t) (sym same ∙ second ∙ ap (λ n. back ++ drop n bytes) ends)
+-- a copy of n of them, from a place on
+copy_bytes : (xs copy : List ℕ) (from n : ℕ) → ((i : ℕ) → get_or xs i 0 < 256) → copy ≡ take (from + n - from) (drop from xs) → (i : ℕ) → get_or copy i 0 < 256
+copy_bytes xs copy from n bytes is i =
+    let all : (j : ℕ) → get_or (drop from xs) j 0 < 256 = λ j. omega (arith, bytes (from + j), get_or-drop from xs j 0) in
+    omega (arith, front_bytes (from + n - from) (drop from xs) all i, ap (λ (ys : List ℕ). get_or ys i 0) is)
+
+-- bytes can be read back from their number
+abbrev pub ReadsBack : Width → ℕ → Type 0
+ReadsBack w n = (bs : List ℕ) (x : ℕ) → length bs ≡ n → ((i : ℕ) → get_or bs i 0 < 256) → x ≡ from_le_bytes w bs → to_le_bytes w x ≡ bs
+
+-- n bytes of two texts are copied, and their numbers are equal
+pub copied_is : (w : Width) (n : ℕ) → ReadsBack w n → (bytes text found wanted : List ℕ) (at from x y : ℕ) → ((i : ℕ) → get_or bytes i 0 < 256) → ((i : ℕ) → get_or text i 0 < 256)
+    → length found ≡ n → found ≡ take (at + from + n - (at + from)) (drop (at + from) bytes) → length wanted ≡ n → wanted ≡ take (from + n - from) (drop from text)
+    → x ≡ from_le_bytes w found → y ≡ from_le_bytes w wanted → x ≡ y → take n (drop from (drop at bytes)) ≡ take n (drop from text)
+copied_is w n back bytes text found wanted at from x y bytes_fit text_fits found_long found_is wanted_long wanted_is x_is y_is same =
+    let is : found ≡ wanted =
+    sym (back found x found_long (copy_bytes bytes found (at + from) n bytes_fit found_is) x_is) ∙ ap (to_le_bytes w) same ∙ back wanted y wanted_long (copy_bytes text wanted from n text_fits wanted_is) y_is in
+    let few : at + from + n - (at + from) ≡ n = omega arith in
+    let fewer : from + n - from ≡ n = omega arith in
+    ap (take n) (drop-drop from at bytes)
+    ∙ ap (λ k. take k (drop (at + from) bytes)) (sym few)
+    ∙ sym found_is
+    ∙ is
+    ∙ wanted_is
+    ∙ ap (λ k. take k (drop from text)) fewer
+
+-- two parts that meet or overlap
+pub joined : (xs ys : List ℕ) (k from n : ℕ) → from ≤ k → take k xs ≡ take k ys → take n (drop from xs) ≡ take n (drop from ys) → take (from + n) xs ≡ take (from + n) ys
+joined xs ys k from n within first second =
+    let front : take from xs ≡ take from ys = sym (take-take from k xs within) ∙ ap (take from) first ∙ take-take from k ys within in
+    take-add from n xs ∙ ap (λ (t : List ℕ). t ++ take n (drop from xs)) front ∙ ap (λ (t : List ℕ). take from ys ++ t) second ∙ sym (take-add from n ys)
+
+-- a text whose first k bytes stand at a place, and whose last n, which begin among them or right behind them
+pub text_stands : (bytes text : List ℕ) (at long k from n : ℕ) → length text ≡ long → long ≡ from + n → from ≤ k → take k (drop at bytes) ≡ take k text
+    → take n (drop from (drop at bytes)) ≡ take n (drop from text) → drop at bytes ≡ text ++ drop (at + long) bytes
+text_stands bytes text at long k from n is parts within first last =
+    let all : take (from + n) text ≡ text = take_all (from + n) text (omega (arith, is, parts)) in
+    let front : take long (drop at bytes) ≡ text = ap (λ m. take m (drop at bytes)) parts ∙ joined (drop at bytes) text k from n within first last ∙ all in
+    sym (take-append-drop long (drop at bytes)) ∙ ap (λ (t : List ℕ). t ++ drop long (drop at bytes)) front ∙ ap (λ (t : List ℕ). text ++ t) (drop-drop long at bytes)
 
 -- ---- registers
 -- the byte at a place, and what comes after it
 next_is : (bytes : List ℕ) (i j b : ℕ) → i < length bytes → j ≡ i + 1 → get_or bytes i 0 ≡ b → drop i bytes ≡ b ∷ drop j bytes
 next_is bytes i j b lt next is = drop_more bytes i 0 lt ∙ ap (λ n. get_or bytes i 0 ∷ drop n bytes) (sym next) ∙ ap (λ c. c ∷ drop j bytes) is
 
-pub register_one : (bytes : List ℕ) (at n s : ℕ) → at + 4 ≤ length bytes → get_or bytes at 0 ≡ 114 → is_ascii_digit (get_or bytes (at + 1) 0) ≡ true → n ≡ get_or bytes (at + 1) 0 - 48 → get_or bytes (at + 2) 0 ≡ s
-    → Stands bytes at (register_text n) s 4 (at + 3)
-register_one bytes at n s room letter digit is separator =
-    let d = digit_value_is (get_or bytes (at + 1) 0) digit in
-    let shown : get_or bytes (at + 1) 0 ≡ 48 + n = omega (arith, d.1, is) in
-    let small : n < 10 = omega (arith, d.2, is) in
+-- a byte less 48, without a borrow where that is a digit
+pub digit_shown : (c n most count : ℕ) → c < 256 → n ≡ (c + 208) % 256 → (c + 208) % 256 < most → most ≡ min count 10 → (c ≡ 48 + n) × (n < 10) × (n < count)
+digit_shown c n most count byte is few least = (omega (arith, byte, is, few, least), omega (arith, is, few, least), omega (arith, is, few, least))
+
+pub register_one : (bytes : List ℕ) (at n s : ℕ) → at + 4 ≤ length bytes → get_or bytes at 0 ≡ 114 → get_or bytes (at + 1) 0 ≡ 48 + n → n < 10 → get_or bytes (at + 2) 0 ≡ s → Stands bytes at (register_text n) s 4 (at + 3)
+register_one bytes at n s room letter shown small separator =
     record {
       reads =
           next_is bytes at (at + 1) 114 (omega arith) refl letter

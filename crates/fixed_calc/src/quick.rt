@@ -12,7 +12,7 @@ ghost use Rattle.fixed_word.specs.Format.{with_sign};
 ghost use Rattle.fixed_script.specs.Text.{register_text};
 ghost use Rattle.fixed_calc.specs.inside.Quick.{Stands, HasOperands, IsQuickLine};
 
-use crate::quick_names::{is_four, op_at, policy_at};
+use crate::quick_names::{is_text, op_at, policy_at};
 use fixed_script::{Op, Policy, Shape, shape_of};
 
 /// The longest line that is read quickly, newline included; so many bytes have to be left.
@@ -72,11 +72,8 @@ fn register_before(bytes: &[u8], at: usize, separator: u8, count: u8) -> Option<
     if bytes[at + 2] != separator {
         return long_register_before(bytes, at, separator, count);
     }
-    if bytes[at] != b'r' || !bytes[at + 1].is_ascii_digit() {
-        return None;
-    }
-    let number = bytes[at + 1] - b'0';
-    if number < count {
+    let number = bytes[at + 1].wrapping_sub(b'0');
+    if bytes[at] == b'r' && number < count.min(10) {
         Some((usize::from(number), at + 3))
     } else {
         None
@@ -193,7 +190,7 @@ pub(crate) fn quick_line(bytes: &[u8], count: u8) -> Option<(QuickLine, usize)>
         below_zero: false,
         magnitude: 0,
     };
-    if is_four(bytes, at, b"set ") {
+    if is_text(bytes, at, b"set ") {
         let (below_zero, magnitude, end) = literal_at(bytes, at + 4)?;
         let line = QuickLine {
             below_zero,

@@ -1,41 +1,55 @@
-//! The names of policies and operations, read quickly: four or eight bytes at a place are compared
-//! at once.
+//! The names of policies and operations, read quickly: four or eight of their bytes are compared at once.
 
-ghost use Rattle.std.specs.Prelude.{◌≡◌, ◌≤◌, ◌+◌, ◌∷◌, ◌++◌, drop, length, true, IfSome};
+ghost use Rattle.std.specs.Prelude.{◌≡◌, ◌≤◌, ◌+◌, ◌++◌, drop, length, take, true, IfSome};
 ghost use Rattle.fixed_script.specs.Names.{policy_name, op_name};
 ghost use Rattle.fixed_calc.specs.inside.Quick.{Stands};
 
 use fixed_script::{Op, Policy};
 
-/// Whether a byte stands at a place.
-#[inline(always)]
-fn is_one(bytes: &[u8], at: usize, byte: u8) -> bool
-    requires { at + 1 ≤ length bytes.now }
-    ensures { result ≡ true → drop at bytes.now ≡ byte ∷ drop (at + 1) bytes.now }
+/// Whether four bytes of a text, from a place of it on, stand at the same place behind `at`. They are compared as one
+/// number.
+#[inline]
+fn is_four(bytes: &[u8], at: usize, text: &[u8], from: usize) -> bool
+    requires bytes { at + from + 4 ≤ length bytes.now }
+    requires text { from + 4 ≤ length text.now }
+    ensures { result ≡ true → take 4 (drop from (drop at bytes.now)) ≡ take 4 (drop from text.now) }
 {
-    bytes[at] == byte
+    let (mut found, mut wanted) = ([0; 4], [0; 4]);
+    found.copy_from_slice(&bytes[at + from..at + from + 4]);
+    wanted.copy_from_slice(&text[from..from + 4]);
+    u32::from_le_bytes(found) == u32::from_le_bytes(wanted)
 }
 
-/// Whether the four bytes of a name stand at a place. They are compared at once.
-#[inline(always)]
-pub(crate) fn is_four(bytes: &[u8], at: usize, name: &[u8; 4]) -> bool
-    requires { at + 4 ≤ length bytes.now }
-    ensures { result ≡ true → drop at bytes.now ≡ name.now ++ drop (at + 4) bytes.now }
+/// The same of eight bytes.
+#[inline]
+fn is_eight(bytes: &[u8], at: usize, text: &[u8], from: usize) -> bool
+    requires bytes { at + from + 8 ≤ length bytes.now }
+    requires text { from + 8 ≤ length text.now }
+    ensures { result ≡ true → take 8 (drop from (drop at bytes.now)) ≡ take 8 (drop from text.now) }
 {
-    let mut four = [0; 4];
-    four.copy_from_slice(&bytes[at..at + 4]);
-    four == *name
+    let (mut found, mut wanted) = ([0; 8], [0; 8]);
+    found.copy_from_slice(&bytes[at + from..at + from + 8]);
+    wanted.copy_from_slice(&text[from..from + 8]);
+    u64::from_le_bytes(found) == u64::from_le_bytes(wanted)
 }
 
-/// Whether the eight bytes of a name stand at a place. They are compared at once.
-#[inline(always)]
-fn is_eight(bytes: &[u8], at: usize, name: &[u8; 8]) -> bool
-    requires { at + 8 ≤ length bytes.now }
-    ensures { result ≡ true → drop at bytes.now ≡ name.now ++ drop (at + 8) bytes.now }
+/// Whether a text of 4 to 24 bytes stands at a place. Four or eight bytes are compared at once.
+#[inline]
+pub(crate) fn is_text<const N: usize>(bytes: &[u8], at: usize, text: &[u8; N]) -> bool
+    requires least { 4 ≤ N }
+    requires most { N ≤ 24 }
+    requires within { at + N ≤ length bytes.now }
+    ensures { result ≡ true → drop at bytes.now ≡ text.now ++ drop (at + N) bytes.now }
 {
-    let mut eight = [0; 8];
-    eight.copy_from_slice(&bytes[at..at + 8]);
-    eight == *name
+    if N < 8 {
+        is_four(bytes, at, text, 0) && is_four(bytes, at, text, N - 4)
+    } else if N <= 16 {
+        is_eight(bytes, at, text, 0) && is_eight(bytes, at, text, N - 8)
+    } else {
+        is_eight(bytes, at, text, 0)
+            && is_eight(bytes, at, text, 8)
+            && is_eight(bytes, at, text, N - 8)
+    }
 }
 
 /// The policy that stands at a place, and where what comes after its space begins.
@@ -45,15 +59,15 @@ pub(crate) fn policy_at(bytes: &[u8], at: usize) -> Option<(Policy, usize)>
     ensures { IfSome result
         (λ found. Stands bytes.now at (policy_name found.0) 32 12 found.1) }
 {
-    if is_eight(bytes, at, b"checked ") {
+    if is_text(bytes, at, b"checked ") {
         Some((Policy::Checked, at + 8))
-    } else if is_eight(bytes, at, b"wrapping") && is_one(bytes, at + 8, b' ') {
+    } else if is_text(bytes, at, b"wrapping ") {
         Some((Policy::Wrapping, at + 9))
-    } else if is_eight(bytes, at, b"overflow") && is_four(bytes, at + 8, b"ing ") {
+    } else if is_text(bytes, at, b"overflowing ") {
         Some((Policy::Overflowing, at + 12))
-    } else if is_eight(bytes, at, b"saturati") && is_four(bytes, at + 7, b"ing ") {
+    } else if is_text(bytes, at, b"saturating ") {
         Some((Policy::Saturating, at + 11))
-    } else if is_four(bytes, at, b"stri") && is_four(bytes, at + 3, b"ict ") {
+    } else if is_text(bytes, at, b"strict ") {
         Some((Policy::Strict, at + 7))
     } else {
         None
@@ -66,88 +80,60 @@ fn short_op_at(bytes: &[u8], at: usize) -> Option<(Op, usize)>
     requires { at + 18 ≤ length bytes.now }
     ensures { IfSome result (λ found. Stands bytes.now at (op_name found.0) 32 18 found.1) }
 {
-    if is_four(bytes, at, b"neg ") {
+    if is_text(bytes, at, b"neg ") {
         Some((Op::Neg, at + 4))
-    } else if is_four(bytes, at, b"add ") {
+    } else if is_text(bytes, at, b"add ") {
         Some((Op::Add, at + 4))
-    } else if is_four(bytes, at, b"sub ") {
+    } else if is_text(bytes, at, b"sub ") {
         Some((Op::Sub, at + 4))
-    } else if is_four(bytes, at, b"mul ") {
+    } else if is_text(bytes, at, b"mul ") {
         Some((Op::Mul, at + 4))
-    } else if is_four(bytes, at, b"div ") {
+    } else if is_text(bytes, at, b"div ") {
         Some((Op::Div, at + 4))
-    } else if is_four(bytes, at, b"abs ") {
+    } else if is_text(bytes, at, b"abs ") {
         Some((Op::Abs, at + 4))
-    } else if is_four(bytes, at, b"rem ") {
+    } else if is_text(bytes, at, b"rem ") {
         Some((Op::Rem, at + 4))
     } else {
         None
     }
 }
 
-/// The same, if its name is one word of four to six letters.
-#[inline]
-fn word_op_at(bytes: &[u8], at: usize) -> Option<(Op, usize)>
+/// The same, if its name has more.
+#[inline(always)]
+fn long_op_at(bytes: &[u8], at: usize) -> Option<(Op, usize)>
     requires { at + 18 ≤ length bytes.now }
     ensures { IfSome result (λ found. Stands bytes.now at (op_name found.0) 32 18 found.1) }
 {
-    if is_four(bytes, at, b"sqrt") && is_one(bytes, at + 4, b' ') {
+    if is_text(bytes, at, b"sqrt ") {
         Some((Op::Sqrt, at + 5))
-    } else if is_four(bytes, at, b"dist") && is_one(bytes, at + 4, b' ') {
+    } else if is_text(bytes, at, b"dist ") {
         Some((Op::Dist, at + 5))
-    } else if is_four(bytes, at, b"reci") && is_four(bytes, at + 2, b"cip ") {
+    } else if is_text(bytes, at, b"recip ") {
         Some((Op::Recip, at + 6))
-    } else if is_four(bytes, at, b"sign") && is_four(bytes, at + 3, b"num ") {
+    } else if is_text(bytes, at, b"signum ") {
         Some((Op::Signum, at + 7))
-    } else {
-        None
-    }
-}
-
-/// The same, if its name has several words.
-#[inline]
-fn words_op_at(bytes: &[u8], at: usize) -> Option<(Op, usize)>
-    requires { at + 18 ≤ length bytes.now }
-    ensures { IfSome result (λ found. Stands bytes.now at (op_name found.0) 32 18 found.1) }
-{
-    if is_eight(bytes, at, b"mul_add ") {
+    } else if is_text(bytes, at, b"mul_add ") {
         Some((Op::MulAdd, at + 8))
-    } else if is_eight(bytes, at, b"add_prod") && is_one(bytes, at + 8, b' ') {
+    } else if is_text(bytes, at, b"add_prod ") {
         Some((Op::AddProd, at + 9))
-    } else if is_eight(bytes, at, b"mul_int ") {
+    } else if is_text(bytes, at, b"mul_int ") {
         Some((Op::MulInt, at + 8))
-    } else if is_eight(bytes, at, b"div_int ") {
+    } else if is_text(bytes, at, b"div_int ") {
         Some((Op::DivInt, at + 8))
-    } else if is_eight(bytes, at, b"rem_int ") {
+    } else if is_text(bytes, at, b"rem_int ") {
         Some((Op::RemInt, at + 8))
-    } else if is_eight(bytes, at, b"div_eucl") && is_four(bytes, at + 7, b"lid ") {
+    } else if is_text(bytes, at, b"div_euclid ") {
         Some((Op::DivEuclid, at + 11))
-    } else if is_eight(bytes, at, b"rem_eucl") && is_four(bytes, at + 7, b"lid ") {
+    } else if is_text(bytes, at, b"rem_euclid ") {
         Some((Op::RemEuclid, at + 11))
-    } else if is_eight(bytes, at, b"div_eucl") && is_eight(bytes, at + 7, b"lid_int ") {
+    } else if is_text(bytes, at, b"div_euclid_int ") {
         Some((Op::DivEuclidInt, at + 15))
-    } else if is_eight(bytes, at, b"rem_eucl") && is_eight(bytes, at + 7, b"lid_int ") {
+    } else if is_text(bytes, at, b"rem_euclid_int ") {
         Some((Op::RemEuclidInt, at + 15))
-    } else {
-        None
-    }
-}
-
-/// The same, if its name begins with `next`.
-#[inline]
-fn next_op_at(bytes: &[u8], at: usize) -> Option<(Op, usize)>
-    requires { at + 18 ≤ length bytes.now }
-    ensures { IfSome result (λ found. Stands bytes.now at (op_name found.0) 32 18 found.1) }
-{
-    if is_eight(bytes, at, b"next_mul")
-        && is_eight(bytes, at + 8, b"tiple_of")
-        && is_one(bytes, at + 16, b' ')
-    {
+    } else if is_text(bytes, at, b"next_multiple_of ") {
         Some((Op::NextMultipleOf, at + 17))
-    } else if is_eight(bytes, at, b"next_pow")
-        && is_eight(bytes, at + 8, b"er_of_tw")
-        && is_four(bytes, at + 14, b"two ")
-    {
+    } else if is_text(bytes, at, b"next_power_of_two ") {
         Some((Op::NextPowerOfTwo, at + 18))
     } else {
         None
@@ -160,13 +146,9 @@ pub(crate) fn op_at(bytes: &[u8], at: usize) -> Option<(Op, usize)>
     requires { at + 18 ≤ length bytes.now }
     ensures { IfSome result (λ found. Stands bytes.now at (op_name found.0) 32 18 found.1) }
 {
-    if let Some(found) = short_op_at(bytes, at) {
-        Some(found)
-    } else if let Some(found) = word_op_at(bytes, at) {
-        Some(found)
-    } else if let Some(found) = words_op_at(bytes, at) {
-        Some(found)
+    if bytes[at + 3] == b' ' {
+        short_op_at(bytes, at)
     } else {
-        next_op_at(bytes, at)
+        long_op_at(bytes, at)
     }
 }

@@ -44,15 +44,12 @@ fn is_matched(word: WordName, registers: &[Register], line: QuickLine, applied: 
         (Apply line.dest applied.policy applied.op (quick_operands (shape applied.op) line) None) ≡ false }
 {
     let fraction = registers[line.dest].fraction;
-    let a = registers[line.a].fraction == fraction;
-    match shape_of(applied.op) {
-        Shape::Unary | Shape::ByInteger => a,
-        Shape::Binary => a && registers[line.b].fraction == fraction,
-        Shape::Ternary => match applied.op {
-            Op::AddProd => a,
-            _ => a && registers[line.c].fraction == fraction,
-        },
-    }
+    registers[line.a].fraction == fraction
+        && match applied.op {
+            Op::AddProd => true,
+            Op::MulAdd => registers[line.c].fraction == fraction,
+            _ => registers[line.b].fraction == fraction,
+        }
 }
 
 /// The second operand: a register, or the number of the line, if it is a value of the word.

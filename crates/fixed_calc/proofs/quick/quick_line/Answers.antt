@@ -3,10 +3,10 @@ use Rattle.std.proofs.lemmas.Option.{IfSome_then}
 use Rattle.fixed_calc.proofs.QuickText.{set_is_quick, applied_is_quick}
 use Rattle.fixed_calc.proofs.quick.quick_line.Goals as goal
 
-pub returns-then-is_four : goal.returns-then-is_four
-returns-then-is_four c =
+pub returns-then-is_text : goal.returns-then-is_text
+returns-then-is_text c =
     let dest = c.in_ok-dest.ensures in
-    set_is_quick c.args.count c.args.bytes.now _ c.in_ok-dest.at c.in_ok-below_zero.end refl record { dest = dest.0; a = dest.0; b = dest.0; c = dest.0 } dest.1 (c.if-is_four.ensures refl) c.in_ok-below_zero.ensures c.requires.room
+    set_is_quick c.args.count c.args.bytes.now _ c.in_ok-dest.at c.in_ok-below_zero.end refl record { dest = dest.0; a = dest.0; b = dest.0; c = dest.0 } dest.1 (c.if-is_text.ensures refl) c.in_ok-below_zero.ensures c.requires.room
 
 pub returns : goal.returns
 returns c =

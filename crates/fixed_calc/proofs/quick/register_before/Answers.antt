@@ -1,11 +1,10 @@
-use Rattle.std.proofs.Common.{◌≡◌, ◌+◌, ◌∙◌, true, get_or, sym, arith}
-use Rattle.std.specs.Char.{is_ascii_digit}
-use Rattle.fixed_calc.proofs.QuickText.{register_one}
+use Rattle.std.proofs.Common.{◌+◌, get_or, arith}
+use Rattle.fixed_calc.proofs.QuickText.{register_one, digit_shown}
 use Rattle.fixed_calc.proofs.quick.register_before.Goals as goal
 
-pub returns-then-number-count : goal.returns-then-number-count
-returns-then-number-count c =
+pub returns-then-number-min : goal.returns-then-number-min
+returns-then-number-min c =
     let bytes = c.args.bytes.now in
     let at = c.args.at in
-    let digit : is_ascii_digit (get_or bytes (at + 1) 0) ≡ true = sym c.is_ascii_digit.ensures.value ∙ grind (arith, c.if-not-is_ascii_digit.false) in
-    (omega (arith, c.from.ensures, c.if-number-count.true), register_one bytes at c.from.result c.args.separator c.requires (omega (arith, c.if-bytes-at-ne114.false)) digit c.from.ensures (omega (arith, c.if-bytes-at.false)))
+    let digit = digit_shown (get_or bytes (at + 1) 0) c.from.result c.min.result c.args.count (omega (arith, c.type_inv.bytes (at + 1))) c.from.ensures c.if-number-min.true c.min.ensures in
+    (digit.2, register_one bytes at c.from.result c.args.separator c.requires c.if-bytes-at-eq114.true digit.0 digit.1 (omega (arith, c.if-bytes-at.false)))

@@ -1,8 +1,7 @@
-use Rattle.std.proofs.Common.{◌≡◌, ◌∙◌, ap, sym, subst, rules, true, Ok, Option, ℤ}
+use Rattle.std.proofs.Common.{◌≡◌, ◌∙◌, sym, subst, rules, true, Ok, Option, ℤ}
 use Rattle.std.specs.Int.{w128}
 use Rattle.std.proofs.lemmas.Int.{to_z-of_z}
 use mir.Val.{SFits}
-use Rattle.fixed_script.specs.Text.{ScriptLine}
 use Rattle.fixed_calc.specs.declared.answer.Answer.TheVariants.{Bits}
 use Rattle.fixed_calc.specs.declared.quick.Applied.{Applied}
 use Rattle.fixed_calc.specs.Machine.{is_value}

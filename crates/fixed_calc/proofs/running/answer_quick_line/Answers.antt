@@ -1,4 +1,4 @@
-use Rattle.std.proofs.Common.{◌≡◌, ◌≤◌, ◌*◌, ◌+◌, ◌∙◌, ◌++◌, List, ℕ, Option, Some, Ok, subst, ap, sym, arith, take, drop, length}
+use Rattle.std.proofs.Common.{◌≡◌, ◌+◌, ◌∙◌, ◌++◌, List, ℕ, Option, Ok, subst, ap, sym, arith, take, drop, length}
 use Rattle.std.proofs.lemmas.List.{length-drop, length-append, length-take}
 use Rattle.fixed_script.specs.Text.{ScriptLine}
 use Rattle.fixed_calc.specs.Answers.{answer_text}

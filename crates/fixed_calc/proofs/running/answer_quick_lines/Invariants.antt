@@ -1,4 +1,4 @@
-use Rattle.std.proofs.Common.{◌≡◌, ◌≤◌, length, ◌-◌}
+use Rattle.std.proofs.Common.{◌≤◌, length, ◌-◌}
 use Rattle.fixed_calc.specs.inside.Moves.{HaveMoved}
 use Rattle.fixed_calc.specs.Rooms.{KeepsRoom}
 use Rattle.fixed_calc.proofs.running.answer_quick_lines.Given as goal
