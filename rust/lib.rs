@@ -39,7 +39,7 @@
 //!
 //! # What is trusted
 //!
-//! The proofs are those of the kit `rattle-kit-13b logic dac8208d650f15bf` and speak of its language. That rustc's
+//! The proofs are those of the kit `rattle-kit-13f logic dac8208d650f15bf` and speak of its language. That rustc's
 //! code does the same stands on rustc itself, on the build script, and on the kit's table of forms that compile in
 //! both languages and act apart: none of them is used here (`docs/DECISIONS.md` says how that was seen). The tests
 //! of the proved crates run here too.
@@ -47,10 +47,10 @@
 //! # Conditions
 //!
 //! Where the proved language has a proof at each call that the call's condition holds, Rust has an assertion, which
-//! each page names under "Panics". Every call stops on a fraction past the width; each but the checked ones on a
-//! divisor of 0 and on the root of a number below 0; the operators, strict and unwrapped forms on a shift by the width
-//! or more. The strict and unwrapped forms stop where the number does not fit. The operators and plain calls do so in
-//! builds with debug assertions, and otherwise answer the wrapped number, as those of integers do.
+//! each page names under "Panics". A call that uses a fraction stops on one past the width; each but the checked ones
+//! on a divisor of 0 and on the root of a number below 0; the operators, strict and unwrapped forms on a shift by the
+//! width or more. The strict and unwrapped forms stop where the number does not fit. The operators and plain calls do
+//! so in builds with debug assertions, and otherwise answer the wrapped number, as those of integers do.
 #![no_std]
 // The code below is the proved sources' own, which name the traits of the calls that they use and the operands of laws,
 // and have what only the runs beside the library call.
