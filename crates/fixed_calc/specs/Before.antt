@@ -1,14 +1,14 @@
 -- What a script meant before a line could name its rounding: the same fold, over lines without a rounding, whose rows
 -- have none.
 use Rattle.std.specs.Prelude.{◌≡◌, ◌↔◌, ◌+◌, ◌++◌, ℕ, Bool, true, false, List, [], ◌∷◌, Option, Some, None, if◌then◌else◌}
-use Rattle.std.specs.Option.{option_map}
+use Rattle.std.specs.Option.{option_map, option_and_then}
 use Rattle.std.specs.List.{All}
 use Rattle.fixed_word.specs.declared.rounding.Rounding.{Rounding}
 use Rattle.fixed_word.specs.Pieces.{pieces, body}
 use Rattle.fixed_text.specs.Tokens.{tokens_of}
 use Rattle.fixed_script.specs.Names.{rounding_name}
 use Rattle.fixed_script.specs.Text.{ScriptHeader, ScriptLine, SetTo, Apply, IsLine, line_text}
-use Rattle.fixed_script.specs.Lines.{line_in, if_its_text, then_of, header_of_piece}
+use Rattle.fixed_script.specs.Lines.{line_in, if_its_text, header_of_piece}
 use Rattle.fixed_calc.specs.declared.answer.Answer.{Answer}
 use Rattle.fixed_calc.specs.declared.answer.Answer.TheVariants.{Bits}
 use Rattle.fixed_calc.specs.declared.cause.Cause.{Cause}
@@ -34,7 +34,7 @@ unfoldable pub old_line_of : List ℕ → Option ScriptLine
 old_line_of piece = if_its_text line_text piece (option_map without_rounding (line_in (tokens_of piece)))
 
 unfoldable pub old_line_of_piece : List ℕ → Option ScriptLine
-old_line_of_piece piece = then_of (body piece) old_line_of
+old_line_of_piece piece = option_and_then old_line_of (body piece)
 
 -- ---- the machine
 abbrev pub old_row_causes : State → ScriptLine → ℕ → List (Bool × Cause)
