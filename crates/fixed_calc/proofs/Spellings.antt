@@ -24,7 +24,7 @@ use Rattle.fixed_script.specs.Lines.{line_of, line_of_piece, header_of_piece}
 use Rattle.fixed_script.proofs.TextsRead.{reads_lines}
 use Rattle.fixed_calc.specs.Answers.{answer_text}
 use Rattle.fixed_calc.specs.Demo.{ended}
-use Rattle.fixed_calc.specs.Machine.{State, OperandValues, operand_values, row_by, row_causes, causes_of, first_of, literals_of, registers_of, is_value, is_unoffered, is_out_of_range, is_mismatched, stored, cause, answer, move}
+use Rattle.fixed_calc.specs.Machine.{State, OperandValues, operand_values, row_by, row_cause, late_cause, literals_of, registers_of, is_value, is_unoffered, is_out_of_range, is_mismatched, stored, cause, answer, move}
 use Rattle.fixed_text.specs.Words.{is_signed, width}
 use Rattle.fixed_calc.specs.Rows.{exact, exact_rounded}
 use Rattle.fixed_calc.specs.Projection.{project}
@@ -191,8 +191,8 @@ module _ (s : State) (k dest : ℕ) (policy : Policy) (op : Op) (xs : Operands) 
   same_cause : cause s spelled_out k ≡ cause s plain k
   unfolding is_unoffered is_mismatched
   same_cause =
-      ap (λ b. first_of ((is_unoffered s.word plain, Syntax k) ∷ (b, OutOfRange k) ∷ (is_mismatched s plain, FractionMismatch k) ∷ causes_of s spelled_out k)) same_range
-      ∙ ap (λ row. first_of ((is_unoffered s.word plain, Syntax k) ∷ (is_out_of_range s plain, OutOfRange k) ∷ (is_mismatched s plain, FractionMismatch k) ∷ row_causes (is_signed s.word) (width s.word) policy op row k))
+      ap (λ b. if is_unoffered s.word plain then Some (Syntax k) else if b then Some (OutOfRange k) else if is_mismatched s plain then Some (FractionMismatch k) else late_cause s spelled_out k) same_range
+      ∙ ap (λ row. if is_unoffered s.word plain then Some (Syntax k) else if is_out_of_range s plain then Some (OutOfRange k) else if is_mismatched s plain then Some (FractionMismatch k) else row_cause (is_signed s.word) (width s.word) policy row op k)
       (default_row op (operand_values s.registers xs))
 
   same_answer : answer s spelled_out ≡ answer s plain
