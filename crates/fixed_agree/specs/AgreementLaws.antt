@@ -3,7 +3,7 @@ use Rattle.std.specs.Prelude.{◌≡◌, ◌↔◌, ℕ, ℤ, Bool, Option, None
 use Rattle.std.specs.Bool.{⊤}
 use Rattle.fixed_calc.specs.Types.{Policy, Checked, Strict, Op}
 use Rattle.fixed_calc.specs.declared.answer.Answer.{Answer}
-use Rattle.fixed_calc.specs.Machine.{OperandValues, row_of, row_causes, first_of}
+use Rattle.fixed_calc.specs.Machine.{OperandValues, row_of, row_cause}
 use Rattle.fixed_calc.specs.Projection.{project}
 use Rattle.fixed_word.specs.Format.{IsWidth}
 use Rattle.fixed_agree.specs.Agreement.{MachineAnswers, RowFits}
@@ -22,4 +22,4 @@ Condition _ signed n row = IsSome row
 -- the machine finds no cause in the row exactly under that condition
 abbrev pub NoCauseExactly : Type 0
 NoCauseExactly =
-    (signed : Bool) (n k : ℕ) (policy : Policy) (op : Op) (row : Option ℤ) → (first_of (row_causes signed n policy op row k) ≡ None) ↔ Condition policy signed n row
+    (signed : Bool) (n k : ℕ) (policy : Policy) (op : Op) (row : Option ℤ) → (row_cause signed n policy row op k ≡ None) ↔ Condition policy signed n row

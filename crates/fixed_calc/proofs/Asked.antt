@@ -1,8 +1,8 @@
 -- Words that ask for a demonstration.
-use Rattle.std.proofs.Common.{◌≡◌, ◌≤◌, ℕ, List, [], ◌∷◌, length, get_or, Some, String, string_bytes, sym, ap, ◌∙◌, arith, codes}
+use Rattle.std.proofs.Common.{◌≡◌, ◌≤◌, ℕ, List, [], ◌∷◌, map, length, get_or, Some, String, string_bytes, sym, ap, ◌∙◌, arith, codes}
 use Rattle.std.specs.declared.alloc.Global.{Global}
 use Rattle.fixed_word.specs.Decimal.{natural_text}
-use Rattle.fixed_calc.specs.CommandLine.{IsDemo, texts_of, most_lines}
+use Rattle.fixed_calc.specs.CommandLine.{IsDemo, most_lines}
 use Rattle.fixed_text.specs.Numerals.{cap, natural_at}
 use Rattle.fixed_text.proofs.Decimals.{natural_takes, natural_again, natural_text_injective}
 
@@ -14,7 +14,7 @@ one_asked words m n one other =
     natural_text_injective m n same
 
 -- two words and their texts
-pub two_texts : (words : List (String Global)) (a b : String Global) (s t : List ℕ) → length words ≡ 2 → a ≡ get_or words 0 a → b ≡ get_or words 1 b → string_bytes a ≡ s → string_bytes b ≡ t → texts_of words ≡ s ∷ t ∷ []
+pub two_texts : (words : List (String Global)) (a b : String Global) (s t : List ℕ) → length words ≡ 2 → a ≡ get_or words 0 a → b ≡ get_or words 1 b → string_bytes a ≡ s → string_bytes b ≡ t → map string_bytes words ≡ s ∷ t ∷ []
 two_texts [] a b s t two first second x y = absurd (omega arith)
 two_texts (v ∷ []) a b s t two first second x y = absurd (omega arith)
 two_texts (v ∷ w ∷ []) a b s t two first second x y =

@@ -1,6 +1,6 @@
 -- A script without a rounding word has the meaning that it had before.
 use Rattle.std.proofs.Common.{◌≡◌, ◌+◌, ℕ, suc, Bool, true, false, List, [], ◌∷◌, ◌++◌, Option, Some, None, if◌then◌else◌, refl, sym, ap, subst, ◌∙◌, arith, append_assoc}
-use Rattle.std.specs.Option.{option_map}
+use Rattle.std.specs.Option.{option_map, option_and_then}
 use Rattle.std.specs.List.{All, join_with_byte}
 use Rattle.std.specs.Str.{bytes_eq}
 use Rattle.std.proofs.lemmas.Bool.{false≢true}
@@ -13,7 +13,7 @@ use Rattle.fixed_script.specs.declared.names.Policy.{Policy}
 use Rattle.fixed_script.specs.declared.names.Op.{Op}
 use Rattle.fixed_script.specs.Names.{policy_name, op_name, rounding_name}
 use Rattle.fixed_script.specs.Text.{ScriptHeader, ScriptLine, SetTo, Apply, Operands, IsLine, register_text, operand_tokens, line_text}
-use Rattle.fixed_script.specs.Lines.{line_in, if_its_text, then_of, line_of, line_of_piece, header_of_piece}
+use Rattle.fixed_script.specs.Lines.{line_in, if_its_text, line_of, line_of_piece, header_of_piece}
 use Rattle.fixed_script.proofs.Joined.{tokens_of_line}
 use Rattle.fixed_script.proofs.TextsRead.{line_back, line_is, its_text, has_text}
 use Rattle.fixed_calc.specs.Answers.{answer_text}
@@ -106,7 +106,7 @@ front_alike : (front : List ℕ) → (Ends front → ⊥) → line_of front ≡ 
 unfolding line_of old_line_of
 front_alike front apart = read_alike front (line_in (tokens_of front)) refl apart
 
-body_alike : (piece : List ℕ) (o : Option (List ℕ)) → body piece ≡ o → (EndsInRounding piece → ⊥) → then_of o line_of ≡ then_of o old_line_of
+body_alike : (piece : List ℕ) (o : Option (List ℕ)) → body piece ≡ o → (EndsInRounding piece → ⊥) → option_and_then line_of o ≡ option_and_then old_line_of o
 body_alike piece None is apart = refl
 body_alike piece (Some front) is apart = front_alike front (λ ends. apart (piece_ends piece front is ends))
 
@@ -114,7 +114,7 @@ piece_alike : (piece : List ℕ) → (EndsInRounding piece → ⊥) → line_of_
 unfolding line_of_piece old_line_of_piece
 piece_alike piece apart = body_alike piece (body piece) refl apart
 
-old_free : (piece : List ℕ) (o : Option (List ℕ)) (l : ScriptLine) → then_of o old_line_of ≡ Some l → names_none l ≡ true
+old_free : (piece : List ℕ) (o : Option (List ℕ)) (l : ScriptLine) → option_and_then old_line_of o ≡ Some l → names_none l ≡ true
 old_free piece None l e = cc
 old_free piece (Some front) l e = ((reads_old_lines front l).0 e).1
 

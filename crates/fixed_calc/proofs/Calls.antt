@@ -1,6 +1,6 @@
 -- How many calls a run makes of a source and a sink in memory.
 use Rattle.std.proofs.Common.{◌≡◌, ◌≤◌, ◌<◌, ◌+◌, ◌-◌, ◌*◌, ◌⊎◌, ◌∙◌, ℕ, zero, suc, List, length, min, inl, inr, ap, arith, length-drop}
-use Rattle.fixed_calc.specs.Calls.{GaveBytes, ReadsToEnd, TookBytes, WritesAll, buffer_size}
+use Rattle.fixed_calc.specs.Calls.{GaveBytes, ReadsToEnd, TookBytes, buffer_size}
 use Rattle.fixed_calc.specs.Memory.{IsCallsFor, MemoryInput, MemoryOutput, MemoryReadGives, MemoryWriteGives}
 use Rattle.fixed_calc.specs.Outside.{last_count}
 
@@ -81,7 +81,7 @@ took_so_far bytes (suc calls) total s u some h =
       moved = one_more _ h.0 calls (length bytes - h.0) h.1 _ _ (omega (arith, rest, gives.2.0, earlier.most, h.4)) (omega (arith, rest, gives.2.0, earlier.most)) h.5 (omega (arith, h.5)) earlier.moved;
     }
 
-pub writes_law : (bytes : List ℕ) (calls : ℕ) (s s' : MemoryOutput) → 1 ≤ s.most → WritesAll MemoryWriteGives bytes calls s s'
+pub writes_law : (bytes : List ℕ) (calls : ℕ) (s s' : MemoryOutput) → 1 ≤ s.most → TookBytes MemoryWriteGives bytes calls (length bytes) s s'
     → IsCallsFor s.most (length bytes) calls × (s.calls + calls ≤ last_count → s'.calls ≡ s.calls + calls)
 writes_law bytes calls s s' some h =
     let so_far = took_so_far bytes calls (length bytes) s s' some h in

@@ -1,12 +1,12 @@
 -- A line and its capped form have one cause and one move.
-use Rattle.std.proofs.Common.{◌≡◌, ◌^◌, ◌<◌, ◌≤◌, ℕ, suc, ℤ, pos, negsuc, neg_ℤ, Bool, true, false, not, ◌||◌, nat_le, unsigned_abs, List, ◌∷◌, length, Option, Some, Result, Ok, Err, subst, refl, sym, ap, ◌∙◌, arith}
+use Rattle.std.proofs.Common.{◌≡◌, ◌^◌, ◌<◌, ◌≤◌, ℕ, suc, ℤ, pos, negsuc, neg_ℤ, Bool, true, false, not, ◌||◌, nat_le, unsigned_abs, List, ◌∷◌, length, Option, Some, if◌then◌else◌, Result, Ok, Err, subst, refl, sym, ap, ◌∙◌, arith}
 use Rattle.std.proofs.lemmas.Int.{ints}
 use Rattle.std.proofs.lemmas.Bool.Decides.{nat_tests}
 use Rattle.fixed_text.specs.declared.names.WordName.{WordName}
 use Rattle.fixed_script.specs.Text.{ScriptLine, SetTo, Apply, OneRegister, TwoRegisters, RegisterAndInt, ThreeRegisters}
 use Rattle.fixed_text.specs.Numerals.{cap}
 use Rattle.fixed_script.specs.Capped.{cap_whole, capped}
-use Rattle.fixed_calc.specs.Machine.{State, Cell, cause, answer, move, first_of, causes_of, is_unoffered, is_out_of_range, is_mismatched, is_value}
+use Rattle.fixed_calc.specs.Machine.{State, Cell, cause, answer, move, late_cause, is_unoffered, is_out_of_range, is_mismatched, is_value}
 use Rattle.fixed_calc.specs.CapLaw.{CapsAlike}
 use Rattle.fixed_calc.specs.Step.{IsStepOfLine}
 use Rattle.fixed_calc.specs.declared.answer.Answer.{Answer}
@@ -97,8 +97,8 @@ same_offer w (SetTo dest k) = refl
 same_offer w (Apply dest policy op xs how) = refl
 
 -- what comes after a test that holds is not looked at
-blocked : (k : ℕ) (u o : Bool) (xs ys : List (Bool × Cause)) → o ≡ true → first_of ((u, Syntax k) ∷ (o, OutOfRange k) ∷ xs) ≡ first_of ((u, Syntax k) ∷ (o, OutOfRange k) ∷ ys)
-blocked k u o xs ys e = rw e refl
+blocked : (k : ℕ) (u o : Bool) (x y : Option Cause) → o ≡ true → (if u then Some (Syntax k) else if o then Some (OutOfRange k) else x) ≡ (if u then Some (Syntax k) else if o then Some (OutOfRange k) else y)
+blocked k u o x y e = rw e refl
 
 same_cause : (s : State) (l : ScriptLine) (k : ℕ) → length s.registers ≤ 2 ^ 64 → cause s (capped l) k ≡ cause s l k
 same_cause s l k h = by_range (is_out_of_range s l) refl
@@ -107,7 +107,8 @@ same_cause s l k h = by_range (is_out_of_range s l) refl
     by_range false e = ap (λ (m : ScriptLine). cause s m k) (same_line s l h e)
     by_range true e =
         rw (same_offer s.word l, same_range s l h)
-        (blocked k (is_unoffered s.word l) (is_out_of_range s l) ((is_mismatched s (capped l), FractionMismatch k) ∷ causes_of s (capped l) k) ((is_mismatched s l, FractionMismatch k) ∷ causes_of s l k) e)
+        (blocked k (is_unoffered s.word l) (is_out_of_range s l) (if is_mismatched s (capped l) then Some (FractionMismatch k) else late_cause s (capped l) k)
+        (if is_mismatched s l then Some (FractionMismatch k) else late_cause s l k) e)
 
 pub caps_alike : CapsAlike
 caps_alike s l k h = (

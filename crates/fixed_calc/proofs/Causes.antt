@@ -20,13 +20,13 @@ use Rattle.fixed_calc.specs.declared.answer.Answer.TheVariants.{Absent, Bits, Fl
 use Rattle.fixed_script.specs.Text.{ScriptLine, SetTo, Apply, Operands, OneRegister, TwoRegisters, RegisterAndInt, ThreeRegisters}
 use Rattle.fixed_calc.specs.Projection.{plain, project}
 use Rattle.fixed_calc.specs.Offered.{is_offered}
-use Rattle.fixed_calc.specs.Machine.{State, Cell, cell_at, empty_cell, destination, registers_of, cause, integer, OperandValues, first_of, causes_of, row_causes, row_by, operand_values, is_unoffered, is_out_of_range, is_mismatched, is_value, answer}
+use Rattle.fixed_calc.specs.Machine.{State, Cell, cell_at, empty_cell, destination, registers_of, cause, integer, OperandValues, late_cause, row_cause, row_by, operand_values, is_unoffered, is_out_of_range, is_mismatched, is_value, answer}
 use Rattle.fixed_text.specs.Words.{is_signed, width}
 use Rattle.fixed_calc.specs.inside.Stepping.{IsAnswerOfLine, IsAnswerOfRow, IsApplied, HoldsOperands, values_of}
 use Rattle.fixed_calc.specs.Step.{IsCell}
 use Rattle.fixed_calc.specs.declared.register.OperandRegisters.{OperandRegisters}
 use Rattle.fixed_calc.specs.declared.cause.Cause.{Cause}
-use Rattle.fixed_calc.specs.declared.cause.Cause.TheVariants.{Syntax, OutOfRange, FractionMismatch, ZeroDivisor, NegativeRoot, Overflow}
+use Rattle.fixed_calc.specs.declared.cause.Cause.TheVariants.{Syntax, OutOfRange, FractionMismatch, Overflow}
 use Rattle.fixed_calc.proofs.Fits.{wrap_fits, clamp_fits, value_small}
 
 -- a line whose first three tests fail
@@ -35,7 +35,7 @@ pub record PassesTests (s : State) (line : ScriptLine) : Type 0 where
   pub in_range : is_out_of_range s line ≡ false
   pub one_fraction : is_mismatched s line ≡ false
 
-pub after_tests : (s : State) (line : ScriptLine) (k : ℕ) → PassesTests s line → cause s line k ≡ first_of (causes_of s line k)
+pub after_tests : (s : State) (line : ScriptLine) (k : ℕ) → PassesTests s line → cause s line k ≡ late_cause s line k
 after_tests s line k t = rw (t.offered, t.in_range, t.one_fraction) refl
 
 apply_answer : (s : State) (dest : ℕ) (policy : Policy) (op : Op) (xs : Operands) (how : Option Rounding) → answer s (Apply dest policy op xs how) ≡ project policy (is_signed s.word) (width s.word) (row_by how op (operand_values s.registers xs))
@@ -49,11 +49,11 @@ set_answer s dest k = refl
 -- what the policy makes of the row is what the line asks for
 pub apply_tells : (s : State) (line : ScriptLine) (dest : ℕ) (policy : Policy) (op : Op) (xs : Operands) (how : Option Rounding) (k : ℕ) (r : Result Answer Cause) → line ≡ Apply dest policy op xs how → PassesTests s line
     → IsAnswerOfRow (is_signed s.word) (width s.word) policy op (row_by how op (operand_values s.registers xs)) k r → IsAnswerOfLine s line k r
-apply_tells s line dest policy op xs how k (Ok a) is t h = (after_tests s line k t ∙ ap (λ (l : ScriptLine). first_of (causes_of s l k)) is ∙ h.0, h.1 ∙ sym (ap (answer s) is ∙ apply_answer s dest policy op xs how))
-apply_tells s line dest policy op xs how k (Err c) is t h = after_tests s line k t ∙ ap (λ (l : ScriptLine). first_of (causes_of s l k)) is ∙ h
+apply_tells s line dest policy op xs how k (Ok a) is t h = (after_tests s line k t ∙ ap (λ (l : ScriptLine). late_cause s l k) is ∙ h.0, h.1 ∙ sym (ap (answer s) is ∙ apply_answer s dest policy op xs how))
+apply_tells s line dest policy op xs how k (Err c) is t h = after_tests s line k t ∙ ap (λ (l : ScriptLine). late_cause s l k) is ∙ h
 
 pub set_tells : (s : State) (line : ScriptLine) (dest : ℕ) (x : ℤ) (k : ℕ) → line ≡ SetTo dest x → PassesTests s line → IsAnswerOfLine s line k (Ok (Bits x))
-set_tells s line dest x k is t = (after_tests s line k t ∙ ap (λ (l : ScriptLine). first_of (causes_of s l k)) is, sym (ap (answer s) is ∙ set_answer s dest x))
+set_tells s line dest x k is t = (after_tests s line k t ∙ ap (λ (l : ScriptLine). late_cause s l k) is, sym (ap (answer s) is ∙ set_answer s dest x))
 
 -- ---- what holds of a line in range
 pub either_false : (a b : Bool) → (a || b) ≡ false → (a ≡ false) × (b ≡ false)
@@ -100,15 +100,15 @@ pub set_small : (s : State) (dest : ℕ) (l : Literal) → is_out_of_range s (Se
 set_small s dest l h = omega (arith, value_small s.word (literal_value l) (set_value s dest (literal_value l) h), size_of_literal l)
 
 -- ---- what a line with no cause stores
-by_tests : (k : ℕ) (p q r : Bool) (rest : List (Bool × Cause)) → first_of ((p, Syntax k) ∷ (q, OutOfRange k) ∷ (r, FractionMismatch k) ∷ rest) ≡ None → (p ≡ false) × (q ≡ false) × (r ≡ false) × (first_of rest ≡ None)
-by_tests k true q r rest h = cc
-by_tests k false true r rest h = cc
-by_tests k false false true rest h = cc
-by_tests k false false false rest h = (refl, refl, refl, h)
+by_tests : (k : ℕ) (p q r : Bool) (late : Option Cause) → (if p then Some (Syntax k) else if q then Some (OutOfRange k) else if r then Some (FractionMismatch k) else late) ≡ None → (p ≡ false) × (q ≡ false) × (r ≡ false) × (late ≡ None)
+by_tests k true q r late h = cc
+by_tests k false true r late h = cc
+by_tests k false false true late h = cc
+by_tests k false false false late h = (refl, refl, refl, h)
 
-pub no_cause : (s : State) (line : ScriptLine) (k : ℕ) → cause s line k ≡ None → PassesTests s line × (first_of (causes_of s line k) ≡ None)
+pub no_cause : (s : State) (line : ScriptLine) (k : ℕ) → cause s line k ≡ None → PassesTests s line × (late_cause s line k ≡ None)
 no_cause s line k h =
-    let p = by_tests k (is_unoffered s.word line) (is_out_of_range s line) (is_mismatched s line) (causes_of s line k) h in
+    let p = by_tests k (is_unoffered s.word line) (is_out_of_range s line) (is_mismatched s line) (late_cause s line k) h in
     (record { offered = p.0; in_range = p.1; one_fraction = p.2 }, p.3)
 
 -- the number of an answer is a value of the word
@@ -117,14 +117,12 @@ IsValued w Absent = ⊤
 IsValued w (Bits x) = is_value w x ≡ true
 IsValued w (Flagged x b) = is_value w x ≡ true
 
-no_overflow : (p q r : Bool) (k : ℕ) → first_of ((p, ZeroDivisor k) ∷ (q, NegativeRoot k) ∷ (r, Overflow k) ∷ []) ≡ None → r ≡ false
-no_overflow true q r k h = cc
-no_overflow false true r k h = cc
-no_overflow false false true k h = cc
-no_overflow false false false k h = refl
+pub no_overflow : (b : Bool) (k : ℕ) → (if b then None else Some (Overflow k)) ≡ None → b ≡ true
+no_overflow true k h = refl
+no_overflow false k h = cc
 
-project_valued : (w : WordName) (policy : Policy) (op : Op) (row : Option ℤ) (k : ℕ) → first_of (row_causes (is_signed w) (width w) policy op row k) ≡ None → IsValued w (project policy (is_signed w) (width w) row)
-unfolding row_causes
+project_valued : (w : WordName) (policy : Policy) (op : Op) (row : Option ℤ) (k : ℕ) → row_cause (is_signed w) (width w) policy row op k ≡ None → IsValued w (project policy (is_signed w) (width w) row)
+unfolding row_cause
 project_valued w policy op None k h = tt
 project_valued w Checked op (Some x) k h = by_fit (is_value w x) refl
   where
@@ -134,7 +132,7 @@ project_valued w Checked op (Some x) k h = by_fit (is_value w x) refl
 project_valued w Saturating op (Some x) k h = clamp_fits w x
 project_valued w Wrapping op (Some x) k h = wrap_fits w x
 project_valued w Overflowing op (Some x) k h = wrap_fits w x
-project_valued w Strict op (Some x) k h = not_not (is_value w x) (no_overflow false false (not (is_value w x)) k h)
+project_valued w Strict op (Some x) k h = no_overflow (is_value w x) k h
 
 pub answer_valued : (s : State) (line : ScriptLine) (k : ℕ) → cause s line k ≡ None → IsValued s.word (answer s line)
 unfolding answer

@@ -1,5 +1,5 @@
 -- The lines of a demonstration: each is a line, in one piece, and has no cause where its eight registers have one fraction.
-use Rattle.std.proofs.Common.{◌≡◌, ◌^◌, ◌<◌, ◌==◌, ℕ, zero, suc, pos, true, false, not, nat_le, List, [], ◌∷◌, length, None, refl, ◌∙◌, arith}
+use Rattle.std.proofs.Common.{◌≡◌, ◌^◌, ◌<◌, ◌==◌, ℕ, Bool, ℤ, zero, suc, pos, true, false, not, nat_le, List, [], ◌∷◌, length, Option, Some, None, refl, ◌∙◌, arith}
 use Rattle.std.specs.Bool.{⊤}
 use Rattle.std.specs.List.{All}
 use Rattle.std.proofs.lemmas.Bool.Decides.{nat_tests}
@@ -17,8 +17,10 @@ use Rattle.fixed_calc.specs.declared.answer.Answer.TheVariants.{Absent, Bits, Fl
 use Rattle.fixed_script.specs.Text.{ScriptLine, SetTo, Apply, Operands, OneRegister, TwoRegisters, ThreeRegisters, IsLine, shape, shape_of, line_text}
 use Rattle.fixed_calc.specs.Rows.{exact}
 use Rattle.fixed_calc.specs.Offered.{is_offered}
-use Rattle.fixed_calc.specs.Machine.{State, Cell, empty_cell, cell_at, destination, is_value, is_unoffered, is_out_of_range, is_mismatched, row_causes, causes_of, first_of, cause, stored, answer, move}
-use Rattle.fixed_calc.specs.Demo.{state_at, draw, octal_digit, choices, drawn_line, demo_lines}
+use Rattle.fixed_text.specs.Words.{is_signed, width}
+use Rattle.fixed_calc.specs.Machine.{State, Cell, empty_cell, cell_at, destination, is_value, is_unoffered, is_out_of_range, is_mismatched, row_by, operand_values, row_cause, late_cause, cause, stored, answer, move}
+use Rattle.fixed_calc.specs.inside.Draws.{draw}
+use Rattle.fixed_calc.specs.Demo.{state_at, octal_digit, choices, drawn_line, demo_lines}
 use Rattle.fixed_calc.proofs.Lacks.{line_lacks}
 use Rattle.fixed_calc.proofs.Causes.{PassesTests, after_tests}
 use Rattle.fixed_calc.proofs.Fits.{fit_true}
@@ -120,29 +122,33 @@ add_prod_tests s d a b c ready there first second third = record {
 }
 
 -- the only rows that may be undefined are under checked
-add_total : (s : State) (d a b k : ℕ) → first_of (causes_of s (Apply d Wrapping Add (TwoRegisters a b) None) k) ≡ None
-unfolding row_causes exact
+add_total : (s : State) (d a b k : ℕ) → late_cause s (Apply d Wrapping Add (TwoRegisters a b) None) k ≡ None
+unfolding row_cause exact
 add_total s d a b k = refl
 
-sub_total : (s : State) (d a b k : ℕ) → first_of (causes_of s (Apply d Overflowing Sub (TwoRegisters a b) None) k) ≡ None
-unfolding row_causes exact
+sub_total : (s : State) (d a b k : ℕ) → late_cause s (Apply d Overflowing Sub (TwoRegisters a b) None) k ≡ None
+unfolding row_cause exact
 sub_total s d a b k = refl
 
-mul_total : (s : State) (d a b k : ℕ) → first_of (causes_of s (Apply d Saturating Mul (TwoRegisters a b) None) k) ≡ None
-unfolding row_causes exact
+mul_total : (s : State) (d a b k : ℕ) → late_cause s (Apply d Saturating Mul (TwoRegisters a b) None) k ≡ None
+unfolding row_cause exact
 mul_total s d a b k = refl
 
-mul_add_total : (s : State) (d a b c k : ℕ) → first_of (causes_of s (Apply d Wrapping MulAdd (ThreeRegisters a b c) None) k) ≡ None
-unfolding row_causes exact
+mul_add_total : (s : State) (d a b c k : ℕ) → late_cause s (Apply d Wrapping MulAdd (ThreeRegisters a b c) None) k ≡ None
+unfolding row_cause exact
 mul_add_total s d a b c k = refl
 
-add_prod_total : (s : State) (d a b c k : ℕ) → first_of (causes_of s (Apply d Overflowing AddProd (ThreeRegisters a b c) None) k) ≡ None
-unfolding row_causes exact
+add_prod_total : (s : State) (d a b c k : ℕ) → late_cause s (Apply d Overflowing AddProd (ThreeRegisters a b c) None) k ≡ None
+unfolding row_cause exact
 add_prod_total s d a b c k = refl
 
-checked_total : (s : State) (d : ℕ) (op : Op) (xs : Operands) (k : ℕ) → first_of (causes_of s (Apply d Checked op xs None) k) ≡ None
-unfolding row_causes
-checked_total s d op xs k = refl
+checked_none : (signed : Bool) (n : ℕ) (row : Option ℤ) (op : Op) (k : ℕ) → row_cause signed n Checked row op k ≡ None
+unfolding row_cause
+checked_none signed n None op k = refl
+checked_none signed n (Some x) op k = refl
+
+checked_total : (s : State) (d : ℕ) (op : Op) (xs : Operands) (k : ℕ) → late_cause s (Apply d Checked op xs None) k ≡ None
+checked_total s d op xs k = checked_none (is_signed s.word) (width s.word) (row_by None op (operand_values s.registers xs)) op k
 
 -- ---- the lines that are drawn
 set_drawn : (d t : ℕ) → d < 8 → t < 2 ^ 31 → IsDrawn (SetTo d (pos t))
@@ -154,7 +160,7 @@ set_drawn d t there small = record {
 }
 
 apply_drawn : (d : ℕ) (policy : Policy) (op : Op) (xs : Operands) → shape op ≡ shape_of xs → d < 8
-    → ((s : State) → IsReady s → PassesTests s (Apply d policy op xs None)) → ((s : State) (k : ℕ) → first_of (causes_of s (Apply d policy op xs None) k) ≡ None) → IsDrawn (Apply d policy op xs None)
+    → ((s : State) → IsReady s → PassesTests s (Apply d policy op xs None)) → ((s : State) (k : ℕ) → late_cause s (Apply d policy op xs None) k ≡ None) → IsDrawn (Apply d policy op xs None)
 apply_drawn d policy op xs shaped there tests total = record {
   is_line = (shaped, refl);
   one_piece = line_lacks (Apply d policy op xs None);

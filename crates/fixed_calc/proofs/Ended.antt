@@ -1,4 +1,5 @@
 -- A text and its newline as a piece.
+use Rattle.std.specs.Option.{option_and_then}
 use Rattle.std.proofs.Common.{◌≡◌, ◌-◌, ◌==◌, ℕ, Bool, true, false, not, eqb, if◌then◌else◌, List, [], ◌∷◌, ◌++◌, length, take, Some, None, refl, ap, ◌∙◌, arith, length-append}
 use Rattle.std.specs.Prelude.{slice_index}
 use Rattle.std.specs.List.{onto_first}
@@ -6,7 +7,7 @@ use Rattle.std.proofs.lemmas.Bool.{false≢true}
 use Rattle.std.proofs.Math.Seq.{take-append_seam, get_or-append_seam}
 use Rattle.fixed_word.specs.Pieces.{pieces, body}
 use Rattle.fixed_script.specs.Text.{ScriptHeader, header_text, ScriptLine, IsLine, line_text}
-use Rattle.fixed_script.specs.Lines.{line_of, header_of, header_of_piece, line_of_piece, then_of}
+use Rattle.fixed_script.specs.Lines.{line_of, header_of, header_of_piece, line_of_piece}
 use Rattle.fixed_calc.specs.Demo.{ended}
 use Rattle.fixed_text.proofs.Decimals.{both}
 use Rattle.fixed_text.proofs.Lacking.{lacks}
@@ -33,8 +34,8 @@ body_ended t =
 
 pub line_read : (l : ScriptLine) → IsLine l → line_of_piece (ended (line_text l)) ≡ Some l
 unfolding line_of_piece
-line_read l is = ap (λ o. then_of o line_of) (body_ended (line_text l)) ∙ (reads_lines (line_text l) l).1 (is, refl)
+line_read l is = ap (λ o. option_and_then line_of o) (body_ended (line_text l)) ∙ (reads_lines (line_text l) l).1 (is, refl)
 
 pub header_read : (h : ScriptHeader) → header_of_piece (ended (header_text h)) ≡ Some h
 unfolding header_of_piece
-header_read h = ap (λ o. then_of o header_of) (body_ended (header_text h)) ∙ (reads_headers (header_text h) h).1 refl
+header_read h = ap (λ o. option_and_then header_of o) (body_ended (header_text h)) ∙ (reads_headers (header_text h) h).1 refl

@@ -1,4 +1,5 @@
 -- A script with an output begins with the text of a header.
+use Rattle.std.specs.Option.{option_and_then}
 use Rattle.std.proofs.Common.{◌≡◌, ◌+◌, ◌-◌, ◌<◌, ◌==◌, ℕ, Bool, true, false, List, [], ◌∷◌, ◌++◌, length, take, get_or, Option, Some, None, if◌then◌else◌, refl, sym, ap, ◌∙◌, arith, append_assoc}
 use Rattle.std.specs.Prelude.{slice_index}
 use Rattle.std.specs.List.{concat}
@@ -6,7 +7,7 @@ use Rattle.std.proofs.lemmas.Bool.{eqb-true}
 use Rattle.std.proofs.lemmas.List.{take_more, take_all}
 use Rattle.fixed_word.specs.Pieces.{pieces, body}
 use Rattle.fixed_script.specs.Text.{ScriptHeader, header_text}
-use Rattle.fixed_script.specs.Lines.{header_of, header_of_piece, then_of}
+use Rattle.fixed_script.specs.Lines.{header_of, header_of_piece}
 use Rattle.fixed_calc.specs.Meaning.{Output, run_from, run_pieces, run_of, meaning}
 use Rattle.fixed_calc.specs.Widening.{script_of}
 use Rattle.fixed_text.proofs.Cutting.{pieces_joined}
@@ -26,7 +27,7 @@ body_by (x ∷ xs) t true is e =
     ∙ ap (λ (f : List ℕ). f ++ (10 ∷ [])) front
 body_by p t false is e = cc
 
-header_by : (p : List ℕ) (h : ScriptHeader) (o : Option (List ℕ)) → body p ≡ o → then_of o header_of ≡ Some h → p ≡ header_text h ++ (10 ∷ [])
+header_by : (p : List ℕ) (h : ScriptHeader) (o : Option (List ℕ)) → body p ≡ o → option_and_then header_of o ≡ Some h → p ≡ header_text h ++ (10 ∷ [])
 header_by p h None is e = cc
 header_by p h (Some t) is e =
     body_by p t (slice_index p (length p - 1) == 10) refl is ∙ ap (λ (f : List ℕ). f ++ (10 ∷ [])) (sym ((reads_headers t h).0 e))

@@ -1,4 +1,5 @@
 -- An answer is at most twice as long as its line, and a header has a space for each register.
+use Rattle.std.specs.Option.{option_and_then}
 use Rattle.std.proofs.Common.{◌≡◌, ◌≤◌, ◌+◌, ◌*◌, ◌-◌, ◌==◌, if◌then◌else◌, cond, ℕ, ℤ, Bool, true, false, not, List, [], ◌∷◌, length, take, Option, Some, None, refl, ap, arith, length-append}
 use Rattle.std.specs.Prelude.{slice_index}
 use Rattle.std.proofs.lemmas.List.{length-take, length-map}
@@ -21,7 +22,7 @@ use Rattle.fixed_word.specs.Format.{wrap, clamp}
 use Rattle.fixed_calc.specs.Projection.{plain, project}
 use Rattle.fixed_calc.specs.Machine.{State, cause, answer, is_value, row_by, operand_values}
 use Rattle.fixed_text.specs.Words.{is_signed, width}
-use Rattle.fixed_script.specs.Lines.{line_of, header_of, then_of, line_of_piece, header_of_piece}
+use Rattle.fixed_script.specs.Lines.{line_of, header_of, line_of_piece, header_of_piece}
 use Rattle.fixed_calc.specs.Meaning.{fractions_of}
 use Rattle.fixed_calc.specs.Rooms.{spaces_in}
 use Rattle.fixed_calc.proofs.Fits.{value_small}
@@ -72,7 +73,7 @@ body_length (x ∷ xs) q e = by_test (slice_index (x ∷ xs) (length (x ∷ xs) 
     by_test true e = let same : take (length (x ∷ xs) - 1) (x ∷ xs) ≡ q = cc in omega (arith, ap length same, length-take (length (x ∷ xs) - 1) (x ∷ xs))
     by_test false e = cc
 
-line_front : (p : List ℕ) (o : Option (List ℕ)) (l : ScriptLine) → body p ≡ o → then_of o line_of ≡ Some l → length (line_text l) + 1 ≤ length p
+line_front : (p : List ℕ) (o : Option (List ℕ)) (l : ScriptLine) → body p ≡ o → option_and_then line_of o ≡ Some l → length (line_text l) + 1 ≤ length p
 line_front p None l is e = cc
 line_front p (Some q) l is e = omega (arith, body_length p q is, ap length ((reads_lines q l).0 e).1)
 
@@ -97,7 +98,7 @@ body_spaces p q e = by_test (slice_index p (length p - 1) == 10) e
     by_test true e = let same : take (length p - 1) p ≡ q = cc in omega (arith, ap spaces_in same, count_take (length p - 1) p)
     by_test false e = cc
 
-header_front : (p : List ℕ) (o : Option (List ℕ)) (h : ScriptHeader) → body p ≡ o → then_of o header_of ≡ Some h → length (fractions_of h) ≤ spaces_in p
+header_front : (p : List ℕ) (o : Option (List ℕ)) (h : ScriptHeader) → body p ≡ o → option_and_then header_of o ≡ Some h → length (fractions_of h) ≤ spaces_in p
 header_front p None h is e = cc
 header_front p (Some q) h is e = omega (arith, body_spaces p q is, header_spaces h, ap spaces_in ((reads_headers q h).0 e))
 

@@ -1,4 +1,5 @@
 -- A script that is spelled out: how it is written, and that it means the same.
+use Rattle.std.specs.Option.{option_and_then}
 use Rattle.std.proofs.Common.{◌≡◌, ◌+◌, ◌-◌, ℕ, ℤ, pos, negsuc, Bool, true, false, not, ◌||◌, nat_le, List, [], ◌∷◌, ◌++◌, length, take, length-append, Option, Some, None, if◌then◌else◌, refl, sym, ap, ◌∙◌, arith, append_assoc}
 use Rattle.std.specs.List.{join_with_byte, list_any}
 use Rattle.std.proofs.lemmas.List.{append-nil}
@@ -19,11 +20,11 @@ use Rattle.fixed_script.specs.declared.line.Line.TheVariants.{Set, One, Two, Int
 use Rattle.fixed_script.specs.Names.{policy_name, op_name, rounding_name}
 use Rattle.fixed_script.specs.Text.{ScriptHeader, ScriptLine, SetTo, Apply, Operands, OneRegister, TwoRegisters, RegisterAndInt, ThreeRegisters, IsLine, shape, may_round, register_text, operand_tokens, header_text, line_text}
 use Rattle.fixed_script.specs.Capped.{capped, checked_script_line, literal_value, of_shape}
-use Rattle.fixed_script.specs.Lines.{then_of, line_of, line_of_piece, header_of_piece}
+use Rattle.fixed_script.specs.Lines.{line_of, line_of_piece, header_of_piece}
 use Rattle.fixed_script.proofs.TextsRead.{reads_lines}
 use Rattle.fixed_calc.specs.Answers.{answer_text}
 use Rattle.fixed_calc.specs.Demo.{ended}
-use Rattle.fixed_calc.specs.Machine.{State, OperandValues, operand_values, row_by, row_causes, causes_of, first_of, literals_of, registers_of, is_value, is_unoffered, is_out_of_range, is_mismatched, stored, cause, answer, move}
+use Rattle.fixed_calc.specs.Machine.{State, OperandValues, operand_values, row_by, row_cause, late_cause, literals_of, registers_of, is_value, is_unoffered, is_out_of_range, is_mismatched, stored, cause, answer, move}
 use Rattle.fixed_text.specs.Words.{is_signed, width}
 use Rattle.fixed_calc.specs.Rows.{exact, exact_rounded}
 use Rattle.fixed_calc.specs.Projection.{project}
@@ -99,7 +100,7 @@ line_written (SetTo dest k) = refl
 line_written (Apply dest policy op xs None) = default_written dest policy op xs (default_rounding op)
 line_written (Apply dest policy op xs (Some r)) = refl
 
-front_text : (p : List ℕ) (l : ScriptLine) (o : Option (List ℕ)) → body p ≡ o → then_of o line_of ≡ Some l → p ≡ ended (line_text l)
+front_text : (p : List ℕ) (l : ScriptLine) (o : Option (List ℕ)) → body p ≡ o → option_and_then line_of o ≡ Some l → p ≡ ended (line_text l)
 front_text p l None is e = cc
 front_text p l (Some t) is e = body_by p t _ refl is ∙ ap ended (sym ((reads_lines t l).0 e).1)
 
@@ -190,8 +191,8 @@ module _ (s : State) (k dest : ℕ) (policy : Policy) (op : Op) (xs : Operands) 
   same_cause : cause s spelled_out k ≡ cause s plain k
   unfolding is_unoffered is_mismatched
   same_cause =
-      ap (λ b. first_of ((is_unoffered s.word plain, Syntax k) ∷ (b, OutOfRange k) ∷ (is_mismatched s plain, FractionMismatch k) ∷ causes_of s spelled_out k)) same_range
-      ∙ ap (λ row. first_of ((is_unoffered s.word plain, Syntax k) ∷ (is_out_of_range s plain, OutOfRange k) ∷ (is_mismatched s plain, FractionMismatch k) ∷ row_causes (is_signed s.word) (width s.word) policy op row k))
+      ap (λ b. if is_unoffered s.word plain then Some (Syntax k) else if b then Some (OutOfRange k) else if is_mismatched s plain then Some (FractionMismatch k) else late_cause s spelled_out k) same_range
+      ∙ ap (λ row. if is_unoffered s.word plain then Some (Syntax k) else if is_out_of_range s plain then Some (OutOfRange k) else if is_mismatched s plain then Some (FractionMismatch k) else row_cause (is_signed s.word) (width s.word) policy row op k)
       (default_row op (operand_values s.registers xs))
 
   same_answer : answer s spelled_out ≡ answer s plain
@@ -239,7 +240,7 @@ still_line (SetTo dest k) is = is
 still_line (Apply dest policy op xs None) is = (is.0, default_may op)
 still_line (Apply dest policy op xs (Some r)) is = is
 
-front_line : (o : Option (List ℕ)) (l : ScriptLine) → then_of o line_of ≡ Some l → IsLine l
+front_line : (o : Option (List ℕ)) (l : ScriptLine) → option_and_then line_of o ≡ Some l → IsLine l
 front_line None l e = cc
 front_line (Some t) l e = ((reads_lines t l).0 e).0
 

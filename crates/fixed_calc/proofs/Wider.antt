@@ -1,5 +1,5 @@
 -- A line on a wider word: no cause comes, and the answer stays, where its row is undefined or fits.
-use Rattle.std.proofs.Common.{◌≡◌, ◌-◌, ◌≤◌, ℕ, ℤ, Bool, true, false, not, nat_le, ◌||◌, ◌&&◌, List, [], ◌∷◌, length, Option, Some, None, refl, sym, ap, ◌∙◌, arith}
+use Rattle.std.proofs.Common.{◌≡◌, ◌-◌, ◌≤◌, ℕ, ℤ, Bool, true, false, not, nat_le, ◌||◌, List, [], ◌∷◌, length, Option, Some, None, if◌then◌else◌, refl, sym, ap, ◌∙◌, arith}
 use Rattle.std.specs.List.{list_any}
 use Rattle.std.proofs.lemmas.Int.{ints}
 use Rattle.std.proofs.Math.Pow.{pow_mono}
@@ -8,16 +8,17 @@ use Rattle.fixed_text.specs.declared.names.WordName.{WordName}
 use Rattle.fixed_script.specs.declared.names.Policy.{Policy}
 use Rattle.fixed_script.specs.declared.names.Policy.TheVariants.{Checked, Saturating, Wrapping, Overflowing, Strict}
 use Rattle.fixed_script.specs.declared.names.Op.{Op}
+use Rattle.fixed_script.specs.declared.names.Op.TheVariants.{Sqrt}
 use Rattle.fixed_calc.specs.declared.answer.Answer.{Answer}
-use Rattle.fixed_calc.specs.declared.cause.Cause.TheVariants.{ZeroDivisor, NegativeRoot, Overflow}
+use Rattle.fixed_calc.specs.declared.cause.Cause.TheVariants.{Overflow}
 use Rattle.fixed_script.specs.Text.{ScriptLine, SetTo, Apply}
 use Rattle.fixed_calc.specs.Offered.{is_offered}
-use Rattle.fixed_calc.specs.Projection.{plain, flagged, project, is_strict}
-use Rattle.fixed_calc.specs.Machine.{State, is_value, is_unoffered, is_out_of_range, is_mismatched, literals_of, registers_of, lacks_row, is_sqrt, exceeds, row_by, operand_values, row_causes, causes_of, first_of, cause, answer, move, stored, destination}
+use Rattle.fixed_calc.specs.Projection.{plain, flagged, project}
+use Rattle.fixed_calc.specs.Machine.{State, is_value, is_unoffered, is_out_of_range, is_mismatched, literals_of, registers_of, row_by, operand_values, row_cause, late_cause, cause, answer, move, stored, destination}
 use Rattle.fixed_text.specs.Words.{is_signed, width}
 use Rattle.fixed_calc.specs.PolicyLaws.{WhereItFits}
 use Rattle.fixed_calc.specs.Step.{state_in}
-use Rattle.fixed_calc.specs.Widening.{IsWider, row_fits}
+use Rattle.fixed_calc.specs.Widening.{IsWider, exceeds, row_fits}
 use Rattle.fixed_calc.proofs.Fits.{in_range, fit_true, is_width}
 use Rattle.fixed_calc.proofs.PolicyLaws.{where_it_fits}
 use Rattle.fixed_calc.proofs.Causes.{PassesTests, after_tests, no_cause, either_false}
@@ -68,10 +69,15 @@ module _ (s : Bool) (n m : ℕ) (more : n ≤ m) where
       by_policy Overflowing narrow wide = ap flagged (wide.by_overflowing ∙ sym narrow.by_overflowing)
       by_policy Strict narrow wide = refl
 
-  pub same_row_causes : (policy : Policy) (op : Op) (row : Option ℤ) (k : ℕ) → exceeds s n row ≡ false → row_causes s m policy op row k ≡ row_causes s n policy op row k
-  unfolding row_causes
-  same_row_causes policy op row k e =
-      ap (λ (b : Bool). (lacks_row policy row && not (is_sqrt op), ZeroDivisor k) ∷ (lacks_row policy row && is_sqrt op, NegativeRoot k) ∷ (is_strict policy && b, Overflow k) ∷ []) (wider_row row e ∙ sym e)
+  pub same_row_cause : (policy : Policy) (row : Option ℤ) (op : Op) (k : ℕ) → exceeds s n row ≡ false → row_cause s m policy row op k ≡ row_cause s n policy row op k
+  unfolding row_cause
+  same_row_cause Checked None op k e = refl
+  same_row_cause policy None Sqrt k e = refl
+  same_row_cause policy None op k e = refl
+  same_row_cause Strict (Some x) op k e =
+      let fit = not_false (fits s n x) e in
+      ap (λ (b : Bool). if b then None else Some (Overflow k)) (wider_fits x fit ∙ sym fit)
+  same_row_cause policy (Some x) op k e = refl
 
 -- ---- lines
 -- the state with the wider word
@@ -111,17 +117,17 @@ module _ (s : State) (wide : WordName) (wider : IsWider s.word wide) where
     one_fraction = same_match line ∙ t.one_fraction;
   }
 
-  same_causes : (line : ScriptLine) (k : ℕ) → row_fits s line ≡ true → causes_of (widened wide s) line k ≡ causes_of s line k
-  same_causes (SetTo dest x) k e = refl
-  same_causes (Apply dest policy op xs how) k e =
+  same_late_cause : (line : ScriptLine) (k : ℕ) → row_fits s line ≡ true → late_cause (widened wide s) line k ≡ late_cause s line k
+  same_late_cause (SetTo dest x) k e = refl
+  same_late_cause (Apply dest policy op xs how) k e =
       let row = row_by how op (operand_values s.registers xs) in
-      ap (λ (b : Bool). row_causes b (width wide) policy op row k) wider.same_sign
-      ∙ same_row_causes (is_signed s.word) (width s.word) (width wide) more_or_equal policy op row k (not_true (exceeds (is_signed s.word) (width s.word) row) e)
+      ap (λ (b : Bool). row_cause b (width wide) policy row op k) wider.same_sign
+      ∙ same_row_cause (is_signed s.word) (width s.word) (width wide) more_or_equal policy row op k (not_true (exceeds (is_signed s.word) (width s.word) row) e)
 
   pub still_no_cause : (line : ScriptLine) (k : ℕ) → row_fits s line ≡ true → cause s line k ≡ None → cause (widened wide s) line k ≡ None
   still_no_cause line k e none =
       let passes = no_cause s line k none in
-      after_tests (widened wide s) line k (still_passes line passes.0) ∙ ap first_of (same_causes line k e) ∙ passes.1
+      after_tests (widened wide s) line k (still_passes line passes.0) ∙ same_late_cause line k e ∙ passes.1
 
   pub same_answer : (line : ScriptLine) → row_fits s line ≡ true → answer (widened wide s) line ≡ answer s line
   unfolding answer

@@ -1,21 +1,21 @@
 -- What a script meant before a line could name its rounding: the same fold, over lines without a rounding, whose rows
 -- have none.
 use Rattle.std.specs.Prelude.{◌≡◌, ◌↔◌, ◌+◌, ◌++◌, ℕ, Bool, true, false, List, [], ◌∷◌, Option, Some, None, if◌then◌else◌}
-use Rattle.std.specs.Option.{option_map}
+use Rattle.std.specs.Option.{option_map, option_and_then}
 use Rattle.std.specs.List.{All}
 use Rattle.fixed_word.specs.declared.rounding.Rounding.{Rounding}
 use Rattle.fixed_word.specs.Pieces.{pieces, body}
 use Rattle.fixed_text.specs.Tokens.{tokens_of}
 use Rattle.fixed_script.specs.Names.{rounding_name}
 use Rattle.fixed_script.specs.Text.{ScriptHeader, ScriptLine, SetTo, Apply, IsLine, line_text}
-use Rattle.fixed_script.specs.Lines.{line_in, if_its_text, then_of, header_of_piece}
+use Rattle.fixed_script.specs.Lines.{line_in, if_its_text, header_of_piece}
 use Rattle.fixed_calc.specs.declared.answer.Answer.{Answer}
 use Rattle.fixed_calc.specs.declared.answer.Answer.TheVariants.{Bits}
 use Rattle.fixed_calc.specs.declared.cause.Cause.{Cause}
 use Rattle.fixed_calc.specs.declared.cause.Cause.TheVariants.{Syntax, OutOfRange, FractionMismatch}
 use Rattle.fixed_calc.specs.Answers.{answer_text}
 use Rattle.fixed_calc.specs.Projection.{project}
-use Rattle.fixed_calc.specs.Machine.{State, operand_values, row_of, row_causes, first_of, is_unoffered, is_out_of_range, is_mismatched, destination, stored}
+use Rattle.fixed_calc.specs.Machine.{State, operand_values, row_of, row_cause, is_unoffered, is_out_of_range, is_mismatched, destination, stored}
 use Rattle.fixed_text.specs.Words.{is_signed, width}
 use Rattle.fixed_calc.specs.Meaning.{Run, Meaning, stopped, by_cause, start, fractions_of, has_wide, meaning, meaning_with}
 
@@ -34,16 +34,19 @@ unfoldable pub old_line_of : List ℕ → Option ScriptLine
 old_line_of piece = if_its_text line_text piece (option_map without_rounding (line_in (tokens_of piece)))
 
 unfoldable pub old_line_of_piece : List ℕ → Option ScriptLine
-old_line_of_piece piece = then_of (body piece) old_line_of
+old_line_of_piece piece = option_and_then old_line_of (body piece)
 
 -- ---- the machine
-abbrev pub old_row_causes : State → ScriptLine → ℕ → List (Bool × Cause)
-old_row_causes s (SetTo dest x) k = []
-old_row_causes s (Apply dest policy op xs rounding) k = row_causes (is_signed s.word) (width s.word) policy op (row_of op (operand_values s.registers xs)) k
+abbrev pub old_late_cause : State → ScriptLine → ℕ → Option Cause
+old_late_cause s (SetTo dest x) k = None
+old_late_cause s (Apply dest policy op xs rounding) k = row_cause (is_signed s.word) (width s.word) policy (row_of op (operand_values s.registers xs)) op k
 
 abbrev pub old_cause : State → ScriptLine → ℕ → Option Cause
 old_cause s line k =
-    first_of ((is_unoffered s.word line, Syntax k) ∷ (is_out_of_range s line, OutOfRange k) ∷ (is_mismatched s line, FractionMismatch k) ∷ old_row_causes s line k)
+    if is_unoffered s.word line then Some (Syntax k)
+    else if is_out_of_range s line then Some (OutOfRange k)
+    else if is_mismatched s line then Some (FractionMismatch k)
+    else old_late_cause s line k
 
 abbrev pub old_answer : State → ScriptLine → Answer
 old_answer s (SetTo dest k) = Bits k

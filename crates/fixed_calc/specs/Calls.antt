@@ -62,10 +62,6 @@ TookBytes {S} gives bytes (suc calls) total s s' = (before : ℕ) × (count : �
     × TookBytes gives bytes calls before s t × (before < length bytes) × (total ≡ before + count)
     × gives t (drop before bytes) (Ok count) s'
 
--- so many writes took all the bytes
-abbrev pub WritesAll : {S : Type 0} → Writes S → List ℕ → ℕ → S → S → Type 0
-WritesAll gives bytes calls s s' = TookBytes gives bytes calls (length bytes) s s'
-
 -- the last write, of all that was left, was refused so
 abbrev pub WritesToRefusal : {S : Type 0} → Writes S → List ℕ → Refusal → S → S → Type 0
 WritesToRefusal {S} gives bytes refusal s s' = (calls : ℕ) × (before : ℕ) × (t : S)
@@ -73,7 +69,7 @@ WritesToRefusal {S} gives bytes refusal s s' = (calls : ℕ) × (before : ℕ) �
 
 -- the writes of a run with this status, whose output is bytes of which P holds; with the other statuses there are none
 abbrev pub WritesOfStatus : {S : Type 0} → Writes S → (List ℕ → Type 0) → S → S → Status → Type 0
-WritesOfStatus gives P s s' Done = (bytes : List ℕ) × (calls : ℕ) × P bytes × WritesAll gives bytes calls s s'
+WritesOfStatus gives P s s' Done = (bytes : List ℕ) × (calls : ℕ) × P bytes × TookBytes gives bytes calls (length bytes) s s'
 WritesOfStatus gives P s s' WriteFault = (bytes : List ℕ) × P bytes × WritesToRefusal gives bytes RefusedFailed s s'
 WritesOfStatus gives P s s' Memory = (s' ≡ s) ⊎ ((bytes : List ℕ) × P bytes × WritesToRefusal gives bytes RefusedMemory s s')
 WritesOfStatus gives P s s' _ = s' ≡ s
@@ -81,4 +77,4 @@ WritesOfStatus gives P s s' _ = s' ≡ s
 -- the writes of the line for the errors
 abbrev pub WritesOfLine : {S : Type 0} → Writes S → List ℕ → S → S → Type 0
 WritesOfLine gives line s s' =
-    ((calls : ℕ) × WritesAll gives line calls s s') ⊎ ((refusal : Refusal) × WritesToRefusal gives line refusal s s')
+    ((calls : ℕ) × TookBytes gives line calls (length line) s s') ⊎ ((refusal : Refusal) × WritesToRefusal gives line refusal s s')

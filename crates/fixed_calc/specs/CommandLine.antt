@@ -3,17 +3,13 @@ use Rattle.std.specs.Prelude.{◌≡◌, ◌≢◌, ◌≤◌, ℕ, List, [], �
 use Rattle.std.specs.declared.alloc.Global.{Global}
 use Rattle.fixed_word.specs.Decimal.{natural_text}
 
--- the bytes of each word
-abbrev pub texts_of : List (String Global) → List (List ℕ)
-texts_of words = map string_bytes words
-
 -- how many lines a demonstration has at most
 abbrev pub most_lines : ℕ
 most_lines = 1000000
 
 -- the words are `demo` and the decimal of n, which is from 1 to 1,000,000
 pub record IsDemo (words : List (String Global)) (n : ℕ) : Type 0 where
-  pub texts : texts_of words ≡ codes "demo" ∷ natural_text n ∷ []
+  pub texts : map string_bytes words ≡ codes "demo" ∷ natural_text n ∷ []
   pub some : 1 ≤ n
   pub most : n ≤ most_lines
 

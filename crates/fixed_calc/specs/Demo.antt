@@ -11,17 +11,10 @@ use Rattle.fixed_calc.specs.Machine.{State, answer, move}
 use Rattle.fixed_calc.specs.Meaning.{start}
 
 -- ---- the draws
-abbrev pub next_state : ℕ → ℕ
-next_state x = (6364136223846793005 * x + 1442695040888963407) % 2 ^ 64
-
 -- the generator's state at line i
 unfoldable pub state_at : ℕ → ℕ
 state_at zero = 1
-state_at (suc i) = next_state (state_at i)
-
--- what a state draws: all but its 33 lowest bits
-abbrev pub draw : ℕ → ℕ
-draw x = x / 2 ^ 33
+state_at (suc i) = (6364136223846793005 * state_at i + 1442695040888963407) % 2 ^ 64
 
 -- ---- the lines
 -- digit i of t in base 8, where digit 0 is the lowest
@@ -52,10 +45,10 @@ drawn_line t =
 abbrev pub demo_header : ScriptHeader
 demo_header = record { word = I64; first = 32; others = replicate 7 32 }
 
--- lines 1 to n
+-- lines 1 to n: each state draws all but its 33 lowest bits
 unfoldable pub demo_lines : ℕ → List ScriptLine
 demo_lines zero = []
-demo_lines (suc i) = demo_lines i ++ (drawn_line (draw (state_at (suc i))) ∷ [])
+demo_lines (suc i) = demo_lines i ++ (drawn_line (state_at (suc i) / 2 ^ 33) ∷ [])
 
 -- a text and a newline
 abbrev pub ended : List ℕ → List ℕ
@@ -77,14 +70,12 @@ demo_answers n = answers_from (start demo_header) (demo_lines n)
 -- the answer has no value
 abbrev pub is_absent : Answer → Bool
 is_absent Absent = true
-is_absent (Bits x) = false
-is_absent (Flagged x verdict) = false
+is_absent _ = false
 
 -- the answer has a verdict, which is true
 abbrev pub has_true_verdict : Answer → Bool
-has_true_verdict Absent = false
-has_true_verdict (Bits x) = false
 has_true_verdict (Flagged x verdict) = verdict
+has_true_verdict _ = false
 
 abbrev pub summary_text : ℕ → ℕ → ℕ → List ℕ
 summary_text lines absent verdicts =

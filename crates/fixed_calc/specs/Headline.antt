@@ -1,10 +1,9 @@
--- What a call of the program says of its source, its sink and its errors: one fact for each status but Usage, which the
--- words alone decide; three for all; and four for the words `demo N`.
+-- What a call of the program says of its source, its sink and its errors, by its status: two facts for all calls, three
+-- for a script, one for a demonstration, and the line for the errors. The words alone decide on Usage.
 -- `source` and `source'`, `sink` and `sink'` are their states at entry and at exit.
 use Rattle.std.specs.Prelude.{codes, ◌≡◌, ℕ, ◌+◌, ◌<◌, ◌≤◌, ◌⊎◌, ◌↔◌, ◌≢◌, ◌++◌, List, [], length, take, Option, Some, None, IfSome, ⊤}
 use Rattle.std.specs.Io.KnownBytes.{Appends, Keeps}
 use Rattle.fixed_word.specs.Decimal.{natural_text}
-use Rattle.fixed_calc.specs.Demo.{summary}
 use Rattle.fixed_calc.specs.Meaning.{Meaning, Output, Fault, meaning}
 use Rattle.fixed_calc.specs.Outside.{SourceState, SinkState, RoseOrLast, last_count}
 use Rattle.fixed_calc.specs.declared.cause.Cause.{Cause}
@@ -29,10 +28,6 @@ IfKnown None left P = ⊤
 IfKnown (Some input) None P = ⊥
 IfKnown (Some input) (Some rest) P = P input rest
 
--- more than the limit was taken
-abbrev pub TookTooMuch : List ℕ → List ℕ → Type 0
-TookTooMuch input rest = limit + length rest < length input
-
 -- a prefix of the bytes was taken
 abbrev pub AppendsPrefix : Option (List ℕ) → Option (List ℕ) → List ℕ → Type 0
 AppendsPrefix old new bytes = (n : ℕ) × Appends old new (take n bytes)
@@ -55,68 +50,45 @@ abbrev pub TookPrefixOf : Option (List ℕ) → Option (List ℕ) → Meaning �
 TookPrefixOf old new (Output bytes) = AppendsPrefix old new bytes
 TookPrefixOf old new (Fault cause) = Keeps old new
 
--- no write was refused, or one was because memory ran out
-abbrev pub IsUnrefusedOrShort : SinkState → SinkState → Type 0
-IsUnrefusedOrShort sink sink' =
-    ((sink'.faults ≡ sink.faults) × (sink'.shortages ≡ sink.shortages)) ⊎ RoseOrLast sink.shortages sink'.shortages
-
--- a write failed, and none was refused because memory ran out
-abbrev pub FaultsAlone : SinkState → SinkState → Type 0
-FaultsAlone sink sink' = (sink.faults < sink'.faults) × (sink'.shortages ≡ sink.shortages) × (sink'.shortages ≢ last_count)
+-- no write was refused
+abbrev pub IsUnrefused : SinkState → SinkState → Type 0
+IsUnrefused sink sink' = (sink'.faults ≡ sink.faults) × (sink'.shortages ≡ sink.shortages)
 
 -- a count did not rise, and does not stand at its last value
 abbrev pub HasNoFault : ℕ → ℕ → Type 0
 HasNoFault before now = (now ≡ before) × (now ≢ last_count)
 
--- ---- the facts
+-- ---- the facts of each call
 
--- Done: the script was read whole, its meaning is an output, the sink took it whole, and no count rose
-abbrev pub WhenDone : SourceState → SourceState → SinkState → SinkState → Status → Type 0
-WhenDone source source' sink sink' status = status ≡ Done →
-    ReadWhole source.left source'.left (λ input. IsOutput (meaning input) (Appends sink.taken sink'.taken))
-    × (source'.faults ≡ source.faults) × (sink'.faults ≡ sink.faults) × (sink'.shortages ≡ sink.shortages)
+-- ReadFault: the source's count rose in this call, or stands at its last value. Other statuses: it did not rise
+abbrev pub FaultsOfStatus : SourceState → SourceState → Status → Type 0
+FaultsOfStatus source source' ReadFault = RoseOrLast source.faults source'.faults
+FaultsOfStatus source source' _ = source'.faults ≡ source.faults
 
--- Script: the script was read whole, its meaning is that fault, and the source did not fail
-abbrev pub WhenScript : SourceState → SourceState → Status → Type 0
-WhenScript source source' status = (cause : Cause) → status ≡ Script cause →
-    ReadWhole source.left source'.left (λ input. meaning input ≡ Fault cause) × (source'.faults ≡ source.faults)
+-- WriteFault: the sink's count of faults rose in this call, or stands at its last value. Memory: no write was refused,
+-- or one was because memory ran out. Other statuses: no write was refused. So where the count of faults rose, and that
+-- of shortages did not and does not stand at its last value, the status is WriteFault
+abbrev pub CountsOfStatus : SinkState → SinkState → Status → Type 0
+CountsOfStatus sink sink' WriteFault = RoseOrLast sink.faults sink'.faults
+CountsOfStatus sink sink' Memory = IsUnrefused sink sink' ⊎ RoseOrLast sink.shortages sink'.shortages
+CountsOfStatus sink sink' _ = IsUnrefused sink sink'
 
--- ReadFault: only where the source's count rose in this call, or stands at its last value; where it rose, no other
--- status comes
-abbrev pub WhenReadFault : SourceState → SourceState → Status → Type 0
-WhenReadFault source source' status =
-    (status ≡ ReadFault → RoseOrLast source.faults source'.faults) × (source.faults < source'.faults → status ≡ ReadFault)
+-- ---- the facts of a script
 
--- TooLong: exactly where more than the limit was taken, and the source did not fail
+-- Done, WriteFault: the script was read whole, its meaning is an output, and the sink took all of it, or a prefix.
+-- Script: the script was read whole, and its meaning is that fault. Memory: the sink took a prefix of the output, or
+-- nothing where the meaning is a fault
+abbrev pub IsEndOfScript : SourceState → SourceState → SinkState → SinkState → Status → Type 0
+IsEndOfScript source source' sink sink' Done = ReadWhole source.left source'.left (λ input. IsOutput (meaning input) (Appends sink.taken sink'.taken))
+IsEndOfScript source source' sink sink' WriteFault = ReadWhole source.left source'.left (λ input. IsOutput (meaning input) (AppendsPrefix sink.taken sink'.taken))
+IsEndOfScript source source' sink sink' (Script cause) = ReadWhole source.left source'.left (λ input. meaning input ≡ Fault cause)
+IsEndOfScript source source' sink sink' Memory = IfSome source.left (λ input. TookPrefixOf sink.taken sink'.taken (meaning input))
+IsEndOfScript source source' sink sink' _ = ⊤
+
+-- TooLong: exactly where more than the limit was taken
 abbrev pub WhenTooLong : SourceState → SourceState → Status → Type 0
 WhenTooLong source source' status =
-    IfKnown source.left source'.left (λ input rest. status ≡ TooLong ↔ TookTooMuch input rest)
-    × (status ≡ TooLong → source'.faults ≡ source.faults)
-
--- WriteFault: only where the sink's count rose in this call, or stands at its last value;
--- the script was read whole, its meaning is an output, and the sink took a prefix of it. Where that count alone rose,
--- no other status comes
-abbrev pub WhenWriteFault : SourceState → SourceState → SinkState → SinkState → Status → Type 0
-WhenWriteFault source source' sink sink' status =
-    (status ≡ WriteFault →
-    RoseOrLast sink.faults sink'.faults
-    × ReadWhole source.left source'.left (λ input. IsOutput (meaning input) (AppendsPrefix sink.taken sink'.taken))
-    × (source'.faults ≡ source.faults))
-    × (FaultsAlone sink sink' → status ≡ WriteFault)
-
--- Memory: the sink took a prefix of the output, or nothing where the meaning is a fault; no read failed; no write was
--- refused, or one was because memory ran out
-abbrev pub WhenMemory : SourceState → SourceState → SinkState → SinkState → Status → Type 0
-WhenMemory source source' sink sink' status = status ≡ Memory →
-    IfSome source.left (λ input. TookPrefixOf sink.taken sink'.taken (meaning input))
-    × (source'.faults ≡ source.faults) × IsUnrefusedOrShort sink sink'
-
--- with these statuses nothing is written to the sink
-abbrev pub WritesNothing : Status → Type 0
-WritesNothing Done = ⊥
-WritesNothing WriteFault = ⊥
-WritesNothing Memory = ⊥
-WritesNothing _ = ⊤
+    IfKnown source.left source'.left (λ input rest. status ≡ TooLong ↔ limit + length rest < length input)
 
 -- the status that a meaning asks for, with its whole output; or memory ran out
 abbrev pub IsComplete : SinkState → SinkState → Meaning → Status → Type 0
@@ -129,43 +101,24 @@ WhenComplete source source' sink sink' status =
     HasNoFault source.faults source'.faults → HasNoFault sink.faults sink'.faults
     → IfSome source.left (λ input. length input ≤ limit → IsComplete sink sink' (meaning input) status)
 
--- ---- the facts of a call with the words `demo N`, where n is N
--- Done: the sink took the summary whole, and none of its counts rose
-abbrev pub WhenDemoDone : ℕ → SinkState → SinkState → Status → Type 0
-WhenDemoDone n sink sink' status = status ≡ Done →
-    Appends sink.taken sink'.taken (summary n) × (sink'.faults ≡ sink.faults) × (sink'.shortages ≡ sink.shortages)
+-- ---- the fact of a demonstration
 
--- WriteFault: only where the sink's count rose in this call, or stands at its last value; the sink took a prefix of the
--- summary. Where that count alone rose, no other status comes
-abbrev pub WhenDemoWriteFault : ℕ → SinkState → SinkState → Status → Type 0
-WhenDemoWriteFault n sink sink' status =
-    (status ≡ WriteFault → RoseOrLast sink.faults sink'.faults × AppendsPrefix sink.taken sink'.taken (summary n))
-    × (FaultsAlone sink sink' → status ≡ WriteFault)
-
--- Memory: the sink took a prefix of the summary; no write was refused, or one was because memory ran out
-abbrev pub WhenDemoMemory : ℕ → SinkState → SinkState → Status → Type 0
-WhenDemoMemory n sink sink' status = status ≡ Memory →
-    AppendsPrefix sink.taken sink'.taken (summary n) × IsUnrefusedOrShort sink sink'
-
--- no other status comes
-abbrev pub IsDemoStatus : Status → Type 0
-IsDemoStatus Done = ⊤
-IsDemoStatus WriteFault = ⊤
-IsDemoStatus Memory = ⊤
-IsDemoStatus _ = ⊥
+-- the sink took the summary whole, or a prefix of it; no other status comes
+abbrev pub IsEndOfDemo : SinkState → SinkState → List ℕ → Status → Type 0
+IsEndOfDemo sink sink' summary Done = Appends sink.taken sink'.taken summary
+IsEndOfDemo sink sink' summary WriteFault = AppendsPrefix sink.taken sink'.taken summary
+IsEndOfDemo sink sink' summary Memory = AppendsPrefix sink.taken sink'.taken summary
+IsEndOfDemo sink sink' summary _ = ⊥
 
 -- ---- the line for the errors
-abbrev pub cause_line : Cause → List ℕ
-cause_line (Syntax k) = codes "line " ++ natural_text k ++ codes ": syntax\n"
-cause_line (OutOfRange k) = codes "line " ++ natural_text k ++ codes ": out of range\n"
-cause_line (FractionMismatch k) = codes "line " ++ natural_text k ++ codes ": fraction mismatch\n"
-cause_line (ZeroDivisor k) = codes "line " ++ natural_text k ++ codes ": zero divisor\n"
-cause_line (NegativeRoot k) = codes "line " ++ natural_text k ++ codes ": negative root\n"
-cause_line (Overflow k) = codes "line " ++ natural_text k ++ codes ": overflow\n"
-
 abbrev pub error_line : Status → List ℕ
 error_line Done = []
-error_line (Script cause) = cause_line cause
+error_line (Script (Syntax k)) = codes "line " ++ natural_text k ++ codes ": syntax\n"
+error_line (Script (OutOfRange k)) = codes "line " ++ natural_text k ++ codes ": out of range\n"
+error_line (Script (FractionMismatch k)) = codes "line " ++ natural_text k ++ codes ": fraction mismatch\n"
+error_line (Script (ZeroDivisor k)) = codes "line " ++ natural_text k ++ codes ": zero divisor\n"
+error_line (Script (NegativeRoot k)) = codes "line " ++ natural_text k ++ codes ": negative root\n"
+error_line (Script (Overflow k)) = codes "line " ++ natural_text k ++ codes ": overflow\n"
 error_line Usage = codes "usage: fixed_prog [demo N]\n"
 error_line ReadFault = codes "read fault\n"
 error_line WriteFault = codes "write fault\n"

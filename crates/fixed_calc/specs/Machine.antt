@@ -1,5 +1,5 @@
 -- The register machine: its states, the cause of a line, and its move.
-use Rattle.std.specs.Prelude.{ℕ, ◌==◌, nat_le, ◌||◌, ◌&&◌, not, Bool, true, false, ℤ, pos, List, [], ◌∷◌, get_or, set, length, Option, Some, None, is_none, if◌then◌else◌}
+use Rattle.std.specs.Prelude.{ℕ, ◌==◌, nat_le, ◌||◌, not, Bool, false, ℤ, pos, List, [], ◌∷◌, get_or, set, length, Option, Some, None, if◌then◌else◌}
 use Rattle.std.specs.List.{list_any}
 use Rattle.fixed_word.specs.declared.rounding.Rounding.{Rounding}
 use Rattle.fixed_text.specs.declared.names.WordName.{WordName}
@@ -7,12 +7,13 @@ use Rattle.fixed_text.specs.Words.{is_signed, width}
 use Rattle.fixed_script.specs.declared.names.Policy.{Policy}
 use Rattle.fixed_script.specs.declared.names.Op.{Op}
 use Rattle.fixed_script.specs.declared.names.Op.TheVariants.{AddProd, Sqrt}
+use Rattle.fixed_script.specs.declared.names.Policy.TheVariants.{Checked, Strict}
 use Rattle.fixed_calc.specs.declared.answer.Answer.{Answer}
 use Rattle.fixed_calc.specs.declared.answer.Answer.TheVariants.{Absent, Bits, Flagged}
 use Rattle.fixed_script.specs.Text.{ScriptLine, SetTo, Apply, Operands, OneRegister, TwoRegisters, RegisterAndInt, ThreeRegisters}
 use Rattle.fixed_word.specs.Format.{fits}
 use Rattle.fixed_calc.specs.Rows.{exact, exact_by}
-use Rattle.fixed_calc.specs.Projection.{project, is_checked, is_strict}
+use Rattle.fixed_calc.specs.Projection.{project}
 use Rattle.fixed_calc.specs.Offered.{is_offered}
 use Rattle.fixed_calc.specs.declared.cause.Cause.{Cause}
 use Rattle.fixed_calc.specs.declared.cause.Cause.TheVariants.{Syntax, OutOfRange, FractionMismatch, ZeroDivisor, NegativeRoot, Overflow}
@@ -57,19 +58,14 @@ literals_of (Apply dest policy op (RegisterAndInt a k) rounding) = k ∷ []
 literals_of (Apply dest policy op xs rounding) = []
 
 -- the operands that have to have the destination's fraction
-abbrev pub tied_of_three : Op → ℕ → ℕ → ℕ → List ℕ
-tied_of_three AddProd c a b = c ∷ []
-tied_of_three _ a m c = a ∷ c ∷ []
-
-abbrev pub tied : Op → Operands → List ℕ
-tied op (OneRegister a) = a ∷ []
-tied op (TwoRegisters a b) = a ∷ b ∷ []
-tied op (RegisterAndInt a k) = a ∷ []
-tied op (ThreeRegisters a b c) = tied_of_three op a b c
+abbrev pub tied : Operands → Op → List ℕ
+tied (ThreeRegisters c a b) AddProd = c ∷ []
+tied (ThreeRegisters a m c) op = a ∷ c ∷ []
+tied xs op = operand_registers xs
 
 abbrev pub tied_registers : ScriptLine → List ℕ
 tied_registers (SetTo dest k) = []
-tied_registers (Apply dest policy op xs rounding) = tied op xs
+tied_registers (Apply dest policy op xs rounding) = tied xs op
 
 -- ---- the row of a line
 -- three operands, of which a line takes the first ones; an integer has no fraction
@@ -105,34 +101,26 @@ is_out_of_range s line = list_any (λ r. nat_le (length s.registers) r) (registe
 unfoldable pub is_mismatched : State → ScriptLine → Bool
 is_mismatched s line = list_any (λ r. not ((cell_at s.registers r).fraction == (cell_at s.registers (destination line)).fraction)) (tied_registers line)
 
-abbrev pub is_sqrt : Op → Bool
-is_sqrt Sqrt = true
-is_sqrt op = false
+-- the cause of a row that is undefined, or that a strict policy does not answer
+unfoldable pub row_cause : Bool → ℕ → Policy → Option ℤ → Op → ℕ → Option Cause
+row_cause signed n Checked None op k = None
+row_cause signed n policy None Sqrt k = Some (NegativeRoot k)
+row_cause signed n policy None op k = Some (ZeroDivisor k)
+row_cause signed n Strict (Some x) op k = if fits signed n x then None else Some (Overflow k)
+row_cause signed n policy (Some x) op k = None
 
-abbrev pub lacks_row : Policy → Option ℤ → Bool
-lacks_row policy row = not (is_checked policy) && is_none row
-
-abbrev pub exceeds : Bool → ℕ → Option ℤ → Bool
-exceeds signed n None = false
-exceeds signed n (Some x) = not (fits signed n x)
-
--- the causes of a row, in order
-unfoldable pub row_causes : Bool → ℕ → Policy → Op → Option ℤ → ℕ → List (Bool × Cause)
-row_causes signed n policy op row k =
-    (lacks_row policy row && not (is_sqrt op), ZeroDivisor k) ∷ (lacks_row policy row && is_sqrt op, NegativeRoot k) ∷ (is_strict policy && exceeds signed n row, Overflow k) ∷ []
-
-abbrev pub causes_of : State → ScriptLine → ℕ → List (Bool × Cause)
-causes_of s (SetTo dest x) k = []
-causes_of s (Apply dest policy op xs rounding) k = row_causes (is_signed s.word) (width s.word) policy op (row_by rounding op (operand_values s.registers xs)) k
+-- the cause of a line whose first three tests fail
+abbrev pub late_cause : State → ScriptLine → ℕ → Option Cause
+late_cause s (SetTo dest x) k = None
+late_cause s (Apply dest policy op xs rounding) k = row_cause (is_signed s.word) (width s.word) policy (row_by rounding op (operand_values s.registers xs)) op k
 
 -- the first that holds
-abbrev pub first_of : List (Bool × Cause) → Option Cause
-first_of [] = None
-first_of (p ∷ ps) = if p.0 then Some p.1 else first_of ps
-
 abbrev pub cause : State → ScriptLine → ℕ → Option Cause
 cause s line k =
-    first_of ((is_unoffered s.word line, Syntax k) ∷ (is_out_of_range s line, OutOfRange k) ∷ (is_mismatched s line, FractionMismatch k) ∷ causes_of s line k)
+    if is_unoffered s.word line then Some (Syntax k)
+    else if is_out_of_range s line then Some (OutOfRange k)
+    else if is_mismatched s line then Some (FractionMismatch k)
+    else late_cause s line k
 
 -- ---- moves
 unfoldable pub answer : State → ScriptLine → Answer

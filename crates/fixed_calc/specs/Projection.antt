@@ -1,5 +1,6 @@
 -- What a policy makes of a row.
-use Rattle.std.specs.Prelude.{ℕ, ℤ, Bool, true, false, Option, Some, None}
+use Rattle.std.specs.Prelude.{ℕ, ℤ, Bool, Option, Some, None}
+use Rattle.std.specs.Option.{option_map_or}
 use Rattle.fixed_word.specs.Policies.{checked, saturating, wrapping, overflowing, strict}
 use Rattle.fixed_script.specs.declared.names.Policy.{Policy}
 use Rattle.fixed_script.specs.declared.names.Policy.TheVariants.{Checked, Saturating, Wrapping, Overflowing, Strict}
@@ -8,12 +9,10 @@ use Rattle.fixed_calc.specs.declared.answer.Answer.TheVariants.{Absent, Bits, Fl
 
 -- the answer of a number, and of a number with its verdict
 abbrev pub plain : Option ℤ → Answer
-plain None = Absent
-plain (Some x) = Bits x
+plain row = option_map_or Bits row Absent
 
 abbrev pub flagged : Option (ℤ × Bool) → Answer
-flagged None = Absent
-flagged (Some p) = Flagged p.0 p.1
+flagged row = option_map_or (λ p. Flagged p.0 p.1) row Absent
 
 abbrev pub project : Policy → Bool → ℕ → Option ℤ → Answer
 project policy signed n None = Absent
@@ -22,11 +21,3 @@ project Saturating signed n (Some x) = plain (saturating signed n (Some x))
 project Wrapping signed n (Some x) = plain (wrapping signed n (Some x))
 project Overflowing signed n (Some x) = flagged (overflowing signed n (Some x))
 project Strict signed n (Some x) = plain (strict (Some x))
-
-abbrev pub is_checked : Policy → Bool
-is_checked Checked = true
-is_checked _ = false
-
-abbrev pub is_strict : Policy → Bool
-is_strict Strict = true
-is_strict _ = false

@@ -1,9 +1,10 @@
 -- A script whose header names a wider word.
-use Rattle.std.specs.Prelude.{◌≡◌, ◌<◌, ℕ, Bool, true, not, ◌&&◌, List, [], ◌∷◌, ◌++◌, Option, Some, None}
+use Rattle.std.specs.Prelude.{◌≡◌, ◌<◌, ℕ, ℤ, Bool, true, false, not, ◌&&◌, List, [], ◌∷◌, ◌++◌, Option, Some, None}
 use Rattle.fixed_script.specs.Lines.{line_of_piece}
 use Rattle.fixed_text.specs.declared.names.WordName.{WordName}
 use Rattle.fixed_script.specs.Text.{ScriptHeader, header_text, ScriptLine, SetTo, Apply}
-use Rattle.fixed_calc.specs.Machine.{State, row_by, operand_values, exceeds, move}
+use Rattle.fixed_word.specs.Format.{fits}
+use Rattle.fixed_calc.specs.Machine.{State, row_by, operand_values, move}
 use Rattle.fixed_text.specs.Words.{is_signed, width}
 
 -- a wider word of the same sign
@@ -19,6 +20,11 @@ abbrev pub with_word : WordName → ScriptHeader → ScriptHeader
 with_word word header = record header { word = word }
 
 -- ---- the rows on the way
+-- the row is a number that does not fit
+abbrev pub exceeds : Bool → ℕ → Option ℤ → Bool
+exceeds signed n None = false
+exceeds signed n (Some x) = not (fits signed n x)
+
 -- the row of a line is undefined or a number that fits; `set` takes no row
 abbrev pub row_fits : State → ScriptLine → Bool
 row_fits s (SetTo dest k) = true

@@ -1,6 +1,7 @@
 -- What private functions alone cite.
 pub mod Buffers
 pub mod Commands
+pub mod Draws
 pub mod Moves
 pub mod Quick
 pub mod QuickSteps

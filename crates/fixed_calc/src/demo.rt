@@ -3,7 +3,8 @@
 ghost use Rattle.std.specs.Prelude.{◌≡◌, ◌<◌, ◌≤◌, ◌∷◌, ◌++◌, flat_map, pos, slice_index, EachIndex, IfOk, OnOk};
 ghost use Rattle.fixed_word.specs.Decimal.{natural_text};
 ghost use Rattle.fixed_script.specs.Text.{SetTo, line_text, register_text};
-ghost use Rattle.fixed_calc.specs.Demo.{demo_text, drawn_line, next_state};
+ghost use Rattle.fixed_calc.specs.Demo.{demo_text, drawn_line};
+ghost use Rattle.fixed_calc.specs.inside.Draws.{next_state};
 ghost use Rattle.fixed_calc.specs.CommandLine.{most_lines};
 
 use fixed_text::decimal_into;

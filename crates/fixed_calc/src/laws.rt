@@ -4,7 +4,7 @@ ghost use Rattle.std.specs.Prelude.{◌≡◌, ◌*◌, ◌+◌, ◌<◌, ◌≤
 ghost use Rattle.fixed_word.specs.Format.{IsWidth, fits};
 ghost use Rattle.fixed_calc.specs.Answers.{answer_text};
 ghost use Rattle.fixed_calc.specs.Before.{MeansAsBefore, ReadsOldLines};
-ghost use Rattle.fixed_calc.specs.Calls.{ReadsToEnd, WritesAll, buffer_size};
+ghost use Rattle.fixed_calc.specs.Calls.{ReadsToEnd, TookBytes, buffer_size};
 ghost use Rattle.fixed_calc.specs.CapLaw.{CapsAlike};
 ghost use Rattle.fixed_calc.specs.Demo.{demo_answers, demo_text};
 ghost use Rattle.fixed_calc.specs.Meaning.{Output, meaning, run_of, start};
@@ -84,7 +84,7 @@ pub fn calls_law()
         → (total ≡ length source.left) × IsCallsFor (min source.most buffer_size) total calls
         × (source.calls + calls < last_count → source'.calls ≡ source.calls + calls + 1) }
     ensures writes { (bytes : List ℕ) (calls : ℕ) (sink sink' : MemoryOutput) → 1 ≤ sink.most
-        → WritesAll ⟦<MemorySink as Sink>⟧.write_gives bytes calls sink sink'
+        → TookBytes ⟦<MemorySink as Sink>⟧.write_gives bytes calls (length bytes) sink sink'
         → IsCallsFor sink.most (length bytes) calls
         × (sink.calls + calls ≤ last_count → sink'.calls ≡ sink.calls + calls) }
 {}

@@ -1,13 +1,14 @@
 //! What a policy makes of a row.
 
 ghost use Rattle.std.specs.Prelude.{◌≡◌, ◌≤◌, ◌<◌, ◌^◌, ℕ, ℤ, Bool, Option, Some, None, true, false, unsigned_abs, IsTrue};
+ghost use Rattle.fixed_script.specs.declared.names.Op.{Op as Operation};
 ghost use Rattle.fixed_word.specs.Format.{fits};
 ghost use Rattle.fixed_word.specs.Standing.{StandsFor};
 ghost use Rattle.fixed_calc.specs.Offered.{is_offered};
 ghost use Rattle.fixed_calc.specs.Machine.{row_by};
 ghost use Rattle.fixed_text.specs.Words.{is_signed, width};
 ghost use Rattle.fixed_calc.specs.Step.{FitsFormat, IsCell, cell_of};
-ghost use Rattle.fixed_calc.specs.inside.Stepping.{IsAnswerOfNumber, IsAnswerOfRow, values_of};
+ghost use Rattle.fixed_calc.specs.inside.Stepping.{IsAnswerOfRow, values_of};
 
 use crate::answer::Answer;
 use crate::cause::Cause;
@@ -56,10 +57,11 @@ fn operand_of<T: Word>(register: Register) -> Operand<T>
 }
 
 /// What the policy makes of the number that an outcome stands for.
+#[tactic(auto, unfolding(crate::specs::Machine::row_cause))]
 #[inline(always)]
 fn answered<T: Word>(policy: Policy, outcome: Outcome<T>, number: u64) -> Result<Answer, Cause>
-    ensures { (x : ℤ) → StandsFor T.value T.SIGNED T.BITS x outcome
-        → IsAnswerOfNumber T.SIGNED T.BITS policy x number result }
+    ensures { (x : ℤ) (op : Operation) → StandsFor T.value T.SIGNED T.BITS x outcome
+        → IsAnswerOfRow T.SIGNED T.BITS policy op (Some x) number result }
 {
     match policy {
         Policy::Checked => match checked_of(outcome) {
@@ -80,7 +82,7 @@ fn answered<T: Word>(policy: Policy, outcome: Outcome<T>, number: u64) -> Result
 }
 
 /// What the policy makes of a row that is undefined.
-#[tactic(auto, unfolding(crate::specs::Machine::row_causes))]
+#[tactic(auto, unfolding(crate::specs::Machine::row_cause))]
 #[inline(always)]
 fn unanswered(policy: Policy, op: Op, number: u64) -> Result<Answer, Cause>
     ensures { (signed : Bool) (n : ℕ) (row : Option ℤ) → row ≡ None
@@ -97,7 +99,7 @@ fn unanswered(policy: Policy, op: Op, number: u64) -> Result<Answer, Cause>
 
 /// The answer of an operation on registers of a word, or its cause.
 #[inline(always)]
-#[tactic(auto, unfolding(crate::specs::Machine::row_causes))]
+#[tactic(auto, unfolding(crate::specs::Machine::row_cause))]
 pub(crate) fn answer_as<T: Word>(
     policy: Policy,
     op: Op,

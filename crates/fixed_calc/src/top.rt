@@ -1,7 +1,7 @@
 //! The top call, which does all that the program does.
 
 ghost use Rattle.std.specs.Prelude.{◌≡◌, ◌≢◌, ◌≤◌, ◌↔◌, ℕ, []};
-ghost use Rattle.fixed_calc.specs.Headline.{WhenComplete, WhenDemoDone, WhenDemoMemory, WhenDemoWriteFault, WhenDone, IsDemoStatus, IsOutputOf, WritesErrorLine, WhenMemory, WhenReadFault, WhenScript, WhenTooLong, WhenWriteFault, WritesNothing, error_line};
+ghost use Rattle.fixed_calc.specs.Headline.{CountsOfStatus, FaultsOfStatus, IsEndOfDemo, IsEndOfScript, IsOutputOf, WhenComplete, WhenTooLong, WritesErrorLine, error_line};
 ghost use Rattle.fixed_calc.specs.Calls.{WritesOfLine, ReadsOfStatus, WritesOfStatus};
 ghost use Rattle.fixed_calc.specs.Demo.{summary};
 ghost use Rattle.fixed_calc.specs.CommandLine.{IsDemo, IsNoCommand, most_lines};
@@ -19,17 +19,14 @@ use std::alloc::Global;
 
 /// Reads, runs and writes.
 fn read_run_write<S: Source, K: Sink>(alloc: Global, source: &mut S, sink: &mut K) -> Status
-    ensures done { WhenDone (S.state source.old)
-        (S.state source.new) (K.state sink.old) (K.state sink.new) result }
-    ensures script { WhenScript (S.state source.old) (S.state source.new) result }
-    ensures no_usage { result ≢ Status.Usage }
-    ensures read_fault { WhenReadFault (S.state source.old) (S.state source.new) result }
-    ensures too_long { WhenTooLong (S.state source.old) (S.state source.new) result }
-    ensures write_fault { WhenWriteFault
+    ensures source_faults { FaultsOfStatus (S.state source.old) (S.state source.new) result }
+    ensures sink_counts { CountsOfStatus (K.state sink.old) (K.state sink.new) result }
+    ensures nothing_written { result ≢ Status.Done
+        → result ≢ Status.WriteFault → result ≢ Status.Memory → sink.new ≡ sink.old }
+    ensures script { IsEndOfScript
         (S.state source.old) (S.state source.new) (K.state sink.old) (K.state sink.new) result }
-    ensures memory { WhenMemory (S.state source.old)
-        (S.state source.new) (K.state sink.old) (K.state sink.new) result }
-    ensures nothing_written { WritesNothing result → sink.new ≡ sink.old }
+    ensures no_usage { result ≢ Status.Usage }
+    ensures too_long { WhenTooLong (S.state source.old) (S.state source.new) result }
     ensures complete { WhenComplete
         (S.state source.old) (S.state source.new) (K.state sink.old) (K.state sink.new) result }
     ensures reads { ReadsOfStatus S.read_gives source.old source.new result }
@@ -58,10 +55,8 @@ fn read_run_write<S: Source, K: Sink>(alloc: Global, source: &mut S, sink: &mut 
 fn demonstrate<K: Sink>(alloc: Global, lines: u32, sink: &mut K) -> Status
     requires some { 1 ≤ lines }
     requires most { lines ≤ most_lines }
-    ensures done { WhenDemoDone lines (K.state sink.old) (K.state sink.new) result }
-    ensures write_fault { WhenDemoWriteFault lines (K.state sink.old) (K.state sink.new) result }
-    ensures memory { WhenDemoMemory lines (K.state sink.old) (K.state sink.new) result }
-    ensures statuses { IsDemoStatus result }
+    ensures sink_counts { CountsOfStatus (K.state sink.old) (K.state sink.new) result }
+    ensures summary { IsEndOfDemo (K.state sink.old) (K.state sink.new) (summary lines) result }
     ensures writes { WritesOfStatus K.write_gives (λ bytes. bytes ≡ summary lines) sink.old sink.new result }
 {
     let summary = match demo_summary(alloc, lines) {
@@ -82,30 +77,20 @@ fn status_of<S: Source, K: Sink>(
     source: &mut S,
     sink: &mut K,
 ) -> Status
-    ensures done { words.now ≡ [] → WhenDone
-        (S.state source.old) (S.state source.new) (K.state sink.old) (K.state sink.new) result }
-    ensures script { words.now ≡ [] → WhenScript (S.state source.old) (S.state source.new) result }
     ensures usage { result ≡ Status.Usage ↔ IsNoCommand words.now }
     ensures nothing_read { words.now ≢ [] → source.new ≡ source.old }
-    ensures read_fault { words.now ≡ []
-        → WhenReadFault (S.state source.old) (S.state source.new) result }
+    ensures source_faults { FaultsOfStatus (S.state source.old) (S.state source.new) result }
+    ensures sink_counts { CountsOfStatus (K.state sink.old) (K.state sink.new) result }
+    ensures nothing_written { result ≢ Status.Done
+        → result ≢ Status.WriteFault → result ≢ Status.Memory → sink.new ≡ sink.old }
+    ensures script { words.now ≡ [] → IsEndOfScript
+        (S.state source.old) (S.state source.new) (K.state sink.old) (K.state sink.new) result }
     ensures too_long { words.now ≡ []
         → WhenTooLong (S.state source.old) (S.state source.new) result }
-    ensures write_fault { words.now ≡ [] → WhenWriteFault
-        (S.state source.old) (S.state source.new) (K.state sink.old) (K.state sink.new) result }
-    ensures memory { words.now ≡ []
-        → WhenMemory (S.state source.old)
-        (S.state source.new) (K.state sink.old) (K.state sink.new) result }
-    ensures nothing_written { WritesNothing result → sink.new ≡ sink.old }
     ensures complete { words.now ≡ [] → WhenComplete
         (S.state source.old) (S.state source.new) (K.state sink.old) (K.state sink.new) result }
-    ensures demo_done { (n : ℕ) → IsDemo words.now n
-        → WhenDemoDone n (K.state sink.old) (K.state sink.new) result }
-    ensures demo_write_fault { (n : ℕ) → IsDemo words.now n
-        → WhenDemoWriteFault n (K.state sink.old) (K.state sink.new) result }
-    ensures demo_memory { (n : ℕ) → IsDemo words.now n
-        → WhenDemoMemory n (K.state sink.old) (K.state sink.new) result }
-    ensures demo_statuses { (n : ℕ) → IsDemo words.now n → IsDemoStatus result }
+    ensures demo { (n : ℕ) → IsDemo words.now n
+        → IsEndOfDemo (K.state sink.old) (K.state sink.new) (summary n) result }
     ensures reads { words.now ≡ [] → ReadsOfStatus S.read_gives source.old source.new result }
     ensures writes { words.now ≡ [] → WritesOfStatus K.write_gives
         (IsOutputOf (S.state source.old).left) sink.old sink.new result }
@@ -141,30 +126,20 @@ pub fn calc_main<S: Source, K: Sink, E: Sink>(
     sink: &mut K,
     errors: &mut E,
 ) -> Status
-    ensures done { words.now ≡ [] → WhenDone
-        (S.state source.old) (S.state source.new) (K.state sink.old) (K.state sink.new) result }
-    ensures script { words.now ≡ [] → WhenScript (S.state source.old) (S.state source.new) result }
     ensures usage { result ≡ Status.Usage ↔ IsNoCommand words.now }
     ensures nothing_read { words.now ≢ [] → source.new ≡ source.old }
-    ensures read_fault { words.now ≡ []
-        → WhenReadFault (S.state source.old) (S.state source.new) result }
+    ensures source_faults { FaultsOfStatus (S.state source.old) (S.state source.new) result }
+    ensures sink_counts { CountsOfStatus (K.state sink.old) (K.state sink.new) result }
+    ensures nothing_written { result ≢ Status.Done
+        → result ≢ Status.WriteFault → result ≢ Status.Memory → sink.new ≡ sink.old }
+    ensures script { words.now ≡ [] → IsEndOfScript
+        (S.state source.old) (S.state source.new) (K.state sink.old) (K.state sink.new) result }
     ensures too_long { words.now ≡ []
         → WhenTooLong (S.state source.old) (S.state source.new) result }
-    ensures write_fault { words.now ≡ [] → WhenWriteFault
-        (S.state source.old) (S.state source.new) (K.state sink.old) (K.state sink.new) result }
-    ensures memory { words.now ≡ []
-        → WhenMemory (S.state source.old)
-        (S.state source.new) (K.state sink.old) (K.state sink.new) result }
-    ensures nothing_written { WritesNothing result → sink.new ≡ sink.old }
     ensures complete { words.now ≡ [] → WhenComplete
         (S.state source.old) (S.state source.new) (K.state sink.old) (K.state sink.new) result }
-    ensures demo_done { (n : ℕ) → IsDemo words.now n
-        → WhenDemoDone n (K.state sink.old) (K.state sink.new) result }
-    ensures demo_write_fault { (n : ℕ) → IsDemo words.now n
-        → WhenDemoWriteFault n (K.state sink.old) (K.state sink.new) result }
-    ensures demo_memory { (n : ℕ) → IsDemo words.now n
-        → WhenDemoMemory n (K.state sink.old) (K.state sink.new) result }
-    ensures demo_statuses { (n : ℕ) → IsDemo words.now n → IsDemoStatus result }
+    ensures demo { (n : ℕ) → IsDemo words.now n
+        → IsEndOfDemo (K.state sink.old) (K.state sink.new) (summary n) result }
     ensures reads { words.now ≡ [] → ReadsOfStatus S.read_gives source.old source.new result }
     ensures writes { words.now ≡ [] → WritesOfStatus K.write_gives
         (IsOutputOf (S.state source.old).left) sink.old sink.new result }

@@ -1,8 +1,8 @@
 //! Writing to a sink until all is taken.
 
-ghost use Rattle.std.specs.Prelude.{MatchResult, ℕ};
+ghost use Rattle.std.specs.Prelude.{MatchResult, ℕ, length};
 ghost use Rattle.std.specs.Io.KnownBytes.{Appends};
-ghost use Rattle.fixed_calc.specs.Calls.{WritesAll, WritesToRefusal};
+ghost use Rattle.fixed_calc.specs.Calls.{TookBytes, WritesToRefusal};
 ghost use Rattle.fixed_calc.specs.Outside.{CountsAfterWrite};
 ghost use Rattle.fixed_calc.specs.Headline.{AppendsProperPrefix};
 
@@ -15,7 +15,7 @@ pub(crate) fn write_all<K: Sink>(bytes: &[u8], sink: &mut K) -> Result<(), Refus
         (λ _. AppendsProperPrefix (K.state sink.old).taken (K.state sink.new).taken bytes.now) }
     ensures counts { CountsAfterWrite (K.state sink.old) (K.state sink.new) result }
     ensures writes { MatchResult result
-        (λ _. (calls : ℕ) × WritesAll K.write_gives bytes.now calls sink.old sink.new)
+        (λ _. (calls : ℕ) × TookBytes K.write_gives bytes.now calls (length bytes.now) sink.old sink.new)
         (λ refusal. WritesToRefusal K.write_gives bytes.now refusal sink.old sink.new) }
 {
     let mut at = 0;

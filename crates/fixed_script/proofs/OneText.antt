@@ -104,12 +104,12 @@ abbrev first_named : List (List ℕ) → Option Rounding
 first_named [] = None
 first_named (t ∷ ts) = or_later (rounding_named t) (first_named ts)
 
-rounding_again : (r : Rounding) → rounding_named (rounding_name r) ≡ Some r
+pub rounding_again : (r : Rounding) → rounding_named (rounding_name r) ≡ Some r
 rounding_again Down = refl
 rounding_again Zero = refl
 rounding_again Even = refl
 
-register_names_none : (n : ℕ) → rounding_named (register_text n) ≡ None
+pub register_names_none : (n : ℕ) → rounding_named (register_text n) ≡ None
 register_names_none n = refl
 
 no_rounding_decimal : (r : Rounding) → is_decimal (rounding_name r) ≡ false
@@ -126,7 +126,7 @@ natural_names_none n = from (rounding_named (natural_text n)) refl
         let name = named_takes rounding_name (Down ∷ Zero ∷ Even ∷ []) (natural_text n) r is in
         absurd (false≢true (sym (no_rounding_decimal r) ∙ ap is_decimal name ∙ (decimal_of_text n).0))
 
-whole_names_none : (k : ℤ) → rounding_named (whole_text k) ≡ None
+pub whole_names_none : (k : ℤ) → rounding_named (whole_text k) ≡ None
 whole_names_none (pos n) = natural_names_none n
 whole_names_none (negsuc n) = refl
 

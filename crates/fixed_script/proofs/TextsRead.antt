@@ -1,11 +1,12 @@
 -- A piece is read as the line whose text it is.
-use Rattle.std.proofs.Common.{◌≡◌, ℕ, ℤ, suc, pos, negsuc, neg_ℤ, List, [], ◌∷◌, ◌++◌, map, drop, Option, Some, None, Bool, true, false, if◌then◌else◌, refl, sym, ap, subst, rules, IfNone, IfSome, ◌∙◌, codes}
-use Rattle.std.specs.Option.{option_map}
+use Rattle.std.proofs.Common.{◌≡◌, ℕ, ◌-◌, ℤ, suc, pos, negsuc, neg_ℤ, List, [], ◌∷◌, ◌++◌, map, length, drop, Option, Some, None, Bool, true, false, if◌then◌else◌, refl, sym, ap, subst, rules, IfNone, IfSome, ◌∙◌, codes}
+use Rattle.std.specs.Option.{option_map, option_and_then}
 use Rattle.std.specs.Str.{bytes_eq}
+use Rattle.std.specs.Str.Parse.{digits_value}
 use Rattle.std.proofs.lemmas.Slice.Eq.{bytes_eq-Decides}
+use Rattle.std.proofs.lemmas.Bool.{false≢true}
 use Rattle.std.proofs.lemmas.Option.{same_Some}
 use Rattle.fixed_word.specs.declared.rounding.Rounding.{Rounding}
-use Rattle.fixed_word.specs.declared.rounding.Rounding.TheVariants.{Down, Zero, Even}
 use Rattle.fixed_script.specs.declared.names.Policy.{Policy}
 use Rattle.fixed_script.specs.declared.names.Op.{Op}
 use Rattle.fixed_script.specs.declared.line.Shape.{Shape}
@@ -19,20 +20,21 @@ use Rattle.fixed_script.proofs.Readers.{policy_again, op_again}
 use Rattle.fixed_text.proofs.Capping.{no_minus}
 use Rattle.fixed_script.proofs.Joined.{tokens_of_line}
 use Rattle.fixed_script.proofs.Lines.{not_set}
+use Rattle.fixed_script.proofs.OneText.{register_names_none, whole_names_none, rounding_again}
 use Rattle.fixed_script.proofs.HeaderLaws.{word_again, tokens_of_header}
 use Rattle.fixed_script.specs.declared.line.Line.{Line}
 use Rattle.fixed_script.specs.Capped.{capped, checked_script_line}
 use Rattle.fixed_word.specs.Pieces.{body}
 use Rattle.fixed_script.specs.Headers.{CappedHeader, capped_header}
-use Rattle.fixed_script.specs.Lines.{then_of, line_of_piece, header_of_piece, natural_in, register_in, whole_in, operands_in, operand_count, rounding_in, apply_in, line_in, header_in, if_its_text, line_of, header_of, ReadsLines, ReadsHeaders, token}
+use Rattle.fixed_script.specs.Lines.{line_of_piece, header_of_piece, register_in, whole_in, operands_in, rounding_in, apply_in, line_in, header_in, if_its_text, line_of, header_of, ReadsLines, ReadsHeaders, token}
 use Rattle.fixed_script.specs.ReadPieces.{ReadsLine, ReadsHeader}
 
 -- ---- what is read back
-natural_back : (n : ℕ) → natural_in (natural_text n) ≡ n
+natural_back : (n : ℕ) → digits_value 10 (natural_text n) ≡ n
 natural_back n = (decimal_of_text n).1
 
 whole_back : (k : ℤ) → whole_in (whole_text k) ≡ k
-whole_back (pos n) = ap (λ (b : Bool). if b then neg_ℤ (pos (natural_in (drop 1 (natural_text n)))) else pos (natural_in (natural_text n))) (no_minus (natural_text n) (decimal_of_text n).0) ∙ ap pos (natural_back n)
+whole_back (pos n) = ap (λ (b : Bool). if b then neg_ℤ (pos (digits_value 10 (drop 1 (natural_text n)))) else pos (digits_value 10 (natural_text n))) (no_minus (natural_text n) (decimal_of_text n).0) ∙ ap pos (natural_back n)
 whole_back (negsuc n) = ap (λ (m : ℕ). neg_ℤ (pos m)) (natural_back (suc n))
 
 operands_back : (op : Op) (xs : Operands) (r : Option Rounding) → shape op ≡ shape_of xs → operands_in (shape op) (operand_tokens xs ++ rounding_tokens r) ≡ xs
@@ -41,41 +43,44 @@ operands_back op (TwoRegisters a b) r is = rw (is, natural_back a, natural_back 
 operands_back op (RegisterAndInt a k) r is = rw (is, natural_back a, whole_back k) refl
 operands_back op (ThreeRegisters a b c) r is = rw (is, natural_back a, natural_back b, natural_back c) refl
 
-last_back : (op : Op) (xs : Operands) (r : Option Rounding) → shape op ≡ shape_of xs → token (operand_tokens xs ++ rounding_tokens r) (operand_count (shape op)) ≡ token (rounding_tokens r) 0
-last_back op (OneRegister a) r is = rw is refl
-last_back op (TwoRegisters a b) r is = rw is refl
-last_back op (RegisterAndInt a k) r is = rw is refl
-last_back op (ThreeRegisters a b c) r is = rw is refl
+-- the last of a line's tokens after the operation names its rounding, or none
+last_names : (xs : Operands) (r : Option Rounding) → rounding_named (token (operand_tokens xs ++ rounding_tokens r) (length (operand_tokens xs ++ rounding_tokens r) - 1)) ≡ r
+last_names (OneRegister a) None = register_names_none a
+last_names (TwoRegisters a b) None = register_names_none b
+last_names (RegisterAndInt a k) None = whole_names_none k
+last_names (ThreeRegisters a b c) None = register_names_none c
+last_names (OneRegister a) (Some r) = rounding_again r
+last_names (TwoRegisters a b) (Some r) = rounding_again r
+last_names (RegisterAndInt a k) (Some r) = rounding_again r
+last_names (ThreeRegisters a b c) (Some r) = rounding_again r
 
-named_back : (b : Bool) (op : Op) (r : Option Rounding) → takes_rounding op ≡ b → may_round op r ≡ true → (if b then rounding_named (token (rounding_tokens r) 0) else None) ≡ r
-named_back true op None t m = refl
+named_back : (b : Bool) (op : Op) (r : Option Rounding) → takes_rounding op ≡ b → may_round op r ≡ true → (if b then r else None) ≡ r
+named_back true op r t m = refl
 named_back false op None t m = refl
-named_back b op (Some Down) t m = ap (λ (c : Bool). if c then Some Down else None) (sym t ∙ m)
-named_back b op (Some Zero) t m = ap (λ (c : Bool). if c then Some Zero else None) (sym t ∙ m)
-named_back b op (Some Even) t m = ap (λ (c : Bool). if c then Some Even else None) (sym t ∙ m)
+named_back false op (Some r) t m = absurd (false≢true (sym t ∙ m))
 
-rounding_back : (op : Op) (xs : Operands) (r : Option Rounding) → shape op ≡ shape_of xs → may_round op r ≡ true → rounding_in op (operand_tokens xs ++ rounding_tokens r) ≡ r
-rounding_back op xs r is m = ap (λ (t : List ℕ). if takes_rounding op then rounding_named t else None) (last_back op xs r is) ∙ named_back (takes_rounding op) op r refl m
+rounding_back : (op : Op) (xs : Operands) (r : Option Rounding) → may_round op r ≡ true → rounding_in op (operand_tokens xs ++ rounding_tokens r) ≡ r
+rounding_back op xs r m = ap (λ (q : Option Rounding). if takes_rounding op then q else None) (last_names xs r) ∙ named_back (takes_rounding op) op r refl m
 
 applied_back : (dest : ℕ) (policy : Policy) (op : Op) (xs : Operands) (r : Option Rounding) → shape op ≡ shape_of xs → may_round op r ≡ true
     → apply_in dest (Some policy) (Some op) (operand_tokens xs ++ rounding_tokens r) ≡ Some (Apply dest policy op xs r)
 applied_back dest policy op xs r is m =
     ap (λ (ys : Operands). Some (Apply dest policy op ys (rounding_in op (operand_tokens xs ++ rounding_tokens r)))) (operands_back op xs r is)
-    ∙ ap (λ (q : Option Rounding). Some (Apply dest policy op xs q)) (rounding_back op xs r is m)
+    ∙ ap (λ (q : Option Rounding). Some (Apply dest policy op xs q)) (rounding_back op xs r m)
 
 pub line_back : (l : ScriptLine) → IsLine l → line_in (line_tokens l) ≡ Some l
 line_back (SetTo dest k) is = rw (natural_back dest, whole_back k) refl
 line_back (Apply dest policy op xs r) is = rw (not_set policy, policy_again policy, op_again op, natural_back dest) (applied_back dest policy op xs r is.0 is.1)
 
-naturals_back : (ns : List ℕ) → map natural_in (map natural_text ns) ≡ ns
+naturals_back : (ns : List ℕ) → map (digits_value 10) (map natural_text ns) ≡ ns
 naturals_back [] = refl
-naturals_back (n ∷ ns) = ap (λ (m : ℕ). m ∷ map natural_in (map natural_text ns)) (natural_back n) ∙ ap (λ (ms : List ℕ). n ∷ ms) (naturals_back ns)
+naturals_back (n ∷ ns) = ap (λ (m : ℕ). m ∷ map (digits_value 10) (map natural_text ns)) (natural_back n) ∙ ap (λ (ms : List ℕ). n ∷ ms) (naturals_back ns)
 
 header_back : (h : ScriptHeader) → header_in (header_tokens h) ≡ Some h
 header_back h =
     let made = λ (n : ℕ) (ns : List ℕ). let m : ScriptHeader = record { word = h.word; first = n; others = ns } in m in
-    ap (option_map (λ w. record { word = w; first = natural_in (natural_text h.first); others = map natural_in (map natural_text h.others) })) (word_again h.word)
-    ∙ ap (λ (n : ℕ). Some (made n (map natural_in (map natural_text h.others)))) (natural_back h.first) ∙ ap (λ (ns : List ℕ). Some (made h.first ns)) (naturals_back h.others)
+    ap (option_map (λ w. record { word = w; first = digits_value 10 (natural_text h.first); others = map (digits_value 10) (map natural_text h.others) })) (word_again h.word)
+    ∙ ap (λ (n : ℕ). Some (made n (map (digits_value 10) (map natural_text h.others)))) (natural_back h.first) ∙ ap (λ (ns : List ℕ). Some (made h.first ns)) (naturals_back h.others)
 
 -- ---- only lines are read
 shaped : (s : Shape) (ts : List (List ℕ)) → s ≡ shape_of (operands_in s ts)
@@ -92,7 +97,7 @@ may true op (Some r) is = is
 apply_is : (dest : ℕ) (p : Option Policy) (o : Option Op) (ts : List (List ℕ)) (l : ScriptLine) → apply_in dest p o ts ≡ Some l → IsLine l
 apply_is dest None o ts l e = cc
 apply_is dest (Some p) None ts l e = cc
-apply_is dest (Some p) (Some o) ts l e = subst IsLine (same_Some (Apply dest p o (operands_in (shape o) ts) (rounding_in o ts)) l e) (shaped (shape o) ts, may (takes_rounding o) o (rounding_named (token ts (operand_count (shape o)))) refl)
+apply_is dest (Some p) (Some o) ts l e = subst IsLine (same_Some (Apply dest p o (operands_in (shape o) ts) (rounding_in o ts)) l e) (shaped (shape o) ts, may (takes_rounding o) o (rounding_named (token ts (length ts - 1))) refl)
 
 pub line_is : (ts : List (List ℕ)) (l : ScriptLine) → line_in ts ≡ Some l → IsLine l
 line_is ts l e = by_name (bytes_eq (token ts 1) (codes "set")) e
@@ -138,12 +143,12 @@ none_from piece (Some l) is h = let p = (reads_lines piece l).0 is in absurd (h 
 pub line_tells : (piece front : List ℕ) (r : Option Line) → body piece ≡ Some front → IfNone r ((l : ScriptLine) → IsLine l → line_text l ≡ front → ⊥)
     → IfSome r (λ read. (l : ScriptLine) × IsLine l × (line_text l ≡ front) × (checked_script_line read ≡ Some (capped l))) → ReadsLine piece r
 unfolding line_of_piece
-line_tells piece front None is none found = ap (λ o. then_of o line_of) is ∙ none_from front (line_of front) refl none
-line_tells piece front (Some read) is none found = (found.0, ap (λ o. then_of o line_of) is ∙ (reads_lines front found.0).1 (found.1, found.2), found.3)
+line_tells piece front None is none found = ap (λ o. option_and_then line_of o) is ∙ none_from front (line_of front) refl none
+line_tells piece front (Some read) is none found = (found.0, ap (λ o. option_and_then line_of o) is ∙ (reads_lines front found.0).1 (found.1, found.2), found.3)
 
 pub no_front : (piece : List ℕ) → body piece ≡ None → line_of_piece piece ≡ None
 unfolding line_of_piece
-no_front piece is = ap (λ o. then_of o line_of) is
+no_front piece is = ap (λ o. option_and_then line_of o) is
 
 no_header_from : (piece : List ℕ) (o : Option ScriptHeader) → header_of piece ≡ o → ((h : ScriptHeader) → header_text h ≡ piece → ⊥) → o ≡ None
 no_header_from piece None is h = refl
@@ -152,9 +157,9 @@ no_header_from piece (Some l) is h = absurd (h l ((reads_headers piece l).0 is))
 pub header_tells : (piece front : List ℕ) (r : Option CappedHeader) → body piece ≡ Some front → IfNone r ((h : ScriptHeader) → header_text h ≡ front → ⊥)
     → IfSome r (λ read. (h : ScriptHeader) × (header_text h ≡ front) × (read ≡ capped_header h)) → ReadsHeader piece r
 unfolding header_of_piece
-header_tells piece front None is none found = ap (λ o. then_of o header_of) is ∙ no_header_from front (header_of front) refl none
-header_tells piece front (Some read) is none found = (found.0, ap (λ o. then_of o header_of) is ∙ (reads_headers front found.0).1 found.1, found.2)
+header_tells piece front None is none found = ap (λ o. option_and_then header_of o) is ∙ no_header_from front (header_of front) refl none
+header_tells piece front (Some read) is none found = (found.0, ap (λ o. option_and_then header_of o) is ∙ (reads_headers front found.0).1 found.1, found.2)
 
 pub no_front_header : (piece : List ℕ) → body piece ≡ None → header_of_piece piece ≡ None
 unfolding header_of_piece
-no_front_header piece is = ap (λ o. then_of o header_of) is
+no_front_header piece is = ap (λ o. option_and_then header_of o) is

@@ -1,6 +1,6 @@
 -- The line, and the header, whose text some bytes are: a piece without its newline. And those of a piece.
-use Rattle.std.specs.Prelude.{◌≡◌, ◌↔◌, ℕ, ℤ, pos, neg_ℤ, List, [], drop, get_or, map, Option, Some, None, if◌then◌else◌, codes}
-use Rattle.std.specs.Option.{option_map}
+use Rattle.std.specs.Prelude.{◌≡◌, ◌↔◌, ℕ, ◌-◌, ℤ, pos, neg_ℤ, List, [], length, drop, get_or, map, Option, Some, None, if◌then◌else◌, codes}
+use Rattle.std.specs.Option.{option_map, option_and_then}
 use Rattle.std.specs.Str.{bytes_eq}
 use Rattle.std.specs.Str.Parse.{digits_value}
 use Rattle.fixed_word.specs.declared.rounding.Rounding.{Rounding}
@@ -19,15 +19,12 @@ use Rattle.fixed_text.specs.Numerals.{has_minus}
 abbrev pub token : List (List ℕ) → ℕ → List ℕ
 token tokens i = get_or tokens i []
 
-abbrev pub natural_in : List ℕ → ℕ
-natural_in digits = digits_value 10 digits
-
 -- (without its `r`)
 abbrev pub register_in : List ℕ → ℕ
-register_in token = natural_in (drop 1 token)
+register_in token = digits_value 10 (drop 1 token)
 
 abbrev pub whole_in : List ℕ → ℤ
-whole_in token = if has_minus token then neg_ℤ (pos (natural_in (drop 1 token))) else pos (natural_in token)
+whole_in token = if has_minus token then neg_ℤ (pos (digits_value 10 (drop 1 token))) else pos (digits_value 10 token)
 
 abbrev pub operands_in : Shape → List (List ℕ) → Operands
 operands_in Unary ts = OneRegister (register_in (token ts 0))
@@ -35,15 +32,9 @@ operands_in Binary ts = TwoRegisters (register_in (token ts 0)) (register_in (to
 operands_in ByInteger ts = RegisterAndInt (register_in (token ts 0)) (whole_in (token ts 1))
 operands_in Ternary ts = ThreeRegisters (register_in (token ts 0)) (register_in (token ts 1)) (register_in (token ts 2))
 
-abbrev pub operand_count : Shape → ℕ
-operand_count Unary = 1
-operand_count Binary = 2
-operand_count ByInteger = 2
-operand_count Ternary = 3
-
--- (of the token after the operands)
+-- (the last token names it)
 abbrev pub rounding_in : Op → List (List ℕ) → Option Rounding
-rounding_in op ts = if takes_rounding op then rounding_named (token ts (operand_count (shape op))) else None
+rounding_in op ts = if takes_rounding op then rounding_named (token ts (length ts - 1)) else None
 
 abbrev pub apply_in : ℕ → Option Policy → Option Op → List (List ℕ) → Option ScriptLine
 apply_in dest None op ts = None
@@ -56,7 +47,7 @@ line_in ts =
     else apply_in (register_in (token ts 0)) (policy_named (token ts 1)) (op_named (token ts 2)) (drop 3 ts)
 
 abbrev pub header_in : List (List ℕ) → Option ScriptHeader
-header_in ts = option_map (λ w. record { word = w; first = natural_in (token ts 1); others = map natural_in (drop 2 ts) }) (word_named (token ts 0))
+header_in ts = option_map (λ w. record { word = w; first = digits_value 10 (token ts 1); others = map (digits_value 10) (drop 2 ts) }) (word_named (token ts 0))
 
 -- ---- the line whose text the bytes are
 -- what was read, if its text is these bytes again
@@ -71,15 +62,11 @@ unfoldable pub header_of : List ℕ → Option ScriptHeader
 header_of piece = if_its_text header_text piece (header_in (tokens_of piece))
 
 -- ---- the line of a piece, which ends in a newline
-abbrev pub then_of : {A B : Type 0} → Option A → (A → Option B) → Option B
-then_of None f = None
-then_of (Some x) f = f x
-
 unfoldable pub line_of_piece : List ℕ → Option ScriptLine
-line_of_piece piece = then_of (body piece) line_of
+line_of_piece piece = option_and_then line_of (body piece)
 
 unfoldable pub header_of_piece : List ℕ → Option ScriptHeader
-header_of_piece piece = then_of (body piece) header_of
+header_of_piece piece = option_and_then header_of (body piece)
 
 -- ---- the laws
 abbrev pub ReadsLines : Type 0

@@ -30,30 +30,22 @@ pub data ScriptLine : Type 0 where
   SetTo : ℕ → ℤ → ScriptLine
   Apply : ℕ → Policy → Op → Operands → Option Rounding → ScriptLine
 
--- which operands an operation takes
+-- which operands an operation takes; those not named take two registers
 abbrev pub shape : Op → Shape
 shape Neg = Unary
-shape Add = Binary
-shape Sub = Binary
-shape Mul = Binary
-shape Div = Binary
 shape Recip = Unary
-shape MulAdd = Ternary
-shape AddProd = Ternary
-shape MulInt = ByInteger
-shape DivInt = ByInteger
-shape DivEuclid = Binary
-shape DivEuclidInt = ByInteger
-shape RemEuclidInt = ByInteger
-shape NextMultipleOf = Binary
-shape Dist = Binary
 shape Sqrt = Unary
 shape Abs = Unary
 shape Signum = Unary
-shape Rem = Binary
-shape RemInt = ByInteger
-shape RemEuclid = Binary
 shape NextPowerOfTwo = Unary
+shape MulInt = ByInteger
+shape DivInt = ByInteger
+shape DivEuclidInt = ByInteger
+shape RemEuclidInt = ByInteger
+shape RemInt = ByInteger
+shape MulAdd = Ternary
+shape AddProd = Ternary
+shape _ = Binary
 
 abbrev pub shape_of : Operands → Shape
 shape_of (OneRegister a) = Unary

@@ -1,5 +1,5 @@
 -- What the parts of a step say.
-use Rattle.std.specs.Prelude.{◌≡◌, ℕ, ℤ, Bool, List, Option, Some, None, Result, Ok, Err, ⊤, true, false, not, ◌&&◌}
+use Rattle.std.specs.Prelude.{◌≡◌, ℕ, ℤ, Bool, List, Option, Some, None, Result, Ok, Err, ⊤}
 use Rattle.fixed_word.specs.declared.rounding.Rounding.{Rounding}
 use Rattle.fixed_script.specs.declared.names.Policy.{Policy}
 use Rattle.fixed_script.specs.declared.names.Op.{Op}
@@ -8,13 +8,11 @@ use Rattle.fixed_script.specs.declared.line.Line.{Line}
 use Rattle.fixed_script.specs.declared.line.Line.TheVariants.{Set, One, Two, Int, Three}
 use Rattle.fixed_script.specs.Text.{ScriptLine, SetTo, Apply, OneRegister, TwoRegisters, RegisterAndInt, ThreeRegisters}
 use Rattle.fixed_script.specs.Capped.{literal_value}
-use Rattle.fixed_word.specs.Format.{fits}
 use Rattle.fixed_word.specs.Standing.{StandsFor}
 use Rattle.fixed_word.specs.declared.outcome.Outcome.{Outcome}
-use Rattle.fixed_calc.specs.Projection.{project, is_strict}
-use Rattle.fixed_calc.specs.Machine.{Cell, State, OperandValues, operand_values, row_causes, first_of, cause, answer}
+use Rattle.fixed_calc.specs.Projection.{project}
+use Rattle.fixed_calc.specs.Machine.{Cell, State, OperandValues, operand_values, row_cause, cause, answer}
 use Rattle.fixed_calc.specs.declared.cause.Cause.{Cause}
-use Rattle.fixed_calc.specs.declared.cause.Cause.TheVariants.{Overflow}
 use Rattle.fixed_calc.specs.declared.register.OperandRegisters.{OperandRegisters}
 use Rattle.fixed_calc.specs.Step.{cell_of}
 
@@ -36,15 +34,10 @@ abbrev pub IsOutcomeOfRow : {T : Type 0} → (T → ℤ) → Bool → ℕ → Op
 IsOutcomeOfRow value signed n row None = row ≡ None
 IsOutcomeOfRow value signed n row (Some outcome) = (x : ℤ) × (row ≡ Some x) × StandsFor value signed n x outcome
 
--- what the policy makes of a number, or that it overflows
-abbrev pub IsAnswerOfNumber : Bool → ℕ → Policy → ℤ → ℕ → Result Answer Cause → Type 0
-IsAnswerOfNumber signed n policy x k (Ok a) = ((is_strict policy && not (fits signed n x)) ≡ false) × (a ≡ project policy signed n (Some x))
-IsAnswerOfNumber signed n policy x k (Err c) = ((is_strict policy && not (fits signed n x)) ≡ true) × (c ≡ Overflow k)
-
 -- what the policy makes of a row, or the row's cause
 abbrev pub IsAnswerOfRow : Bool → ℕ → Policy → Op → Option ℤ → ℕ → Result Answer Cause → Type 0
-IsAnswerOfRow signed n policy op row k (Ok a) = (first_of (row_causes signed n policy op row k) ≡ None) × (a ≡ project policy signed n row)
-IsAnswerOfRow signed n policy op row k (Err c) = first_of (row_causes signed n policy op row k) ≡ Some c
+IsAnswerOfRow signed n policy op row k (Ok a) = (row_cause signed n policy row op k ≡ None) × (a ≡ project policy signed n row)
+IsAnswerOfRow signed n policy op row k (Err c) = row_cause signed n policy row op k ≡ Some c
 
 -- the abstract line with the numbers of a line as they stand
 abbrev pub script_line_of : Line → ScriptLine

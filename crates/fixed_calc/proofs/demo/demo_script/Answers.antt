@@ -1,6 +1,7 @@
 use Rattle.std.proofs.Common.{◌≡◌, ◌+◌, ◌++◌, ◌∷◌, [], List, ℕ, ◌∙◌, ap, sym, codes}
 use Rattle.fixed_script.specs.Text.{line_text}
-use Rattle.fixed_calc.specs.Demo.{state_at, next_state, draw, drawn_line, demo_text}
+use Rattle.fixed_calc.specs.Demo.{state_at, drawn_line, demo_text}
+use Rattle.fixed_calc.specs.inside.Draws.{next_state, draw}
 use Rattle.fixed_calc.proofs.Pushed.{state_zero, state_more, demo_text_zero, demo_text_more}
 use Rattle.fixed_calc.proofs.demo.demo_script.Goals as goal
 

@@ -2,24 +2,14 @@
 use Rattle.std.proofs.Common.{◌≡◌, ℕ, subst}
 use Rattle.fixed_calc.specs.Calls.{WritesOfStatus}
 use Rattle.fixed_calc.specs.Demo.{summary}
-use Rattle.fixed_calc.specs.Headline.{WhenDemoDone, WhenDemoWriteFault, WhenDemoMemory}
+use Rattle.fixed_calc.specs.Headline.{IsEndOfDemo}
 use Rattle.fixed_calc.proofs.Asked.{one_asked}
 use Rattle.fixed_calc.proofs.top.status_of.Goals as goal
 
-pub returns-in-Some-Demo-clause-demo_done : goal.returns-in-Some-Demo-clause-demo_done
-returns-in-Some-Demo-clause-demo_done g c = λ n asked.
+pub returns-in-Some-Demo-clause-demo : goal.returns-in-Some-Demo-clause-demo
+returns-in-Some-Demo-clause-demo g c = λ n asked.
     let same = one_asked c.args.words.now c.in-Some-Demo.lines n (rw c.in-Some-Demo.field-0-is at c.in-Some-Demo.ensures) asked in
-    subst (λ (m : ℕ). WhenDemoDone m (g.K.Sink.state c.args.sink.now) (g.K.Sink.state c.demonstrate.new.sink) c.demonstrate.result) same c.demonstrate.ensures.done
-
-pub returns-in-Some-Demo-clause-demo_write_fault : goal.returns-in-Some-Demo-clause-demo_write_fault
-returns-in-Some-Demo-clause-demo_write_fault g c = λ n asked.
-    let same = one_asked c.args.words.now c.in-Some-Demo.lines n (rw c.in-Some-Demo.field-0-is at c.in-Some-Demo.ensures) asked in
-    subst (λ (m : ℕ). WhenDemoWriteFault m (g.K.Sink.state c.args.sink.now) (g.K.Sink.state c.demonstrate.new.sink) c.demonstrate.result) same c.demonstrate.ensures.write_fault
-
-pub returns-in-Some-Demo-clause-demo_memory : goal.returns-in-Some-Demo-clause-demo_memory
-returns-in-Some-Demo-clause-demo_memory g c = λ n asked.
-    let same = one_asked c.args.words.now c.in-Some-Demo.lines n (rw c.in-Some-Demo.field-0-is at c.in-Some-Demo.ensures) asked in
-    subst (λ (m : ℕ). WhenDemoMemory m (g.K.Sink.state c.args.sink.now) (g.K.Sink.state c.demonstrate.new.sink) c.demonstrate.result) same c.demonstrate.ensures.memory
+    subst (λ (m : ℕ). IsEndOfDemo (g.K.Sink.state c.args.sink.now) (g.K.Sink.state c.demonstrate.new.sink) (summary m) c.demonstrate.result) same c.demonstrate.ensures.summary
 
 pub returns-in-Some-Demo-clause-demo_writes : goal.returns-in-Some-Demo-clause-demo_writes
 returns-in-Some-Demo-clause-demo_writes g c = λ n asked.
