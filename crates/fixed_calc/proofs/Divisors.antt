@@ -18,6 +18,10 @@ divided value signed n (pos (suc d)) x outcome some stands = (x, refl, stands)
 divided value signed n (negsuc d) x outcome some stands = (x, refl, stands)
 
 -- where it is 0, there is none
+pub no_row : (d x : ℤ) → d ≡ pos 0 → by_divisor d x ≡ None
+no_row d x is = rw is refl
+
+-- of an operation with a divisor there is none where that is 0
 pub undivided : (op : Op) (a c : ℤ) (f g h : ℕ) → group op ≡ ByDivisor → exact op a (pos 0) c f g h ≡ None
 unfolding exact
 undivided Neg a c f g h e = cc
