@@ -3,8 +3,8 @@
 //! Each function of [`checked`], [`overflowing`], [`wrapping`], [`saturating`] and [`strict`] runs the typed
 //! call of the operation that it is given, on numbers of one word, and answers what that call answers, its
 //! number by its bits. Its contract is that the machine answers just that to the line of that policy and
-//! operation, whatever registers of the word hold these bits and fractions. Those of [`forms`] do so for four
-//! policies at once.
+//! operation, whatever registers of the word hold these bits and fractions. Those of [`forms`] run the calls
+//! of all policies but strict, and say how their answers agree.
 //!
 //! Conditions: the operation takes these operands and is offered under the policy on the word, and each
 //! fraction is at most the width. All operations stand here in each policy under which the calculator offers
