@@ -12,8 +12,9 @@ use std::test::Fail;
 /// Asserts that the script runs in the room, which suffices for it, with these answers.
 fn runs(rt: &impl Abort, room: &mut Room, script: &str, expected: Result<(), Cause>, want: &str) {
     if room.suffices(script.as_bytes()) {
-        assert_eq!(rt; run_in(script.as_bytes(), room), expected, "{script}");
-        assert_eq!(rt; room.answers(), want.as_bytes(), "{script}");
+        let found = run_in(script.as_bytes(), room);
+        let wanted = (expected, want.as_bytes());
+        assert_eq!(rt; (found, room.answers()), wanted, "{script}");
     } else {
         assert!(rt; false, "room for {script}");
     }
@@ -38,6 +39,16 @@ fn room_for_a_script(rt: HostRuntime) -> Result<(), Fail> {
     runs(&rt, &mut room, "i32 16\n", Ok(()), "");
     assert_eq!(rt; room.registers(), 1);
     Ok(())
+}
+
+/// Whether the room has registers of these bits, and no other.
+fn has_registers(room: &Room, bits: &[i128]) -> bool {
+    for index in 0..bits.len() {
+        if room.registers() <= index || room.bits_at(index) != bits[index] {
+            return false;
+        }
+    }
+    room.registers() == bits.len()
 }
 
 /// A room serves one script after another: each run leaves its own answers and registers alone.
@@ -71,12 +82,7 @@ fn one_room_for_many(rt: HostRuntime) -> Result<(), Fail> {
         ("i8\n", Err(Cause::Syntax(1)), "", &[]),
     ] {
         runs(&rt, &mut room, script, expected, want);
-        assert_eq!(rt; room.registers(), registers.len(), "{script}");
-        for index in 0..registers.len() {
-            if index < room.registers() {
-                assert_eq!(rt; room.bits_at(index), registers[index], "{script}");
-            }
-        }
+        assert!(rt; has_registers(&room, registers), "registers of {script}");
     }
     runs(&rt, &mut room, longest, Err(Cause::Overflow(4)), "5\n7\n");
     assert_eq!(rt; room.into_answers().as_bytes(), b"5\n7\n".as_slice());
@@ -88,13 +94,17 @@ fn steps(rt: &impl Abort, room: &mut Room, text: &str, expected: Result<Answer, 
     requires { IsSome room.old.word }
     ensures { IsSome room.new.word }
 {
-    match parse_line(text.as_bytes()) {
-        Some(line) => assert_eq!(rt; step(room, &line, 9), expected, "{text}"),
-        None => assert!(rt; false, "{text}"),
-    }
-    if 0 < room.registers() {
-        assert_eq!(rt; room.bits_at(0), bits, "{text}");
-    }
+    let found = match parse_line(text.as_bytes()) {
+        Some(line) => Some(step(room, &line, 9)),
+        None => None,
+    };
+    let first = if 0 < room.registers() {
+        Some(room.bits_at(0))
+    } else {
+        None
+    };
+    let wanted = (Some(expected), Some(bits));
+    assert_eq!(rt; (found, first), wanted, "{text}");
 }
 
 /// Each cause leaves the registers.
@@ -177,11 +187,6 @@ fn step_each(rt: &impl Abort, room: &mut Room)
         b: 0,
         rounding: None,
     };
-    assert_eq!(rt;
-        step(room, &misshapen, 4),
-        Err(Cause::Syntax(4)),
-        "one operand too many"
-    );
     let rounded = Line::Two {
         dest: 0,
         policy: Policy::Checked,
@@ -190,12 +195,16 @@ fn step_each(rt: &impl Abort, room: &mut Room)
         b: 0,
         rounding: Some(Rounding::Even),
     };
-    assert_eq!(rt;
-        step(room, &rounded, 4),
-        Err(Cause::Syntax(4)),
-        "a sum has nothing to round"
+    let found = [step(room, &misshapen, 4), step(room, &rounded, 4)];
+    let wanted = (
+        [Err(Cause::Syntax(4)), Err(Cause::Syntax(4))],
+        b"".as_slice(),
     );
-    assert_eq!(rt; room.answers(), b"".as_slice(), "a step adds no answer");
+    assert_eq!(rt;
+        (found, room.answers()),
+        wanted,
+        "one operand too many, nothing to round, and a step adds no answer"
+    );
 }
 
 /// Asserts that declaring the header has this result and leaves so many registers.
@@ -206,17 +215,18 @@ fn declares(
     expected: Result<(), Cause>,
     registers: usize,
 ) {
-    match parse_header(text.as_bytes()) {
+    let found = match parse_header(text.as_bytes()) {
         Some(header) => {
             if room.has_room_for(&header) {
-                assert_eq!(rt; room.declare(&header), expected, "{text}");
+                Some(room.declare(&header))
             } else {
-                assert!(rt; false, "{text}");
+                None
             }
         }
-        None => assert!(rt; false, "{text}"),
-    }
-    assert_eq!(rt; room.registers(), registers, "{text}");
+        None => None,
+    };
+    let wanted = (Some(expected), registers);
+    assert_eq!(rt; (found, room.registers()), wanted, "{text}");
 }
 
 /// A room steps by hand: a header is declared, and each line is one call.
@@ -224,11 +234,11 @@ fn declares(
 fn steps_by_hand(rt: HostRuntime) -> Result<(), Fail> {
     let alloc = rt.alloc();
     let mut room = Room::for_script(alloc, b"i8 4 4 2\n")?;
-    assert_eq!(rt; room.word(), None);
-    match parse_header(b"i8 4 4 2 1") {
-        Some(header) => assert!(rt; !room.has_room_for(&header), "four fractions"),
-        None => assert!(rt; false, "a header"),
-    }
+    let four_fit = match parse_header(b"i8 4 4 2 1") {
+        Some(header) => room.has_room_for(&header),
+        None => true,
+    };
+    assert!(rt; room.word().is_none() && !four_fit, "four fractions");
     declares(&rt, &mut room, "i8 9", Err(Cause::OutOfRange(1)), 0);
     declares(&rt, &mut room, "u8 8 8", Ok(()), 2);
     declares(&rt, &mut room, "i8 8 9 8", Err(Cause::OutOfRange(1)), 0);
@@ -243,10 +253,12 @@ fn steps_by_hand(rt: HostRuntime) -> Result<(), Fail> {
         }
         None => assert!(rt; false, "a header"),
     }
-    assert_eq!(rt; room.word(), Some(WordName::I8));
-    if 2 < room.registers() {
-        assert_eq!(rt; room.fraction_at(2), 2);
-    }
+    let last = if 2 < room.registers() {
+        Some(room.fraction_at(2))
+    } else {
+        None
+    };
+    assert_eq!(rt; (room.word(), last), (Some(WordName::I8), Some(2)));
     Ok(())
 }
 
@@ -255,11 +267,14 @@ fn steps_by_hand(rt: HostRuntime) -> Result<(), Fail> {
 fn bytes_in_and_out(rt: HostRuntime) -> Result<(), Fail> {
     let alloc = rt.alloc();
     let script = Script::new(b"i8 4\n".to_vec(alloc)?);
-    assert_eq!(rt; script.as_bytes(), b"i8 4\n".as_slice());
-    assert_eq!(rt; script.into_bytes().as_slice(), b"i8 4\n".as_slice());
     let answers = Answers::new(b"5\n".to_vec(alloc)?);
-    assert_eq!(rt; answers.as_bytes(), b"5\n".as_slice());
-    assert_eq!(rt; answers.into_bytes().as_slice(), b"5\n".as_slice());
+    let lent = script.as_bytes() == b"i8 4\n".as_slice() && answers.as_bytes() == b"5\n".as_slice();
+    let (script, answers) = (script.into_bytes(), answers.into_bytes());
+    assert!(rt; lent, "bytes lent");
+    assert_eq!(rt;
+        (script.as_slice(), answers.as_slice()),
+        (b"i8 4\n".as_slice(), b"5\n".as_slice())
+    );
     Ok(())
 }
 
@@ -283,12 +298,11 @@ fn texts_and_numbers(rt: HostRuntime) -> Result<(), Fail> {
     ] {
         assert_eq!(rt; status.code(), code, "{status:?}");
     }
-    let cause = RunFault::Script(Cause::Overflow(3));
+    let cause = format!(in alloc; "{}", RunFault::Script(Cause::Overflow(3)))?;
+    let memory = format!(in alloc; "{}", RunFault::Memory)?;
     assert_eq!(rt;
-        format!(in alloc; "{cause}")?.as_str(),
-        "a line has a cause"
+        [cause.as_str(), memory.as_str()],
+        ["a line has a cause", "out of memory"]
     );
-    let memory = RunFault::Memory;
-    assert_eq!(rt; format!(in alloc; "{memory}")?.as_str(), "out of memory");
     Ok(())
 }

@@ -35,21 +35,22 @@ fn call(alloc: Global, texts: &[&str]) -> Result<Called, Fail> {
     })
 }
 
-/// Asserts that the source still has all its bytes.
-fn is_unread(rt: &impl Abort, source: &mut SureSource, texts: &[&str]) {
+/// Asserts that the call left this status, wrote and told these bytes, and read nothing: the source still has all its
+/// bytes.
+fn leaves(rt: &impl Abort, seen: &mut Called, texts: &[&str], wanted: (Status, &[u8], &[u8])) {
     let mut left = [0; 8];
-    assert_eq!(rt; source.read(&mut left), Ok(5), "{texts:?}");
-    assert_eq!(rt; left, *b"i8 4\n\0\0\0", "{texts:?}");
+    let unread = seen.source.read(&mut left) == Ok(5) && left == *b"i8 4\n\0\0\0";
+    let (status, taken, told) = wanted;
+    let found = (seen.status, seen.sink.taken(), seen.errors.taken(), unread);
+    assert_eq!(rt; found, (status, taken, told, true), "{texts:?}");
 }
 
 /// Asserts that the words `demo N` write this summary and read nothing.
 fn sums_up(rt: &impl Abort, alloc: Global, lines: &str, summary: &str) -> Result<(), Fail> {
     let texts = ["demo", lines];
     let mut seen = call(alloc, &texts)?;
-    assert_eq!(rt; seen.status, Status::Done, "{texts:?}");
-    assert_eq!(rt; seen.sink.taken(), summary.as_bytes(), "{texts:?}");
-    assert_eq!(rt; seen.errors.taken(), b"".as_slice(), "{texts:?}");
-    is_unread(rt, &mut seen.source, &texts);
+    let wanted = (Status::Done, summary.as_bytes(), b"".as_slice());
+    leaves(rt, &mut seen, &texts, wanted);
     Ok(())
 }
 
@@ -57,6 +58,7 @@ fn sums_up(rt: &impl Abort, alloc: Global, lines: &str, summary: &str) -> Result
 #[test]
 fn faulty_words(rt: HostRuntime) -> Result<(), Fail> {
     let alloc = rt.alloc();
+    assert_eq!(rt; Status::Usage.code(), 2);
     for texts in [
         ["x"].as_slice(),
         &[""],
@@ -70,15 +72,9 @@ fn faulty_words(rt: HostRuntime) -> Result<(), Fail> {
         &["Demo", "1"],
     ] {
         let mut seen = call(alloc, texts)?;
-        assert_eq!(rt; seen.status, Status::Usage, "{texts:?}");
-        assert_eq!(rt; seen.status.code(), 2, "{texts:?}");
-        assert_eq!(rt; seen.sink.taken(), b"".as_slice(), "{texts:?}");
-        assert_eq!(rt;
-            seen.errors.taken(),
-            b"usage: fixed_prog [demo N]\n".as_slice(),
-            "{texts:?}"
-        );
-        is_unread(&rt, &mut seen.source, texts);
+        let usage = b"usage: fixed_prog [demo N]\n".as_slice();
+        let wanted = (Status::Usage, b"".as_slice(), usage);
+        leaves(&rt, &mut seen, texts, wanted);
     }
     Ok(())
 }

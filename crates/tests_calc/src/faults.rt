@@ -1,6 +1,7 @@
 //! A source, a sink and errors that fail.
 
 use super::devices::Failing;
+use super::same::all_same;
 use fixed_calc::{Cause, Sink, Source, Status, SureSink, SureSource, calc_main};
 use std::test::Fail;
 
@@ -8,21 +9,17 @@ use std::test::Fail;
 #[test]
 fn failing_reads(rt: HostRuntime) -> Result<(), Fail> {
     let alloc = rt.alloc();
+    assert_eq!(rt; Status::ReadFault.code(), 3);
     for calls in [0, 1, 5] {
         let words = Vec::new(alloc);
         let mut source = Failing::after(calls);
         let mut sink = SureSink::new(alloc);
         let mut errors = SureSink::new(alloc);
         let status = calc_main(alloc, &words, &mut source, &mut sink, &mut errors);
-        assert_eq!(rt; status, Status::ReadFault, "after {calls} calls");
-        assert_eq!(rt; status.code(), 3, "after {calls} calls");
-        assert_eq!(rt; source.faults, 1, "after {calls} calls");
-        assert_eq!(rt; sink.taken(), b"".as_slice(), "after {calls} calls");
-        assert_eq!(rt;
-            errors.taken(),
-            b"read fault\n".as_slice(),
-            "after {calls} calls"
-        );
+        let found = (status, source.faults, sink.taken(), errors.taken());
+        let line = b"read fault\n".as_slice();
+        let wanted = (Status::ReadFault, 1, b"".as_slice(), line);
+        assert_eq!(rt; found, wanted, "after {calls} calls");
     }
     Ok(())
 }
@@ -31,20 +28,16 @@ fn failing_reads(rt: HostRuntime) -> Result<(), Fail> {
 #[test]
 fn failing_writes(rt: HostRuntime) -> Result<(), Fail> {
     let alloc = rt.alloc();
+    assert_eq!(rt; Status::WriteFault.code(), 4);
     for calls in [0, 1, 2] {
         let words = Vec::new(alloc);
         let mut source = SureSource::new(b"i8 4\nr0 set 15\n".to_vec(alloc)?);
         let mut sink = Failing::after(calls);
         let mut errors = SureSink::new(alloc);
         let status = calc_main(alloc, &words, &mut source, &mut sink, &mut errors);
-        assert_eq!(rt; status, Status::WriteFault, "after {calls} calls");
-        assert_eq!(rt; status.code(), 4, "after {calls} calls");
-        assert_eq!(rt; sink.taken, calls, "after {calls} calls");
-        assert_eq!(rt;
-            errors.taken(),
-            b"write fault\n".as_slice(),
-            "after {calls} calls"
-        );
+        let found = (status, sink.taken, errors.taken());
+        let wanted = (Status::WriteFault, calls, b"write fault\n".as_slice());
+        assert_eq!(rt; found, wanted, "after {calls} calls");
     }
     Ok(())
 }
@@ -61,14 +54,9 @@ fn failing_summary(rt: HostRuntime) -> Result<(), Fail> {
         let mut sink = Failing::after(calls);
         let mut errors = SureSink::new(alloc);
         let status = calc_main(alloc, &words, &mut source, &mut sink, &mut errors);
-        assert_eq!(rt; status, Status::WriteFault, "after {calls} calls");
-        assert_eq!(rt; source.faults, 0, "after {calls} calls");
-        assert_eq!(rt; sink.taken, calls, "after {calls} calls");
-        assert_eq!(rt;
-            errors.taken(),
-            b"write fault\n".as_slice(),
-            "after {calls} calls"
-        );
+        let found = (status, source.faults, sink.taken, errors.taken());
+        let wanted = (Status::WriteFault, 0, calls, b"write fault\n".as_slice());
+        assert_eq!(rt; found, wanted, "after {calls} calls");
     }
     Ok(())
 }
@@ -82,9 +70,8 @@ fn writes_before_a_fault(rt: HostRuntime) -> Result<(), Fail> {
     let mut sink = Failing::after(3);
     let mut errors = SureSink::new(alloc);
     let status = calc_main(alloc, &words, &mut source, &mut sink, &mut errors);
-    assert_eq!(rt; status, Status::Done);
-    assert_eq!(rt; sink.taken, 3);
-    assert_eq!(rt; errors.taken(), b"".as_slice());
+    let found = (status, sink.taken, errors.taken());
+    assert_eq!(rt; found, (Status::Done, 3, b"".as_slice()));
     Ok(())
 }
 
@@ -98,13 +85,9 @@ fn failing_errors(rt: HostRuntime) -> Result<(), Fail> {
         let mut sink = SureSink::new(alloc);
         let mut errors = Failing::after(calls);
         let status = calc_main(alloc, &words, &mut source, &mut sink, &mut errors);
-        assert_eq!(rt;
-            status,
-            Status::Script(Cause::Syntax(2)),
-            "after {calls} calls"
-        );
-        assert_eq!(rt; errors.taken, calls, "after {calls} calls");
-        assert_eq!(rt; sink.taken(), b"".as_slice(), "after {calls} calls");
+        let found = (status, errors.taken, sink.taken());
+        let wanted = (Status::Script(Cause::Syntax(2)), calls, b"".as_slice());
+        assert_eq!(rt; found, wanted, "after {calls} calls");
     }
     Ok(())
 }
@@ -115,14 +98,21 @@ fn memory_forms(rt: HostRuntime) -> Result<(), Fail> {
     let alloc = rt.alloc();
     let mut source = SureSource::new(b"abcde".to_vec(alloc)?);
     let mut buffer = [0; 4];
-    assert_eq!(rt; source.read(&mut buffer), Ok(4));
-    assert_eq!(rt; buffer, *b"abcd");
-    assert_eq!(rt; source.read(&mut buffer), Ok(1));
-    assert_eq!(rt; buffer[0], b'e');
-    assert_eq!(rt; source.read(&mut buffer), Ok(0));
+    let first = (source.read(&mut buffer), buffer);
+    let second = (source.read(&mut buffer), buffer);
+    let third = (source.read(&mut buffer), buffer);
     let mut sink = SureSink::new(alloc);
-    assert_eq!(rt; sink.write(b"abc"), Ok(3));
-    assert_eq!(rt; sink.write(b"de"), Ok(2));
+    let whole = sink.write(b"abc");
+    let rest = sink.write(b"de");
+    all_same(
+        &rt,
+        &[
+            ("the first read", first, (Ok(4), *b"abcd")),
+            ("the second", second, (Ok(1), *b"ebcd")),
+            ("the third", third, (Ok(0), *b"ebcd")),
+        ],
+    );
+    all_same(&rt, &[("a write", whole, Ok(3)), ("another", rest, Ok(2))]);
     assert_eq!(rt; sink.taken(), b"abcde".as_slice());
     Ok(())
 }

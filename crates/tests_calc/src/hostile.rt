@@ -1,6 +1,7 @@
 //! Sources and sinks in memory of which any call may fail, a source without an end, and scripts cut short.
 
 use super::devices::Endless;
+use super::same::all_same;
 use fixed_calc::{
     Cause, Failed, MemorySink, MemorySource, Refusal, Sink, Source, Status, SureSink, calc_main,
 };
@@ -50,9 +51,8 @@ fn leaves(
     let failing = one_failing(alloc, tells.failing)?;
     let mut errors = MemorySink::new(alloc, tells.most.max(1), failing);
     let status = calc_main(alloc, &words, &mut source, &mut sink, &mut errors);
-    assert_eq!(rt; status, want.0, "{reads:?} {writes:?} {tells:?}");
-    assert_eq!(rt; sink.taken(), want.1, "{reads:?} {writes:?} {tells:?}");
-    assert_eq!(rt; errors.taken(), want.2, "{reads:?} {writes:?} {tells:?}");
+    let found = (status, sink.taken(), errors.taken());
+    assert_eq!(rt; found, want, "{reads:?} {writes:?} {tells:?}");
     Ok(())
 }
 
@@ -130,9 +130,9 @@ fn endless_input(rt: HostRuntime) {
     let mut sink = SureSink::new(alloc);
     let mut errors = SureSink::new(alloc);
     let status = calc_main(alloc, &words, &mut Endless, &mut sink, &mut errors);
-    assert_eq!(rt; status, Status::TooLong);
-    assert_eq!(rt; sink.taken(), b"".as_slice());
-    assert_eq!(rt; errors.taken(), b"too long\n".as_slice());
+    let found = (status, sink.taken(), errors.taken());
+    let line = b"too long\n".as_slice();
+    assert_eq!(rt; found, (Status::TooLong, b"".as_slice(), line));
 }
 
 /// A script that is cut within a line has `Syntax` there; one that is cut after a newline is done.
@@ -147,12 +147,12 @@ fn each_prefix(rt: HostRuntime) -> Result<(), Fail> {
         let mut sink = SureSink::new(alloc);
         let mut errors = SureSink::new(alloc);
         let status = calc_main(alloc, &words, &mut source, &mut sink, &mut errors);
-        if ended {
-            assert_eq!(rt; status, Status::Done, "the first {at} bytes");
+        let wanted = if ended {
+            Status::Done
         } else {
-            let cause = Cause::Syntax(line);
-            assert_eq!(rt; status, Status::Script(cause), "the first {at} bytes");
-        }
+            Status::Script(Cause::Syntax(line))
+        };
+        assert_eq!(rt; status, wanted, "the first {at} bytes");
         ended = SCRIPT[at] == b'\n';
         if ended {
             line = line.saturating_add(1);
@@ -182,8 +182,8 @@ fn thousand_digits(rt: HostRuntime) -> Result<(), Fail> {
         let mut sink = SureSink::new(alloc);
         let mut errors = SureSink::new(alloc);
         let status = calc_main(alloc, &words, &mut source, &mut sink, &mut errors);
-        assert_eq!(rt; status, Status::Script(cause), "{front}");
-        assert_eq!(rt; sink.taken(), b"".as_slice(), "{front}");
+        let found = (status, sink.taken());
+        assert_eq!(rt; found, (Status::Script(cause), b"".as_slice()), "{front}");
     }
     Ok(())
 }
@@ -194,15 +194,31 @@ fn calls_that_fail(rt: HostRuntime) -> Result<(), Fail> {
     let alloc = rt.alloc();
     let mut source = MemorySource::new(b"abcde".to_vec(alloc)?, 3, one_failing(alloc, 2)?);
     let mut buffer = [0; 4];
-    assert_eq!(rt; source.read(&mut buffer), Ok(3));
-    assert_eq!(rt; source.read(&mut buffer), Err(Failed));
-    assert_eq!(rt; source.read(&mut buffer), Ok(2));
-    assert_eq!(rt; buffer[1], b'e');
-    assert_eq!(rt; source.read(&mut buffer), Ok(0));
+    let first = (source.read(&mut buffer), buffer);
+    let failed = (source.read(&mut buffer), buffer);
+    let second = (source.read(&mut buffer), buffer);
+    let end = (source.read(&mut buffer), buffer);
     let mut sink = MemorySink::new(alloc, 2, one_failing(alloc, 2)?);
-    assert_eq!(rt; sink.write(b"abc"), Ok(2));
-    assert_eq!(rt; sink.write(b"c"), Err(Refusal::Failed));
-    assert_eq!(rt; sink.write(b"c"), Ok(1));
+    let begun = sink.write(b"abc");
+    let refused = sink.write(b"c");
+    let ended = sink.write(b"c");
+    all_same(
+        &rt,
+        &[
+            ("the first read", first, (Ok(3), *b"abc\0")),
+            ("the one that fails", failed, (Err(Failed), *b"abc\0")),
+            ("the next", second, (Ok(2), *b"dec\0")),
+            ("the end", end, (Ok(0), *b"dec\0")),
+        ],
+    );
+    all_same(
+        &rt,
+        &[
+            ("the first write", begun, Ok(2)),
+            ("the one that fails", refused, Err(Refusal::Failed)),
+            ("the next", ended, Ok(1)),
+        ],
+    );
     assert_eq!(rt; sink.taken(), b"abc".as_slice());
     Ok(())
 }

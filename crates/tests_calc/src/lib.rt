@@ -22,6 +22,8 @@ mod quick;
 #[cfg(test)]
 mod refused;
 #[cfg(test)]
+mod same;
+#[cfg(test)]
 mod spelled;
 #[cfg(test)]
 mod text;

@@ -1,5 +1,6 @@
 //! Headers and lines, each kind once.
 
+use super::same::all_hold;
 use fixed_script::*;
 use std::test::Fail;
 
@@ -12,6 +13,24 @@ fn whole(below_zero: bool, magnitude: u128) -> Literal {
 
 fn set(dest: u128, literal: Literal) -> Line {
     Line::Set { dest, literal }
+}
+
+/// Whether the text is a header of that word and those fractions.
+fn is_header(text: &str, word: WordName, fractions: &[u128]) -> bool {
+    match parse_header(text.as_bytes()) {
+        Some(header) => {
+            let mut at = 0;
+            for fraction in header.fractions() {
+                if at < fractions.len() && fraction == fractions[at] {
+                    at += 1;
+                } else {
+                    return false;
+                }
+            }
+            header.word() == word && at == fractions.len()
+        }
+        None => false,
+    }
 }
 
 /// A header gives its word and its fractions, those of `2^64` or more as `2^64`.
@@ -40,19 +59,7 @@ fn headers(rt: HostRuntime) -> Result<(), Fail> {
             &[18_446_744_073_709_551_616],
         ),
     ] {
-        match parse_header(text.as_bytes()) {
-            Some(header) => {
-                assert_eq!(rt; header.word(), word, "{text}");
-                let mut at = 0;
-                for fraction in header.fractions() {
-                    assert!(rt; at < fractions.len(), "{text}");
-                    assert_eq!(rt; fraction, fractions[at], "{text}");
-                    at += 1;
-                }
-                assert_eq!(rt; at, fractions.len(), "{text}");
-            }
-            None => assert!(rt; false, "{text}"),
-        }
+        assert!(rt; is_header(text, word, fractions), "{text}");
     }
     assert!(rt; parse_header(b"i8 4\n").is_none(), "a newline");
     Ok(())
@@ -196,12 +203,18 @@ fn texts_of_no_line(rt: HostRuntime) -> Result<(), Fail> {
 /// A piece has its newline.
 #[test]
 fn pieces(rt: HostRuntime) {
-    assert_eq!(rt;
-        line_of_piece(b"r3 set -129\n"),
-        Some(set(3, whole(true, 129)))
+    let line = line_of_piece(b"r3 set -129\n") == Some(set(3, whole(true, 129)));
+    all_hold(
+        &rt,
+        &[
+            ("a line", line),
+            ("no newline", line_of_piece(b"r3 set -129").is_none()),
+            ("a header", header_of_piece(b"i8 4\n").is_some()),
+            (
+                "a header with no newline",
+                header_of_piece(b"i8 4").is_none(),
+            ),
+            ("three operands", shape_of(Op::MulAdd) == Shape::Ternary),
+        ],
     );
-    assert_eq!(rt; line_of_piece(b"r3 set -129"), None);
-    assert!(rt; header_of_piece(b"i8 4\n").is_some(), "a header");
-    assert!(rt; header_of_piece(b"i8 4").is_none(), "no newline");
-    assert!(rt; shape_of(Op::MulAdd) == Shape::Ternary, "three operands");
 }

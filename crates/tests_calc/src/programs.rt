@@ -30,9 +30,9 @@ pub fn outcome(alloc: Global, script: &[u8]) -> Result<Seen, Fail> {
 /// Asserts that the script is done with these answers.
 pub fn answers(rt: &impl Abort, alloc: Global, script: &str, want: &str) -> Result<(), Fail> {
     let seen = outcome(alloc, script.as_bytes())?;
-    assert_eq!(rt; seen.status, Status::Done, "{script}");
-    assert_eq!(rt; seen.sink.taken(), want.as_bytes(), "{script}");
-    assert_eq!(rt; seen.errors.taken(), b"".as_slice(), "{script}");
+    let found = (seen.status, seen.sink.taken(), seen.errors.taken());
+    let wanted = (Status::Done, want.as_bytes(), b"".as_slice());
+    assert_eq!(rt; found, wanted, "{script}");
     Ok(())
 }
 
@@ -45,8 +45,8 @@ pub fn refuses(
     line: &str,
 ) -> Result<(), Fail> {
     let seen = outcome(alloc, script)?;
-    assert_eq!(rt; seen.status, Status::Script(cause), "{script:?}");
-    assert_eq!(rt; seen.errors.taken(), line.as_bytes(), "{script:?}");
-    assert_eq!(rt; seen.sink.taken(), b"".as_slice(), "{script:?}");
+    let found = (seen.status, seen.errors.taken(), seen.sink.taken());
+    let wanted = (Status::Script(cause), line.as_bytes(), b"".as_slice());
+    assert_eq!(rt; found, wanted, "{script:?}");
     Ok(())
 }

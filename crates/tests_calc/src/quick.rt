@@ -17,12 +17,9 @@ fn answers_either_way(rt: &impl Abort, alloc: Global, script: &str) -> Result<()
     let longer = format!(in alloc; "{script}{BEHIND}")?;
     let alone = outcome(alloc, script.as_bytes())?;
     let quick = outcome(alloc, longer.as_bytes())?;
-    assert_eq!(rt; alone.status, Status::Done, "{script}");
-    assert_eq!(rt; quick.status, Status::Done, "{script}");
-    assert!(rt;
-        quick.sink.taken().starts_with(alone.sink.taken()),
-        "{script}"
-    );
+    let done = alone.status == Status::Done && quick.status == Status::Done;
+    let same = quick.sink.taken().starts_with(alone.sink.taken());
+    assert!(rt; done && same, "{script}");
     Ok(())
 }
 

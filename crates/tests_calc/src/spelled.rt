@@ -1,6 +1,8 @@
 //! Scripts in which each line that may name a rounding does.
 
 use fixed_calc::{ExplicitFault, explicit, run};
+use std::alloc::Global;
+use std::process::Abort;
 use std::test::Fail;
 
 /// Scripts, and what is written of them.
@@ -30,24 +32,33 @@ const SPELLED: [(&str, &str); 6] = [
     ),
 ];
 
+/// Asserts that the script is spelled so.
+fn spells(rt: &impl Abort, alloc: Global, script: &str, want: &str) {
+    match explicit(alloc, script.as_bytes()) {
+        Ok(spelled) => assert_eq!(rt; spelled.as_bytes(), want.as_bytes(), "{script}"),
+        Err(fault) => assert!(rt; false, "{fault} at {script}"),
+    }
+}
+
+/// Asserts that the script has no spelling for its line of that number, and what is told of it.
+fn spells_none(rt: &impl Abort, alloc: Global, script: &str, number: u64) -> Result<(), Fail> {
+    let fault = match explicit(alloc, script.as_bytes()) {
+        Ok(_) => ExplicitFault::Memory,
+        Err(fault) => fault,
+    };
+    let told = format!(in alloc; "{fault}")?;
+    let line = format!(in alloc; "line {number}: syntax")?;
+    let holds = fault == ExplicitFault::Syntax(number) && told == line;
+    assert!(rt; holds, "{fault} at {script}");
+    Ok(())
+}
+
 #[test]
 fn spelled_scripts(rt: HostRuntime) -> Result<(), Fail> {
     let alloc = rt.alloc();
     for (script, want) in SPELLED {
-        match explicit(alloc, script.as_bytes()) {
-            Ok(spelled) => {
-                assert_eq!(rt; spelled.as_bytes(), want.as_bytes(), "{script}");
-                match explicit(alloc, spelled.as_bytes()) {
-                    Ok(again) => assert_eq!(rt;
-                        again.as_bytes(),
-                        want.as_bytes(),
-                        "{script} again"
-                    ),
-                    Err(fault) => assert!(rt; false, "{fault} at {script} again"),
-                }
-            }
-            Err(fault) => assert!(rt; false, "{fault} at {script}"),
-        }
+        spells(&rt, alloc, script, want);
+        spells(&rt, alloc, want, want);
     }
     for (script, number) in [
         ("", 1),
@@ -58,20 +69,20 @@ fn spelled_scripts(rt: HostRuntime) -> Result<(), Fail> {
         ("i8 4\nr0 strict add r0 r0 down\nr0 set 01\n", 2),
         ("i8 4\nr0 set 1\n\nr0 set 1\n", 3),
     ] {
-        match explicit(alloc, script.as_bytes()) {
-            Ok(_) => assert!(rt; false, "{script}"),
-            Err(fault) => {
-                assert_eq!(rt; fault, ExplicitFault::Syntax(number), "{script}");
-                assert_eq!(rt;
-                    format!(in alloc; "{fault}")?,
-                    format!(in alloc; "line {number}: syntax")?
-                );
-            }
-        }
+        spells_none(&rt, alloc, script, number)?;
     }
     let text = format!(in alloc; "{}", ExplicitFault::Memory)?;
     assert_eq!(rt; text.as_str(), "out of memory");
     Ok(())
+}
+
+/// Whether both runs answer the same, or have the same fault.
+fn run_alike(alloc: Global, script: &[u8], spelled: &[u8]) -> bool {
+    match (run(alloc, script), run(alloc, spelled)) {
+        (Ok(one), Ok(two)) => one.as_bytes() == two.as_bytes(),
+        (Err(one), Err(two)) => one == two,
+        _ => false,
+    }
 }
 
 /// A run of a script that is spelled out answers what the script's own answers.
@@ -83,17 +94,11 @@ fn spelled_scripts_run_alike(rt: HostRuntime) -> Result<(), Fail> {
         "i8 4 4\nr0 set 5\nr0 strict div_int r0 -2\nr0 strict div r0 r1\n",
         "i8 1\nr0 set 85\nr0 strict mul r0 r0\n",
     ] {
-        match explicit(alloc, script.as_bytes()) {
-            Ok(spelled) => match (
-                run(alloc, script.as_bytes()),
-                run(alloc, spelled.as_bytes()),
-            ) {
-                (Ok(one), Ok(two)) => assert_eq!(rt; one.as_bytes(), two.as_bytes(), "{script}"),
-                (Err(one), Err(two)) => assert_eq!(rt; one, two, "{script}"),
-                _ => assert!(rt; false, "{script}"),
-            },
-            Err(fault) => assert!(rt; false, "{fault} at {script}"),
-        }
+        let alike = match explicit(alloc, script.as_bytes()) {
+            Ok(spelled) => run_alike(alloc, script.as_bytes(), spelled.as_bytes()),
+            Err(_) => false,
+        };
+        assert!(rt; alike, "{script}");
     }
     Ok(())
 }

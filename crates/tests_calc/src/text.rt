@@ -1,6 +1,8 @@
 //! Decimals, tokens, pieces, outputs and the run over lines, each call once.
 
+use super::same::{all_hold, all_same};
 use fixed_text::*;
+use std::alloc::Global;
 use std::test::Fail;
 
 #[test]
@@ -15,14 +17,20 @@ fn decimals_read(rt: HostRuntime) {
         ("-1", None),
         ("1x", None),
     ] {
-        assert_eq!(rt; natural_of(text.as_bytes()), number, "{text}");
-        assert_eq!(rt; is_decimal(text.as_bytes()), number.is_some(), "{text}");
+        let found = (natural_of(text.as_bytes()), is_decimal(text.as_bytes()));
+        assert_eq!(rt; found, (number, number.is_some()), "{text}");
     }
-    assert_eq!(rt; value_of(b"99"), 99);
-    assert_eq!(rt; sign_of(b"-12"), (true, b"12".as_slice()));
-    assert_eq!(rt; sign_of(b"12"), (false, b"12".as_slice()));
-    assert_eq!(rt; front_natural(b"12 3"), Some((12, Some(b"3".as_slice()))));
-    assert_eq!(rt; front_natural(b"012 3"), None);
+    let front = front_natural(b"12 3");
+    all_hold(
+        &rt,
+        &[
+            ("99", value_of(b"99") == 99),
+            ("-12", sign_of(b"-12") == (true, b"12".as_slice())),
+            ("12", sign_of(b"12") == (false, b"12".as_slice())),
+            ("12 3", front == Some((12, Some(b"3".as_slice())))),
+            ("012 3", front_natural(b"012 3").is_none()),
+        ],
+    );
 }
 
 #[test]
@@ -35,29 +43,43 @@ fn decimals_written(rt: HostRuntime) {
 #[test]
 fn tokens(rt: HostRuntime) {
     let mut tokens = Tokens::new(b"u8  12345678");
-    assert_eq!(rt; tokens.take(), Some(b"u8".as_slice()));
-    assert_eq!(rt; tokens.take(), Some(b"".as_slice()));
-    assert!(rt; !tokens.is_empty(), "one token is left");
-    assert_eq!(rt; tokens.rest(), Some(b"12345678".as_slice()));
+    let (word, between) = (tokens.take(), tokens.take());
+    let (ended, rest) = (tokens.is_empty(), tokens.rest());
     tokens.go_on(None);
-    assert_eq!(rt; tokens.take(), None);
-    assert_eq!(rt;
-        cut(b"1234567890 a b"),
-        (b"1234567890".as_slice(), Some(b"a b".as_slice()))
+    let (token, left) = cut(b"1234567890 a b");
+    all_same(
+        &rt,
+        &[
+            ("a word", word, Some(b"u8".as_slice())),
+            ("between two spaces", between, Some(b"")),
+            ("the rest", rest, Some(b"12345678")),
+            ("no token", tokens.take(), None),
+            ("cut off", Some(token), Some(b"1234567890")),
+            ("what is left", left, Some(b"a b")),
+        ],
     );
-    assert_eq!(rt; word_of(b"u8"), Some(WordName::U8));
-    assert_eq!(rt; word_of(b"u9"), None);
+    let known = word_of(b"u8") == Some(WordName::U8) && word_of(b"u9").is_none();
+    assert!(rt; known && !ended, "names of words, and one token left");
 }
 
 #[test]
 fn pieces(rt: HostRuntime) {
-    assert_eq!(rt; piece_end(b"ab\ncd\n"), 3);
-    assert_eq!(rt; piece_end(b"ab"), 2);
-    assert_eq!(rt; body_of(b"ab\n"), Some(b"ab".as_slice()));
-    assert_eq!(rt; body_of(b"ab"), None);
-    assert_eq!(rt; open(b"ab\ncd"), Some((b"ab".as_slice(), b"cd".as_slice())));
-    assert_eq!(rt; open(b"ab"), None);
-    assert_eq!(rt; open(b""), None);
+    let opened = open(b"ab\ncd");
+    all_hold(
+        &rt,
+        &[
+            ("end of a piece", piece_end(b"ab\ncd\n") == 3),
+            ("end of the last", piece_end(b"ab") == 2),
+            ("body", body_of(b"ab\n") == Some(b"ab".as_slice())),
+            ("no body", body_of(b"ab").is_none()),
+            (
+                "opened",
+                opened == Some((b"ab".as_slice(), b"cd".as_slice())),
+            ),
+            ("no newline", open(b"ab").is_none()),
+            ("nothing", open(b"").is_none()),
+        ],
+    );
 }
 
 #[test]
@@ -86,51 +108,96 @@ fn wholes_read(rt: HostRuntime) {
         ("+1", None),
         ("1 ", None),
     ] {
-        assert_eq!(rt; read_decimal(text.as_bytes()), number, "{text}");
         let alone = read_only_number(Tokens::new(text.as_bytes()));
-        assert_eq!(rt; alone, number, "{text}");
+        let found = [read_decimal(text.as_bytes()), alone];
+        assert_eq!(rt; found, [number, number], "{text}");
     }
-    assert_eq!(rt; read_only_number(Tokens::new(b"1 2")), None);
-    assert_eq!(rt; read_natural(b"12"), Some(12));
-    assert_eq!(rt; read_natural(b"-12"), None);
-    assert_eq!(rt; read_numbered(b'c', b"c12"), Some(12));
-    assert_eq!(rt; read_numbered(b'c', b"r12"), None);
-    assert_eq!(rt; read_numbered(b'c', b""), None);
+    let two = read_only_number(Tokens::new(b"1 2"));
+    assert!(rt; two.is_none(), "two numbers");
+    all_same(
+        &rt,
+        &[
+            ("12", read_natural(b"12"), Some(12)),
+            ("-12", read_natural(b"-12"), None),
+            ("c12", read_numbered(b'c', b"c12"), Some(12)),
+            ("r12", read_numbered(b'c', b"r12"), None),
+            ("nothing", read_numbered(b'c', b""), None),
+        ],
+    );
+}
+
+fn decimal(below_zero: bool, magnitude: u128) -> Decimal {
+    Decimal {
+        below_zero,
+        magnitude,
+    }
+}
+
+/// What the words of the text are refused for.
+fn refusal_of(alloc: Global, text: &str) -> Option<Refusal> {
+    match read_words::<i8>(alloc, Tokens::new(text.as_bytes())) {
+        Ok(_) => None,
+        Err(refusal) => Some(refusal),
+    }
+}
+
+/// Whether the text has those words.
+fn has_words(alloc: Global, text: &str, wanted: &[i8]) -> bool {
+    match read_words::<i8>(alloc, Tokens::new(text.as_bytes())) {
+        Ok(words) => words.as_slice() == wanted,
+        Err(_) => false,
+    }
+}
+
+/// The value in a word of 8 bits.
+fn byte_of(below_zero: bool, magnitude: u128) -> Option<i8> {
+    value_in::<i8>(&decimal(below_zero, magnitude))
 }
 
 #[test]
 fn words_read(rt: HostRuntime) -> Result<(), Fail> {
-    let number = |below_zero, magnitude| Decimal {
-        below_zero,
-        magnitude,
-    };
-    assert_eq!(rt; value_in::<i8>(&number(true, 128)), Some(-128));
-    assert_eq!(rt; value_in::<i8>(&number(false, 128)), None);
-    assert_eq!(rt; value_in::<u8>(&number(true, 1)), None);
-    assert_eq!(rt;
-        value_in::<u64>(&number(false, 18_446_744_073_709_551_616)),
-        None
-    );
-    assert_eq!(rt; fitting::<u8>(&number(false, 255)), Ok(255));
-    assert_eq!(rt; fitting::<u8>(&number(false, 256)), Err(Refusal::Unfit));
-    assert_eq!(rt; read_word::<i16>(b"-32768"), Ok(-32768));
-    assert_eq!(rt; read_word::<i16>(b"32768"), Err(Refusal::Unfit));
-    assert_eq!(rt; read_word::<i16>(b"32768 "), Err(Refusal::Unformed));
+    let past = value_in::<u64>(&decimal(false, 18_446_744_073_709_551_616));
+    let fits = fitting::<u8>(&decimal(false, 255));
+    let unfit = fitting::<u8>(&decimal(false, 256));
     let alloc = rt.alloc();
-    match read_words::<i8>(alloc, Tokens::new(b"-128 0 127")) {
-        Ok(words) => assert_eq!(rt; words.as_slice(), [-128i8, 0, 127].as_slice()),
-        Err(_) => assert!(rt; false, "three words"),
-    }
-    for (text, wanted) in [
-        ("1 128", Refusal::Unfit),
-        ("128 x", Refusal::Unformed),
-        ("1  2", Refusal::Unformed),
-    ] {
-        match read_words::<i8>(alloc, Tokens::new(text.as_bytes())) {
-            Ok(_) => assert!(rt; false, "{text}"),
-            Err(refusal) => assert_eq!(rt; refusal, wanted, "{text}"),
-        }
-    }
+    all_hold(
+        &rt,
+        &[
+            ("-128", byte_of(true, 128) == Some(-128)),
+            ("128", byte_of(false, 128).is_none()),
+            (
+                "-1 without a sign",
+                value_in::<u8>(&decimal(true, 1)).is_none(),
+            ),
+            ("past the greatest", past.is_none()),
+            ("255", fits == Ok(255)),
+            ("256", unfit == Err(Refusal::Unfit)),
+            (
+                "three words",
+                has_words(alloc, "-128 0 127", &[-128, 0, 127]),
+            ),
+        ],
+    );
+    all_same(
+        &rt,
+        &[
+            ("-32768", read_word::<i16>(b"-32768"), Ok(-32768)),
+            ("32768", read_word::<i16>(b"32768"), Err(Refusal::Unfit)),
+            (
+                "32768 and a space",
+                read_word::<i16>(b"32768 "),
+                Err(Refusal::Unformed),
+            ),
+        ],
+    );
+    all_same(
+        &rt,
+        &[
+            ("1 128", refusal_of(alloc, "1 128"), Some(Refusal::Unfit)),
+            ("128 x", refusal_of(alloc, "128 x"), Some(Refusal::Unformed)),
+            ("1  2", refusal_of(alloc, "1  2"), Some(Refusal::Unformed)),
+        ],
+    );
     Ok(())
 }
 

@@ -2,6 +2,8 @@
 
 use super::programs::{answers, outcome};
 use fixed_calc::{Cause, RunFault, Status, run};
+use std::alloc::Global;
+use std::process::Abort;
 use std::test::Fail;
 
 /// Scripts and their answers.
@@ -158,6 +160,16 @@ fn known_answers(rt: HostRuntime) -> Result<(), Fail> {
     Ok(())
 }
 
+/// Asserts that `run` hands out these answers, or this fault.
+fn gives(rt: &impl Abort, alloc: Global, script: &str, want: Result<&str, RunFault>) {
+    let holds = match (run(alloc, script.as_bytes()), want) {
+        (Ok(answers), Ok(want)) => answers.as_bytes() == want.as_bytes(),
+        (Err(fault), Err(want)) => fault == want,
+        _ => false,
+    };
+    assert!(rt; holds, "{script}");
+}
+
 /// `run` hands out the answers, or the first cause and nothing else.
 #[test]
 fn runs_in_memory(rt: HostRuntime) -> Result<(), Fail> {
@@ -165,22 +177,18 @@ fn runs_in_memory(rt: HostRuntime) -> Result<(), Fail> {
     for (script, want) in [
         (
             "i32 16 16\nr0 set 98304\nr1 set 131072\nr0 checked mul r0 r1\nr1 wrapping add r0 r1\n",
-            "98304\n131072\n196608\n327680\n",
+            Ok("98304\n131072\n196608\n327680\n"),
         ),
         (
             "i8 8 8\nr0 set 1\nr1 set -1\nr0 strict mul r0 r1\n",
-            "1\n-1\n-1\n",
+            Ok("1\n-1\n-1\n"),
+        ),
+        (
+            "i8 0\nr0 set 127\nr0 strict mul_int r0 2\nr0 wrapping add r0 r0\n",
+            Err(RunFault::Script(Cause::Overflow(3))),
         ),
     ] {
-        match run(alloc, script.as_bytes()) {
-            Ok(answers) => assert_eq!(rt; answers.as_bytes(), want.as_bytes(), "{script}"),
-            Err(fault) => assert!(rt; false, "{fault:?} at {script}"),
-        }
-    }
-    let script = "i8 0\nr0 set 127\nr0 strict mul_int r0 2\nr0 wrapping add r0 r0\n";
-    match run(alloc, script.as_bytes()) {
-        Ok(_) => assert!(rt; false, "{script}"),
-        Err(fault) => assert_eq!(rt; fault, RunFault::Script(Cause::Overflow(3)), "{script}"),
+        gives(&rt, alloc, script, want);
     }
     Ok(())
 }
@@ -199,9 +207,9 @@ fn the_limit(rt: HostRuntime) -> Result<(), Fail> {
     ] {
         let script = vec![in alloc; b'a'; length]?;
         let seen = outcome(alloc, &script)?;
-        assert_eq!(rt; seen.status, status, "{length} bytes");
-        assert_eq!(rt; seen.sink.taken(), b"".as_slice(), "{length} bytes");
-        assert_eq!(rt; seen.errors.taken(), line.as_bytes(), "{length} bytes");
+        let found = (seen.status, seen.sink.taken(), seen.errors.taken());
+        let wanted = (status, b"".as_slice(), line.as_bytes());
+        assert_eq!(rt; found, wanted, "{length} bytes");
     }
     Ok(())
 }

@@ -11,3 +11,5 @@ mod numbers;
 mod operators;
 #[cfg(test)]
 mod plain_names;
+#[cfg(test)]
+mod same;

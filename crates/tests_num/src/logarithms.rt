@@ -2,6 +2,7 @@
 
 ghost use Rattle.std.specs.Prelude.{◌≤◌, ◌<ℤ◌, pos};
 
+use super::same::all_same;
 use fixed_num::*;
 use fixed_word::{Count, Digits, Steps, Word};
 
@@ -54,33 +55,53 @@ fn logarithms_of_every_byte(rt: HostRuntime) {
 
 #[test]
 fn worked_logarithms(rt: HostRuntime) {
-    assert_eq!(rt; FixedU8::<4>::from_bits(3).checked_int_log2(), Some(-3));
-    for (bits, want) in [(40, 1), (39, 0)] {
-        let found = FixedU8::<2>::from_bits(bits).checked_int_log10();
-        assert_eq!(rt; found, Some(want), "of {bits}");
-    }
-    for (bits, want) in [(7, -1), (6, -2)] {
-        let found = FixedU8::<6>::from_bits(bits).checked_int_log10();
-        assert_eq!(rt; found, Some(want), "of {bits}");
-    }
-    assert_eq!(rt; FixedU8::<4>::from_bits(3).checked_int_log(5), Some(-2));
-    assert_eq!(rt; FixedI8::<4>::from_bits(3).checked_int_log(5), Some(-2));
+    let (x, y) = (FixedU8::<4> { bits: 3 }, FixedI8::<4> { bits: 3 });
+    let rows = [
+        ("3 / 16 to 2", x.checked_int_log2(), Some(-3)),
+        (
+            "10 to 10",
+            FixedU8::<2> { bits: 40 }.checked_int_log10(),
+            Some(1),
+        ),
+        (
+            "just below 10 to 10",
+            FixedU8::<2> { bits: 39 }.checked_int_log10(),
+            Some(0),
+        ),
+        (
+            "7 / 64 to 10",
+            FixedU8::<6> { bits: 7 }.checked_int_log10(),
+            Some(-1),
+        ),
+        (
+            "6 / 64 to 10",
+            FixedU8::<6> { bits: 6 }.checked_int_log10(),
+            Some(-2),
+        ),
+        ("3 / 16 to 5", x.checked_int_log(5), Some(-2)),
+        ("3 / 16 to 5, with a sign", y.checked_int_log(5), Some(-2)),
+    ];
+    all_same(&rt, &rows);
 }
 
 #[test]
 fn no_logarithm(rt: HostRuntime) {
-    for base in [0, 1] {
-        assert_eq!(rt; FixedU8::<4>::from_bits(3).checked_int_log(base), None);
-        assert_eq!(rt; FixedI8::<4>::from_bits(3).checked_int_log(base), None);
-    }
-    assert_eq!(rt; checked_logs(FixedU8::<4>::from_bits(0)), [None; 3]);
-    for bits in [0, -1, -128] {
-        assert_eq!(rt;
-            checked_logs(FixedI8::<4>::from_bits(bits)),
+    let (x, y) = (FixedU8::<4> { bits: 3 }, FixedI8::<4> { bits: 3 });
+    let unsigned = [x.checked_int_log(0), x.checked_int_log(1), None];
+    let signed = [y.checked_int_log(0), y.checked_int_log(1), None];
+    let rows = [
+        ("bases without a sign", unsigned, [None; 3]),
+        ("bases with a sign", signed, [None; 3]),
+        (
+            "0 without a sign",
+            checked_logs(FixedU8::<4> { bits: 0 }),
             [None; 3],
-            "of {bits}"
-        );
-    }
+        ),
+        ("0", checked_logs(FixedI8::<4> { bits: 0 }), [None; 3]),
+        ("-1", checked_logs(FixedI8::<4> { bits: -1 }), [None; 3]),
+        ("-128", checked_logs(FixedI8::<4> { bits: -128 }), [None; 3]),
+    ];
+    all_same(&rt, &rows);
 }
 
 /// The logarithms to the bases 2, 10 and 5, the last one also as it is counted, and its count.
@@ -106,7 +127,6 @@ fn logarithms_under_their_conditions(rt: HostRuntime) {
         (logs(FixedU64::<64> { bits: 1 }), [-64, -20, -28, -28], 88),
         (logs(FixedI64::<0> { bits: i64::MAX }), [62, 18, 27, 27], 88),
     ] {
-        assert_eq!(rt; found, want);
-        assert!(rt; count <= most, "count {count}");
+        assert!(rt; found == want && count <= most, "{found:?}, count {count}");
     }
 }

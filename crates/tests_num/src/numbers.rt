@@ -2,6 +2,7 @@
 
 ghost use Rattle.std.specs.Prelude.{◌≤◌};
 
+use super::same::all_same;
 use fixed_bits::BitWord;
 use fixed_num::laws::order_law;
 use fixed_num::*;
@@ -51,23 +52,31 @@ fn std_answers(byte: u8) -> [u64; 12] {
     ]
 }
 
+/// A byte by the calls that write and read bytes with the low one first, and by way of a sign.
+fn ways(byte: u8) -> [u8; 5] {
+    let x = FixedU8::<4>::from_bits(byte);
+    let signed = x.cast_signed();
+    let [low] = x.to_le_bytes();
+    let [signed_low] = signed.to_le_bytes();
+    let read: FixedU8<4> = Fixed::from_le_bytes([byte]);
+    let signed_read: FixedI8<4> = Fixed::from_le_bytes([byte]);
+    [
+        low,
+        signed_low,
+        read.bits,
+        signed_read.bits.cast_unsigned(),
+        signed.cast_unsigned().bits,
+    ]
+}
+
 #[test]
 fn bits_of_every_byte(rt: HostRuntime) {
     for byte in 0..=255_u8 {
         let want = std_answers(byte);
-        let x = FixedU8::<4>::from_bits(byte);
-        assert_eq!(rt; bit_answers(x), want, "of {byte}");
-        assert_eq!(rt; bit_answers(x.cast_signed()), want, "of {byte} with a sign");
-        assert_eq!(rt; x.cast_signed().cast_unsigned(), x, "of {byte} and back");
-        assert_eq!(rt; x.to_le_bytes(), [byte], "bytes of {byte}");
-        assert_eq!(rt; Fixed::from_le_bytes([byte]), x, "from {byte}");
-        let signed = x.cast_signed();
-        assert_eq!(rt; signed.to_le_bytes(), [byte], "bytes of {byte} with a sign");
-        assert_eq!(rt;
-            Fixed::from_le_bytes([byte]),
-            signed,
-            "from {byte} with a sign"
-        );
+        let unsigned = bit_answers(FixedU8::<4>::from_bits(byte));
+        let signed = bit_answers(FixedI8::<4>::from_bits(byte.cast_signed()));
+        let found = ([unsigned, signed], ways(byte));
+        assert_eq!(rt; found, ([want, want], [byte; 5]), "of {byte}");
     }
 }
 
@@ -126,31 +135,27 @@ fn plain_unsigned(x: u32) -> (bool, u32, bool, u64) {
     (true, 0, false, 0)
 }
 
-/// `round_to_zero` of eight bits, four of them behind the point.
-fn rounded(bits: i8) -> i32 {
-    FixedI8::<4>::from_bits(bits).round_to_zero().bits as i32
+/// The answers on the size of a byte with and without a sign; then both rounded toward zero, and the magnitude.
+type Sizes = ((bool, bool, bool, u32), (bool, u32, bool, u64), [i32; 3]);
+
+fn sizes(byte: u8) -> Sizes {
+    let signed = FixedI8::<4>::from_bits(byte.cast_signed());
+    let unsigned = FixedU8::<4>::from_bits(byte);
+    let moved = [
+        signed.round_to_zero().bits as i32,
+        unsigned.round_to_zero().bits as i32,
+        signed.unsigned_abs().bits as i32,
+    ];
+    (signed_answers(signed), unsigned_answers(unsigned), moved)
 }
 
 #[test]
 fn sizes_of_every_byte(rt: HostRuntime) {
     for byte in 0..=255_u8 {
-        let signed = byte.cast_signed();
-        let wide = signed as i32;
-        assert_eq!(rt;
-            signed_answers(FixedI8::<4>::from_bits(signed)),
-            plain_signed(wide),
-            "of {signed}"
-        );
-        assert_eq!(rt;
-            unsigned_answers(FixedU8::<4>::from_bits(byte)),
-            plain_unsigned(byte as u32),
-            "of {byte}"
-        );
-        assert_eq!(rt; rounded(signed), wide / 16 * 16, "of {signed}");
-        let magnitude = FixedI8::<4>::from_bits(signed).unsigned_abs().bits;
-        assert_eq!(rt; magnitude as i32, wide.max(-wide), "of {signed}");
-        let whole = FixedU8::<4>::from_bits(byte).round_to_zero().bits;
-        assert_eq!(rt; whole as u32, byte as u32 / 16 * 16, "of {byte}");
+        let (signed, unsigned) = (byte.cast_signed() as i32, byte as i32);
+        let moved = [signed / 16 * 16, unsigned / 16 * 16, signed.max(-signed)];
+        let want = (plain_signed(signed), plain_unsigned(byte as u32), moved);
+        assert_eq!(rt; sizes(byte), want, "of {byte}");
     }
 }
 
@@ -163,101 +168,137 @@ fn moved<T: BitWord, const F: u32>(x: Fixed<T, F>, y: Fixed<T, F>, by: u32) -> (
     )
 }
 
+fn moved_signed(a: i8, b: i8, by: u32) -> [i64; 3] {
+    let (up, down, mean) = moved(FixedI8::<4> { bits: a }, FixedI8::<4> { bits: b }, by);
+    [up as i64, down as i64, mean as i64]
+}
+
+fn moved_unsigned(a: u8, b: u8, by: u32) -> [i64; 3] {
+    let (up, down, mean) = moved(FixedU8::<4> { bits: a }, FixedU8::<4> { bits: b }, by);
+    [up as i64, down as i64, mean as i64]
+}
+
 #[test]
 fn shifts_and_means(rt: HostRuntime) {
-    for (a, b, by, want) in [
-        (-128, 127, 8, (0, -1, -1)),
-        (-48, 64, 1, (-96, -24, 8)),
-        (127, 126, 9, (0, 0, 126)),
-    ] {
-        let x = FixedI8::<4>::from_bits(a);
-        assert_eq!(rt; moved(x, FixedI8::from_bits(b), by), want, "of {a} and {b}");
-    }
-    for (a, b, by, want) in [(255, 254, 2, (252, 63, 254)), (3, 200, 8, (0, 0, 101))] {
-        let x = FixedU8::<4>::from_bits(a);
-        assert_eq!(rt; moved(x, FixedU8::from_bits(b), by), want, "of {a} and {b}");
-    }
-    let longest = FixedI64::<1>::MIN.mean(FixedI64::<1>::MAX);
-    assert_eq!(rt; longest.bits, -1);
+    let longest = FixedI64::<1>::MIN.mean(FixedI64::<1>::MAX).bits;
+    let rows = [
+        ("-128 and 127 by 8", moved_signed(-128, 127, 8), [0, -1, -1]),
+        ("-48 and 64 by 1", moved_signed(-48, 64, 1), [-96, -24, 8]),
+        ("127 and 126 by 9", moved_signed(127, 126, 9), [0, 0, 126]),
+        (
+            "255 and 254 by 2",
+            moved_unsigned(255, 254, 2),
+            [252, 63, 254],
+        ),
+        ("3 and 200 by 8", moved_unsigned(3, 200, 8), [0, 0, 101]),
+        ("the ends of 64 bits", [longest, 0, 0], [-1, 0, 0]),
+    ];
+    all_same(&rt, &rows);
+}
+
+/// The distance of two signed numbers, by the three calls that answer it.
+fn distances_of(a: i8, b: i8) -> [u8; 3] {
+    let (x, y) = (FixedI8::<4> { bits: a }, FixedI8::<4> { bits: b });
+    [
+        x.abs_diff(y).bits,
+        x.unsigned_dist(y).bits,
+        y.unsigned_dist(x).bits,
+    ]
 }
 
 #[test]
 fn distances(rt: HostRuntime) {
     for (a, b, want) in [(-128, 127, 255), (-48, 64, 112), (127, 126, 1), (5, 5, 0)] {
-        let x = FixedI8::<4>::from_bits(a);
-        let y = FixedI8::<4>::from_bits(b);
-        assert_eq!(rt; x.abs_diff(y).bits, want, "of {a} and {b}");
-        assert_eq!(rt; x.unsigned_dist(y).bits, want, "of {a} and {b}");
-        assert_eq!(rt; y.unsigned_dist(x).bits, want, "of {b} and {a}");
+        assert_eq!(rt; distances_of(a, b), [want; 3], "of {a} and {b}");
     }
-    assert_eq!(rt;
-        FixedU8::<4>::from_bits(3)
-            .abs_diff(FixedU8::from_bits(200))
-            .bits,
-        197
+    let far = FixedU8::<4> { bits: 3 }.abs_diff(FixedU8::<4> { bits: 200 });
+    let least = FixedI8::<4>::MIN.unsigned_abs();
+    let unit = FixedI8::<4> { bits: -1 }.unsigned_abs();
+    all_same(
+        &rt,
+        &[
+            ("3 and 200", far.bits, 197),
+            ("-128", least.bits, 128),
+            ("-1", unit.bits, 1),
+        ],
     );
-    assert_eq!(rt; FixedI8::<4>::MIN.unsigned_abs().bits, 128);
-    assert_eq!(rt; FixedI8::<4>::from_bits(-1).unsigned_abs().bits, 1);
+}
+
+fn signed_bits(bits: i8) -> i64 {
+    FixedI8::<4> { bits }.signed_bits() as i64
+}
+
+fn significant_bits(bits: u8) -> i64 {
+    FixedU8::<4> { bits }.significant_bits() as i64
 }
 
 #[test]
 fn signed_and_significant_bits(rt: HostRuntime) {
-    for (bits, want) in [(-48, 7), (-1, 1), (0, 1), (1, 2)] {
-        assert_eq!(rt;
-            FixedI8::<4>::from_bits(bits).signed_bits(),
-            want,
-            "of {bits}"
-        );
-    }
-    for (bits, want) in [(48, 6), (1, 1), (0, 0)] {
-        assert_eq!(rt;
-            FixedU8::<4>::from_bits(bits).significant_bits(),
-            want,
-            "of {bits}"
-        );
-    }
-    let fifty = FixedU8::<4>::from_bits(50);
-    assert_eq!(rt; fifty.highest_one().bits, 32);
-    assert_eq!(rt;
-        (
-            fifty.count_ones(),
-            fifty.trailing_zeros(),
-            fifty.leading_zeros()
-        ),
-        (3, 1, 2)
+    let fifty = FixedU8::<4> { bits: 50 };
+    let rounded = FixedI8::<4> { bits: -120 }.round_to_zero().bits;
+    all_same(
+        &rt,
+        &[
+            ("signed bits of -48", signed_bits(-48), 7),
+            ("signed bits of -1", signed_bits(-1), 1),
+            ("signed bits of 0", signed_bits(0), 1),
+            ("signed bits of 1", signed_bits(1), 2),
+            ("bits of 48", significant_bits(48), 6),
+            ("bits of 1", significant_bits(1), 1),
+            ("bits of 0", significant_bits(0), 0),
+            ("highest one of 50", fifty.highest_one().bits as i64, 32),
+            ("ones of 50", fifty.count_ones() as i64, 3),
+            ("trailing zeros of 50", fifty.trailing_zeros() as i64, 1),
+            ("leading zeros of 50", fifty.leading_zeros() as i64, 2),
+            ("-120 toward zero", rounded as i64, -112),
+        ],
     );
-    assert_eq!(rt; FixedI8::<4>::from_bits(-120).round_to_zero().bits, -112);
+}
+
+/// Products of twice the width.
+fn wide_products() -> [i16; 3] {
+    let (x, y) = (FixedI8::<2> { bits: 5 }, FixedI8::<4> { bits: 17 });
+    let product: FixedI16<6> = x.wide_mul(y);
+    let (x, y) = (FixedU8::<2> { bits: 5 }, FixedI8::<4> { bits: -17 });
+    let signed: FixedI16<6> = x.wide_mul_signed(y);
+    let (x, y) = (FixedI8::<2> { bits: -128 }, FixedU8::<4> { bits: 255 });
+    let unsigned: FixedI16<6> = x.wide_mul_unsigned(y);
+    [product.bits, signed.bits, unsigned.bits]
+}
+
+/// Quotients of twice the width.
+fn wide_quotients() -> [i16; 4] {
+    let (x, y) = (FixedI8::<3> { bits: 37 }, FixedI8::<5> { bits: 1 });
+    let quotient: FixedI16<6> = x.wide_div(y);
+    let (x, y) = (FixedI8::<3> { bits: -37 }, FixedU8::<5> { bits: 1 });
+    let unsigned: FixedI16<6> = x.wide_div_unsigned(y);
+    let (x, y) = (FixedI8::<4> { bits: -128 }, FixedI8::<4> { bits: -1 });
+    let least: FixedI16<7> = x.wide_sdiv(y);
+    let (x, y) = (FixedU8::<4> { bits: 255 }, FixedI8::<4> { bits: -2 });
+    let signed: FixedI16<7> = x.wide_sdiv_signed(y);
+    [quotient.bits, unsigned.bits, least.bits, signed.bits]
 }
 
 #[test]
 fn wide_results(rt: HostRuntime) {
-    let product: FixedI16<6> = FixedI8::<2>::from_bits(5).wide_mul(FixedI8::<4>::from_bits(17));
-    assert_eq!(rt; product.bits, 85);
-    let product: FixedI16<6> = FixedU8::<2>::from_bits(5).wide_mul_signed(FixedI8::<4>::from_bits(
-        -17,
-    ));
-    assert_eq!(rt; product.bits, -85);
-    let product: FixedI16<6> = FixedI8::<2>::from_bits(-128).wide_mul_unsigned(FixedU8::<
-        4,
-    >::from_bits(255));
-    assert_eq!(rt; product.bits, -32640);
-    let quotient: FixedI16<6> = FixedI8::<3>::from_bits(37).wide_div(FixedI8::<5>::from_bits(1));
-    assert_eq!(rt; quotient.bits, 9472);
-    let quotient: FixedU16<6> = FixedU8::<3>::from_bits(255).wide_div(FixedU8::<5>::from_bits(7));
-    assert_eq!(rt; quotient.bits, 9325);
-    let quotient: FixedI16<6> = FixedI8::<3>::from_bits(-37).wide_div_unsigned(FixedU8::<
-        5,
-    >::from_bits(1));
-    assert_eq!(rt; quotient.bits, -9472);
-    let quotient: FixedI16<7> = FixedI8::<4>::from_bits(-128).wide_sdiv(FixedI8::<4>::from_bits(
-        -1,
-    ));
-    assert_eq!(rt; quotient.bits, 16384);
-    let quotient: FixedI16<7> = FixedU8::<4>::from_bits(255).wide_sdiv_signed(FixedI8::<
-        4,
-    >::from_bits(-2));
-    assert_eq!(rt; quotient.bits, -16320);
+    let [product, by_signed, by_unsigned] = wide_products();
+    let [quotient, over_unsigned, least, over_signed] = wide_quotients();
+    let (x, y) = (FixedU8::<3> { bits: 255 }, FixedU8::<5> { bits: 7 });
+    let unsigned: FixedU16<6> = x.wide_div(y);
     let square: FixedU64<20> = FixedU32::<10>::MAX.wide_mul(FixedU32::<10>::MAX);
+    all_same(
+        &rt,
+        &[
+            ("5 by 17", product, 85),
+            ("5 by -17", by_signed, -85),
+            ("-128 by 255", by_unsigned, -32640),
+            ("37 over 1", quotient, 9472),
+            ("-37 over 1", over_unsigned, -9472),
+            ("-128 over -1", least, 16384),
+            ("255 over -2", over_signed, -16320),
+            ("255 over 7", unsigned.bits.cast_signed(), 9325),
+        ],
+    );
     assert_eq!(rt; square.bits, 0xffff_fffe_0000_0001);
 }
 
@@ -290,34 +331,62 @@ fn format_of<T: Word, const F: u32>(_x: Fixed<T, F>) -> ([T; 4], bool, u32, u32)
     )
 }
 
+/// One and minus one, by their bits.
+fn ones() -> [i32; 4] {
+    [
+        FixedI8::<4>::one().bits as i32,
+        FixedU8::<7>::one().bits as i32,
+        FixedI8::<4>::neg_one().bits as i32,
+        FixedI8::<7>::neg_one().bits as i32,
+    ]
+}
+
+/// The bytes of a number with the high one first, and with the low one.
+fn bytes_of(bits: i16) -> [[u8; 2]; 2] {
+    let x = FixedI16::<4> { bits };
+    [x.to_be_bytes(), x.to_le_bytes()]
+}
+
 #[test]
 fn bytes_and_constants(rt: HostRuntime) {
-    let x = FixedI16::<4> { bits: 4660 };
-    assert_eq!(rt; (x.to_be_bytes(), x.to_le_bytes()), ([18, 52], [52, 18]));
-    assert_eq!(rt; FixedI8::<4>::one().bits, 16);
-    assert_eq!(rt; FixedU8::<7>::one().bits, 128);
-    assert_eq!(rt; FixedI8::<4>::neg_one().bits, -16);
-    assert_eq!(rt; FixedI8::<7>::neg_one().bits, i8::MIN);
+    assert_eq!(rt;
+        (ones(), bytes_of(4660)),
+        ([16, 128, -16, -128], [[18, 52], [52, 18]])
+    );
     let (less, zero) = (FixedI8::<4> { bits: -1 }, FixedI8::<4> { bits: 0 });
-    assert!(rt; less < zero, "order");
-    let (mask, other) = (FixedU8::<4> { bits: 12 }, FixedU8::<4> { bits: 10 });
-    assert_eq!(rt; joined(mask, other), [8, 14, 6]);
-    let (mask, other) = (FixedI8::<4> { bits: -4 }, FixedI8::<4> { bits: 10 });
-    assert_eq!(rt; joined(mask, other), [8, -2, -10]);
-    assert_eq!(rt; size_of::<FixedI64<7>>(), 8);
-    assert_eq!(rt; size_of::<FixedU8<7>>(), 1);
+    let sizes = [size_of::<FixedI64<7>>(), size_of::<FixedU8<7>>()];
+    assert!(rt;
+        less < zero && sizes == [8, 1],
+        "order, and sizes {sizes:?}"
+    );
+    let joined_unsigned = joined(FixedU8::<4> { bits: 12 }, FixedU8::<4> { bits: 10 });
+    let joined_signed = joined(FixedI8::<4> { bits: -4 }, FixedI8::<4> { bits: 10 });
+    assert_eq!(rt;
+        (joined_unsigned, joined_signed),
+        ([8, 14, 6], [8, -2, -10])
+    );
 }
 
 #[test]
 fn formats(rt: HostRuntime) {
-    let found = format_of(FixedU8::<2> { bits: 9 });
-    assert_eq!(rt; found, ([0, 0, 1, 255], false, 6, 2));
-    let found = format_of(FixedU16::<3> { bits: 9 });
-    assert_eq!(rt; found, ([0, 0, 1, u16::MAX], false, 13, 3));
-    let found = format_of(FixedI32::<5> { bits: 9 });
-    assert_eq!(rt; found, ([0, 0, 1, i32::MAX], true, 27, 5));
-    let found = format_of(FixedU64::<2> { bits: 9 });
-    assert_eq!(rt; found, ([0, 0, 1, u64::MAX], false, 62, 2));
+    let bytes = format_of(FixedU8::<2> { bits: 9 });
+    let words = format_of(FixedU16::<3> { bits: 9 });
+    let signed = format_of(FixedI32::<5> { bits: 9 });
+    let longest = format_of(FixedU64::<2> { bits: 9 });
+    assert_eq!(rt;
+        (bytes, words),
+        (
+            ([0, 0, 1, 255], false, 6, 2),
+            ([0, 0, 1, u16::MAX], false, 13, 3)
+        )
+    );
+    assert_eq!(rt;
+        (signed, longest),
+        (
+            ([0, 0, 1, i32::MAX], true, 27, 5),
+            ([0, 0, 1, u64::MAX], false, 62, 2)
+        )
+    );
 }
 
 #[tactic(auto, unfolding(fixed_root::specs::Root::root_of, fixed_root::specs::Root::root_below))]
@@ -337,13 +406,23 @@ fn greatest_root(steps: &mut Steps<Count>) -> FixedU8<8> {
 #[test]
 fn counted_roots(rt: HostRuntime) {
     let mut steps = Steps::new(Count::new());
-    assert_eq!(rt; unsigned_root(&mut steps).bits, 22);
-    assert!(rt; steps.ledger().count() <= 160);
-    assert_eq!(rt; signed_root(&mut steps).bits, 22);
-    assert!(rt; steps.ledger().count() <= 320);
+    let unsigned = unsigned_root(&mut steps).bits as i64;
+    let first = steps.ledger().count();
+    let signed = signed_root(&mut steps).bits as i64;
+    let both = steps.ledger().count();
     let mut steps = Steps::new(Count::new());
-    assert_eq!(rt; greatest_root(&mut steps).bits, 255);
-    assert!(rt; steps.ledger().count() <= 160);
+    let greatest = greatest_root(&mut steps).bits as i64;
+    let alone = steps.ledger().count();
+    for (what, found, wanted, count, most) in [
+        ("2 without a sign", unsigned, 22, first, 160),
+        ("2", signed, 22, both, 320),
+        ("the greatest", greatest, 255, alone, 160),
+    ] {
+        assert!(rt;
+            found == wanted && count <= most,
+            "{what}: {found}, count {count}"
+        );
+    }
 }
 
 /// The number with the bits of another, and its fraction.
@@ -355,20 +434,37 @@ fn widened<T: Narrow>(x: T) -> T::Double {
     x.widen()
 }
 
+/// Each word with a double, as its double.
+fn doubles() -> [i64; 6] {
+    [
+        widened(-128_i8) as i64,
+        widened(-32768_i16) as i64,
+        widened(-2147483648_i32),
+        widened(255_u8) as i64,
+        widened(65535_u16) as i64,
+        widened(4294967295_u32).cast_signed(),
+    ]
+}
+
 #[test]
 fn through_bounds(rt: HostRuntime) {
-    let x = FixedI8::<4> { bits: -5 };
-    assert_eq!(rt; held_again(x), (x, 4));
-    let x = FixedU16::<9> { bits: 65535 };
-    assert_eq!(rt; held_again(x), (x, 9));
-    assert_eq!(rt; widened(-128_i8), -128_i16);
-    assert_eq!(rt; widened(-32768_i16), -32768_i32);
-    assert_eq!(rt; widened(-2147483648_i32), -2147483648_i64);
-    assert_eq!(rt; widened(255_u8), 255_u16);
-    assert_eq!(rt; widened(65535_u16), 65535_u32);
-    assert_eq!(rt; widened(4294967295_u32), 4294967295_u64);
+    let (x, y) = (FixedI8::<4> { bits: -5 }, FixedU16::<9> { bits: 65535 });
     let exact: FixedU8<4> = exact_number(outcome_of(false, 200));
-    assert_eq!(rt; exact, FixedU8::<4> { bits: 200 });
+    let ((x, signed_fraction), (y, fraction)) = (held_again(x), held_again(y));
+    all_same(
+        &rt,
+        &[
+            ("signed bits", x.bits as i64, -5),
+            ("their fraction", signed_fraction as i64, 4),
+            ("unsigned bits", y.bits as i64, 65535),
+            ("their fraction", fraction as i64, 9),
+            ("an exact number", exact.bits as i64, 200),
+        ],
+    );
+    assert_eq!(rt;
+        doubles(),
+        [-128, -32768, -2147483648, 255, 65535, 4294967295]
+    );
 }
 
 /// The hash by std's hasher.
@@ -376,6 +472,19 @@ fn hash_of<N: Hash>(x: &N) -> u64 {
     let mut state = DefaultHasher::new();
     x.hash(&mut state);
     state.finish()
+}
+
+/// How two signed numbers stand, by the calls that say so, and whether the number's hash is that of its bits and
+/// tells the two apart.
+fn order_of(a: i8, b: i8) -> (Ordering, Option<Ordering>, [bool; 2]) {
+    let (x, y) = (FixedI8::<4>::from_bits(a), FixedI8::<4>::from_bits(b));
+    order_law(x, y);
+    let hash = hash_of(&x);
+    (
+        x.cmp(&y),
+        x.partial_cmp(&y),
+        [hash == hash_of(&a), (hash == hash_of(&y)) == (a == b)],
+    )
 }
 
 #[test]
@@ -386,15 +495,14 @@ fn order_and_hashes(rt: HostRuntime) {
         (5, 5, Ordering::Equal),
         (0, -1, Ordering::Greater),
     ] {
-        let (x, y) = (FixedI8::<4>::from_bits(a), FixedI8::<4>::from_bits(b));
-        assert_eq!(rt; x.cmp(&y), order, "{a} and {b}");
-        assert_eq!(rt; x.partial_cmp(&y), Some(order), "{a} and {b}");
-        assert_eq!(rt; hash_of(&x), hash_of(&a), "of {a}");
-        assert_eq!(rt; hash_of(&x) == hash_of(&y), a == b, "of {a} and {b}");
-        order_law(x, y);
+        assert_eq!(rt;
+            order_of(a, b),
+            (order, Some(order), [true; 2]),
+            "{a} and {b}"
+        );
     }
     let (x, y) = (FixedU64::<64>::ZERO, FixedU64::<64>::MAX);
-    assert_eq!(rt; x.cmp(&y), Ordering::Less);
-    assert_eq!(rt; hash_of(&y), hash_of(&u64::MAX));
+    let hashed = hash_of(&y) == hash_of(&u64::MAX);
+    assert!(rt; x.cmp(&y) == Ordering::Less && hashed, "the longest word");
     order_law(x, y);
 }

@@ -2,6 +2,7 @@
 
 ghost use Rattle.std.specs.Prelude.{◌≡◌};
 
+use super::same::{all_hold, all_same};
 use fixed_num::*;
 use std::ops::{
     Add, AddAssign, BitAnd, BitAndAssign, BitOr, BitOrAssign, BitXor, BitXorAssign, Div, DivAssign,
@@ -137,61 +138,109 @@ fn multiple<K: Mul<N, Output = N>, N>(k: K, a: N) -> N
     k * a
 }
 
+/// Whether the numbers have these bits.
+fn have(numbers: &[FixedI8<4>], bits: &[i8]) -> bool {
+    for at in 0..bits.len() {
+        if numbers.len() <= at || numbers[at].bits != bits[at] {
+            return false;
+        }
+    }
+    numbers.len() == bits.len()
+}
+
+/// The same without a sign.
+fn have_unsigned(numbers: &[FixedU8<4>], bits: &[u8]) -> bool {
+    for at in 0..bits.len() {
+        if numbers.len() <= at || numbers[at].bits != bits[at] {
+            return false;
+        }
+    }
+    numbers.len() == bits.len()
+}
+
 #[test]
 fn through_bounds(rt: HostRuntime) {
     let (a, b) = (i8_of::<4>(48), i8_of::<4>(-20));
-    let answers = [28, 68, -60, -38, 8].map(i8_of::<4>);
-    assert_eq!(rt; between(a, b), answers);
-    assert_eq!(rt; assigned(a, b), answers);
-    assert_eq!(rt;
-        by_integer(a, -2),
-        [-96, -24, 16, -96, -24, 16].map(i8_of::<4>)
+    let answers = [28, 68, -60, -38, 8];
+    let by_integer = by_integer(a, -2);
+    let on_bits = on_bits(a, b);
+    all_hold(
+        &rt,
+        &[
+            ("between", have(&between(a, b), &answers)),
+            ("assigned", have(&assigned(a, b), &answers)),
+            (
+                "by an integer",
+                have(&by_integer, &[-96, -24, 16, -96, -24, 16]),
+            ),
+            ("on bits", have(&on_bits, &[-49, 32, -4, -36, 32, -4, -36])),
+            ("shifted", have(&shifted(b, 3), &[96, -3, 96, -3])),
+            ("negated", negated(b).bits == 20),
+            ("multiple", multiple(-2, a).bits == -96),
+        ],
     );
-    assert_eq!(rt;
-        on_bits(a, b),
-        [-49, 32, -4, -36, 32, -4, -36].map(i8_of::<4>)
-    );
-    assert_eq!(rt; shifted(b, 3), [96, -3, 96, -3].map(i8_of::<4>));
-    assert_eq!(rt; negated(b), i8_of(20));
-    assert_eq!(rt; multiple(-2, a), i8_of(-96));
 }
 
 #[test]
 fn through_bounds_without_a_sign(rt: HostRuntime) {
     let (a, b) = (u8_of::<4>(48), u8_of::<4>(20));
-    let answers = [68, 28, 60, 38, 8].map(u8_of::<4>);
-    assert_eq!(rt; between(a, b), answers);
-    assert_eq!(rt; assigned(a, b), answers);
-    assert_eq!(rt; by_integer(a, 2), [96, 24, 16, 96, 24, 16].map(u8_of::<4>));
-    assert_eq!(rt;
-        on_bits(a, b),
-        [207, 16, 52, 36, 16, 52, 36].map(u8_of::<4>)
+    let answers = [68, 28, 60, 38, 8];
+    let by_integer = by_integer(a, 2);
+    let on_bits = on_bits(a, b);
+    all_hold(
+        &rt,
+        &[
+            ("between", have_unsigned(&between(a, b), &answers)),
+            ("assigned", have_unsigned(&assigned(a, b), &answers)),
+            (
+                "by an integer",
+                have_unsigned(&by_integer, &[96, 24, 16, 96, 24, 16]),
+            ),
+            (
+                "on bits",
+                have_unsigned(&on_bits, &[207, 16, 52, 36, 16, 52, 36]),
+            ),
+            ("shifted", have_unsigned(&shifted(b, 4), &[64, 1, 64, 1])),
+            ("multiple", multiple(5, a).bits == 240),
+        ],
     );
-    assert_eq!(rt; shifted(b, 4), [64, 1, 64, 1].map(u8_of::<4>));
-    assert_eq!(rt; multiple(5, a), u8_of(240));
 }
 
 #[test]
 fn known_answers(rt: HostRuntime) {
     let mut product = i8_of::<4>(48);
     product *= i8_of::<6>(32);
-    assert_eq!(rt; product, i8_of(24));
     let least: FixedI32<16> = Fixed { bits: i32::MIN };
-    assert_eq!(rt; (least % -1).bits, 0);
-    assert_eq!(rt; i8_of::<4>(16) / 5 * 17, i8_of(51));
     let unit: FixedI16<12> = Fixed { bits: 4096 };
-    assert_eq!(rt; (unit / 5 * 17).bits, 13923);
+    all_same(
+        &rt,
+        &[
+            ("3 by a half", product.bits as i32, 24),
+            ("the least by -1", (least % -1).bits, 0),
+            ("a fifth by 17", (i8_of::<4>(16) / 5 * 17).bits as i32, 51),
+            ("a longer fifth by 17", (unit / 5 * 17).bits as i32, 13923),
+        ],
+    );
 }
 
 /// An integer of each word on the left.
 #[test]
 fn integers_on_the_left(rt: HostRuntime) {
-    assert_eq!(rt; (-3_i8 * FixedI8::<4> { bits: 5 }).bits, -15);
-    assert_eq!(rt; (-3_i16 * FixedI16::<4> { bits: 5 }).bits, -15);
-    assert_eq!(rt; (-3_i32 * FixedI32::<4> { bits: 5 }).bits, -15);
-    assert_eq!(rt; (-3_i64 * FixedI64::<4> { bits: 5 }).bits, -15);
-    assert_eq!(rt; (3_u8 * FixedU8::<4> { bits: 5 }).bits, 15);
-    assert_eq!(rt; (3_u16 * FixedU16::<4> { bits: 5 }).bits, 15);
-    assert_eq!(rt; (3_u32 * FixedU32::<4> { bits: 5 }).bits, 15);
-    assert_eq!(rt; (3_u64 * FixedU64::<4> { bits: 5 }).bits, 15);
+    let signed = [
+        (-3_i8 * FixedI8::<4> { bits: 5 }).bits as i64,
+        (-3_i16 * FixedI16::<4> { bits: 5 }).bits as i64,
+        (-3_i32 * FixedI32::<4> { bits: 5 }).bits as i64,
+        (-3_i64 * FixedI64::<4> { bits: 5 }).bits,
+    ];
+    let unsigned = [
+        (3_u8 * FixedU8::<4> { bits: 5 }).bits as u64,
+        (3_u16 * FixedU16::<4> { bits: 5 }).bits as u64,
+        (3_u32 * FixedU32::<4> { bits: 5 }).bits as u64,
+        (3_u64 * FixedU64::<4> { bits: 5 }).bits,
+    ];
+    assert_eq!(rt;
+        (signed, unsigned),
+        ([-15; 4], [15; 4]),
+        "8, 16, 32 and 64 bits"
+    );
 }
