@@ -2,7 +2,7 @@
 #![tactic(auto, unfolding(crate::specs::Answers::CallAnswers, crate::specs::Answers::at_fraction, crate::specs::Answers::row_or))]
 
 ghost use Rattle.std.specs.Prelude.{◌≡◌};
-ghost use Rattle.fixed_kernel.specs.Rows.{row_div, row_div_euclid, row_div_euclid_int, row_div_int, row_recip};
+ghost use Rattle.fixed_kernel.specs.Rows.{by_divisor, exact_div, exact_div_euclid, exact_div_euclid_int, exact_div_int, exact_recip};
 ghost use Rattle.fixed_c.specs.declared.answer.Code.TheVariants.{ZeroDivisor};
 ghost use Rattle.fixed_c.specs.Answers.{CallAnswers, at_fraction, row_or};
 
@@ -14,7 +14,7 @@ use fixed_word::Word;
 #[inline]
 pub(crate) fn div<T: Word>(a: T, b: T, frac: u32, bits: &mut T, side: &mut i32) -> i32
     ensures { CallAnswers T.value T.SIGNED T.BITS
-        (at_fraction T.BITS frac (row_or ZeroDivisor (row_div (T.value a) (T.value b) frac)))
+        (at_fraction T.BITS frac (row_or ZeroDivisor (by_divisor (T.value b) (exact_div (T.value a) (T.value b) frac))))
         (bits.old, side.old) (bits.new, side.new) result }
 {
     if frac > T::BITS {
@@ -30,7 +30,8 @@ pub(crate) fn div<T: Word>(a: T, b: T, frac: u32, bits: &mut T, side: &mut i32) 
 #[inline]
 pub(crate) fn div_int<T: Word>(a: T, k: T, bits: &mut T, side: &mut i32) -> i32
     ensures { CallAnswers T.value T.SIGNED T.BITS
-        (row_or ZeroDivisor (row_div_int (T.value a) (T.value k))) (bits.old, side.old) (bits.new, side.new) result }
+        (row_or ZeroDivisor (by_divisor (T.value k) (exact_div_int (T.value a) (T.value k))))
+        (bits.old, side.old) (bits.new, side.new) result }
 {
     if k == T::ZERO {
         return Code::ZeroDivisor.number();
@@ -42,7 +43,7 @@ pub(crate) fn div_int<T: Word>(a: T, k: T, bits: &mut T, side: &mut i32) -> i32
 #[inline]
 pub(crate) fn recip<T: Word>(a: T, frac: u32, bits: &mut T, side: &mut i32) -> i32
     ensures { CallAnswers T.value T.SIGNED T.BITS
-        (at_fraction T.BITS frac (row_or ZeroDivisor (row_recip (T.value a) frac)))
+        (at_fraction T.BITS frac (row_or ZeroDivisor (by_divisor (T.value a) (exact_recip (T.value a) frac))))
         (bits.old, side.old) (bits.new, side.new) result }
 {
     if frac > T::BITS {
@@ -58,7 +59,7 @@ pub(crate) fn recip<T: Word>(a: T, frac: u32, bits: &mut T, side: &mut i32) -> i
 #[inline]
 pub(crate) fn div_euclid<T: Word>(a: T, b: T, frac: u32, bits: &mut T, side: &mut i32) -> i32
     ensures { CallAnswers T.value T.SIGNED T.BITS
-        (at_fraction T.BITS frac (row_or ZeroDivisor (row_div_euclid (T.value a) (T.value b) frac)))
+        (at_fraction T.BITS frac (row_or ZeroDivisor (by_divisor (T.value b) (exact_div_euclid (T.value a) (T.value b) frac))))
         (bits.old, side.old) (bits.new, side.new) result }
 {
     if frac > T::BITS {
@@ -74,7 +75,7 @@ pub(crate) fn div_euclid<T: Word>(a: T, b: T, frac: u32, bits: &mut T, side: &mu
 #[inline]
 pub(crate) fn div_euclid_int<T: Word>(a: T, k: T, frac: u32, bits: &mut T, side: &mut i32) -> i32
     ensures { CallAnswers T.value T.SIGNED T.BITS
-        (at_fraction T.BITS frac (row_or ZeroDivisor (row_div_euclid_int (T.value a) (T.value k) frac)))
+        (at_fraction T.BITS frac (row_or ZeroDivisor (by_divisor (T.value k) (exact_div_euclid_int (T.value a) (T.value k) frac))))
         (bits.old, side.old) (bits.new, side.new) result }
 {
     if frac > T::BITS {

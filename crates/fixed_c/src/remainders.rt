@@ -2,7 +2,7 @@
 #![tactic(auto, unfolding(crate::specs::Answers::CallAnswers, crate::specs::Answers::at_fraction, crate::specs::Answers::row_or))]
 
 ghost use Rattle.std.specs.Prelude.{◌≡◌};
-ghost use Rattle.fixed_kernel.specs.Rows.{row_next_multiple_of, row_rem, row_rem_euclid, row_rem_euclid_int, row_rem_int};
+ghost use Rattle.fixed_kernel.specs.Rows.{by_divisor, exact_next_multiple_of, exact_rem, exact_rem_euclid, exact_rem_euclid_int, exact_rem_int};
 ghost use Rattle.fixed_c.specs.declared.answer.Code.TheVariants.{ZeroDivisor};
 ghost use Rattle.fixed_c.specs.Answers.{CallAnswers, at_fraction, row_or};
 
@@ -14,7 +14,8 @@ use fixed_word::Word;
 #[inline]
 pub(crate) fn rem<T: Word>(a: T, b: T, bits: &mut T, side: &mut i32) -> i32
     ensures { CallAnswers T.value T.SIGNED T.BITS
-        (row_or ZeroDivisor (row_rem (T.value a) (T.value b))) (bits.old, side.old) (bits.new, side.new) result }
+        (row_or ZeroDivisor (by_divisor (T.value b) (exact_rem (T.value a) (T.value b))))
+        (bits.old, side.old) (bits.new, side.new) result }
 {
     if b == T::ZERO {
         return Code::ZeroDivisor.number();
@@ -26,7 +27,7 @@ pub(crate) fn rem<T: Word>(a: T, b: T, bits: &mut T, side: &mut i32) -> i32
 #[inline]
 pub(crate) fn rem_int<T: Word>(a: T, k: T, frac: u32, bits: &mut T, side: &mut i32) -> i32
     ensures { CallAnswers T.value T.SIGNED T.BITS
-        (at_fraction T.BITS frac (row_or ZeroDivisor (row_rem_int (T.value a) (T.value k) frac)))
+        (at_fraction T.BITS frac (row_or ZeroDivisor (by_divisor (T.value k) (exact_rem_int (T.value a) (T.value k) frac))))
         (bits.old, side.old) (bits.new, side.new) result }
 {
     if frac > T::BITS {
@@ -42,7 +43,7 @@ pub(crate) fn rem_int<T: Word>(a: T, k: T, frac: u32, bits: &mut T, side: &mut i
 #[inline]
 pub(crate) fn rem_euclid<T: Word>(a: T, b: T, bits: &mut T, side: &mut i32) -> i32
     ensures { CallAnswers T.value T.SIGNED T.BITS
-        (row_or ZeroDivisor (row_rem_euclid (T.value a) (T.value b)))
+        (row_or ZeroDivisor (by_divisor (T.value b) (exact_rem_euclid (T.value a) (T.value b))))
         (bits.old, side.old) (bits.new, side.new) result }
 {
     if b == T::ZERO {
@@ -55,7 +56,7 @@ pub(crate) fn rem_euclid<T: Word>(a: T, b: T, bits: &mut T, side: &mut i32) -> i
 #[inline]
 pub(crate) fn rem_euclid_int<T: Word>(a: T, k: T, frac: u32, bits: &mut T, side: &mut i32) -> i32
     ensures { CallAnswers T.value T.SIGNED T.BITS
-        (at_fraction T.BITS frac (row_or ZeroDivisor (row_rem_euclid_int (T.value a) (T.value k) frac)))
+        (at_fraction T.BITS frac (row_or ZeroDivisor (by_divisor (T.value k) (exact_rem_euclid_int (T.value a) (T.value k) frac))))
         (bits.old, side.old) (bits.new, side.new) result }
 {
     if frac > T::BITS {
@@ -72,7 +73,7 @@ pub(crate) fn rem_euclid_int<T: Word>(a: T, k: T, frac: u32, bits: &mut T, side:
 #[inline]
 pub(crate) fn next_multiple_of<T: Word>(a: T, b: T, bits: &mut T, side: &mut i32) -> i32
     ensures { CallAnswers T.value T.SIGNED T.BITS
-        (row_or ZeroDivisor (row_next_multiple_of (T.value a) (T.value b)))
+        (row_or ZeroDivisor (by_divisor (T.value b) (exact_next_multiple_of (T.value a) (T.value b))))
         (bits.old, side.old) (bits.new, side.new) result }
 {
     if b == T::ZERO {

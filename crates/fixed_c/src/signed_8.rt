@@ -1,7 +1,7 @@
 //! The calls of `i8`.
 
 ghost use Rattle.std.specs.Prelude.{◌≡◌, Ok, true};
-ghost use Rattle.fixed_kernel.specs.Rows.{exact_abs, exact_add, exact_add_prod, exact_dist, exact_mul, exact_mul_add, exact_mul_int, exact_neg, exact_signum, exact_sub, row_div, row_div_euclid, row_div_euclid_int, row_div_int, row_next_multiple_of, row_recip, row_rem, row_rem_euclid, row_rem_euclid_int, row_rem_int, row_sqrt};
+ghost use Rattle.fixed_kernel.specs.Rows.{by_divisor, by_sign, exact_abs, exact_add, exact_add_prod, exact_dist, exact_div, exact_div_euclid, exact_div_euclid_int, exact_div_int, exact_mul, exact_mul_add, exact_mul_int, exact_neg, exact_next_multiple_of, exact_recip, exact_rem, exact_rem_euclid, exact_rem_euclid_int, exact_rem_int, exact_signum, exact_sqrt, exact_sub};
 ghost use Rattle.fixed_c.specs.declared.answer.Code.TheVariants.{ZeroDivisor, NegativeRoot};
 ghost use Rattle.fixed_c.specs.Answers.{at_fraction, row_or};
 ghost use Rattle.fixed_c.specs.Filters.{filter_of, fractions, output_in, past_after};
@@ -127,7 +127,9 @@ pub extern "C" fn fixed_i8_add_prod(
 /// `a 2^frac / b`, rounded toward zero.
 #[unsafe(no_mangle)]
 pub extern "C" fn fixed_i8_div(a: i8, b: i8, frac: u32, answer: &mut AnswerI8) -> i32
-    ensures { AnswersI8 (at_fraction 8 frac (row_or ZeroDivisor (row_div a b frac))) answer.old answer.new result }
+    ensures { AnswersI8
+        (at_fraction 8 frac (row_or ZeroDivisor (by_divisor b (exact_div a b frac))))
+        answer.old answer.new result }
 {
     quotients::div(a, b, frac, &mut answer.bits, &mut answer.side)
 }
@@ -135,7 +137,7 @@ pub extern "C" fn fixed_i8_div(a: i8, b: i8, frac: u32, answer: &mut AnswerI8) -
 /// `a / k`, rounded toward zero, for an integer `k`.
 #[unsafe(no_mangle)]
 pub extern "C" fn fixed_i8_div_int(a: i8, k: i8, answer: &mut AnswerI8) -> i32
-    ensures { AnswersI8 (row_or ZeroDivisor (row_div_int a k)) answer.old answer.new result }
+    ensures { AnswersI8 (row_or ZeroDivisor (by_divisor k (exact_div_int a k))) answer.old answer.new result }
 {
     quotients::div_int(a, k, &mut answer.bits, &mut answer.side)
 }
@@ -143,7 +145,9 @@ pub extern "C" fn fixed_i8_div_int(a: i8, k: i8, answer: &mut AnswerI8) -> i32
 /// `2^(2 frac) / a`, rounded toward zero.
 #[unsafe(no_mangle)]
 pub extern "C" fn fixed_i8_recip(a: i8, frac: u32, answer: &mut AnswerI8) -> i32
-    ensures { AnswersI8 (at_fraction 8 frac (row_or ZeroDivisor (row_recip a frac))) answer.old answer.new result }
+    ensures { AnswersI8
+        (at_fraction 8 frac (row_or ZeroDivisor (by_divisor a (exact_recip a frac))))
+        answer.old answer.new result }
 {
     quotients::recip(a, frac, &mut answer.bits, &mut answer.side)
 }
@@ -152,7 +156,7 @@ pub extern "C" fn fixed_i8_recip(a: i8, frac: u32, answer: &mut AnswerI8) -> i32
 #[unsafe(no_mangle)]
 pub extern "C" fn fixed_i8_div_euclid(a: i8, b: i8, frac: u32, answer: &mut AnswerI8) -> i32
     ensures { AnswersI8
-        (at_fraction 8 frac (row_or ZeroDivisor (row_div_euclid a b frac)))
+        (at_fraction 8 frac (row_or ZeroDivisor (by_divisor b (exact_div_euclid a b frac))))
         answer.old answer.new result }
 {
     quotients::div_euclid(a, b, frac, &mut answer.bits, &mut answer.side)
@@ -162,7 +166,7 @@ pub extern "C" fn fixed_i8_div_euclid(a: i8, b: i8, frac: u32, answer: &mut Answ
 #[unsafe(no_mangle)]
 pub extern "C" fn fixed_i8_div_euclid_int(a: i8, k: i8, frac: u32, answer: &mut AnswerI8) -> i32
     ensures { AnswersI8
-        (at_fraction 8 frac (row_or ZeroDivisor (row_div_euclid_int a k frac)))
+        (at_fraction 8 frac (row_or ZeroDivisor (by_divisor k (exact_div_euclid_int a k frac))))
         answer.old answer.new result }
 {
     quotients::div_euclid_int(a, k, frac, &mut answer.bits, &mut answer.side)
@@ -171,7 +175,7 @@ pub extern "C" fn fixed_i8_div_euclid_int(a: i8, k: i8, frac: u32, answer: &mut 
 /// `a - b q`, with the quotient q of `a` and `b` rounded toward zero.
 #[unsafe(no_mangle)]
 pub extern "C" fn fixed_i8_rem(a: i8, b: i8, answer: &mut AnswerI8) -> i32
-    ensures { AnswersI8 (row_or ZeroDivisor (row_rem a b)) answer.old answer.new result }
+    ensures { AnswersI8 (row_or ZeroDivisor (by_divisor b (exact_rem a b))) answer.old answer.new result }
 {
     remainders::rem(a, b, &mut answer.bits, &mut answer.side)
 }
@@ -180,7 +184,7 @@ pub extern "C" fn fixed_i8_rem(a: i8, b: i8, answer: &mut AnswerI8) -> i32
 #[unsafe(no_mangle)]
 pub extern "C" fn fixed_i8_rem_int(a: i8, k: i8, frac: u32, answer: &mut AnswerI8) -> i32
     ensures { AnswersI8
-        (at_fraction 8 frac (row_or ZeroDivisor (row_rem_int a k frac)))
+        (at_fraction 8 frac (row_or ZeroDivisor (by_divisor k (exact_rem_int a k frac))))
         answer.old answer.new result }
 {
     remainders::rem_int(a, k, frac, &mut answer.bits, &mut answer.side)
@@ -189,7 +193,9 @@ pub extern "C" fn fixed_i8_rem_int(a: i8, k: i8, frac: u32, answer: &mut AnswerI
 /// The remainder of the Euclidean pair of `a` and `b`.
 #[unsafe(no_mangle)]
 pub extern "C" fn fixed_i8_rem_euclid(a: i8, b: i8, answer: &mut AnswerI8) -> i32
-    ensures { AnswersI8 (row_or ZeroDivisor (row_rem_euclid a b)) answer.old answer.new result }
+    ensures { AnswersI8
+        (row_or ZeroDivisor (by_divisor b (exact_rem_euclid a b)))
+        answer.old answer.new result }
 {
     remainders::rem_euclid(a, b, &mut answer.bits, &mut answer.side)
 }
@@ -198,7 +204,7 @@ pub extern "C" fn fixed_i8_rem_euclid(a: i8, b: i8, answer: &mut AnswerI8) -> i3
 #[unsafe(no_mangle)]
 pub extern "C" fn fixed_i8_rem_euclid_int(a: i8, k: i8, frac: u32, answer: &mut AnswerI8) -> i32
     ensures { AnswersI8
-        (at_fraction 8 frac (row_or ZeroDivisor (row_rem_euclid_int a k frac)))
+        (at_fraction 8 frac (row_or ZeroDivisor (by_divisor k (exact_rem_euclid_int a k frac))))
         answer.old answer.new result }
 {
     remainders::rem_euclid_int(a, k, frac, &mut answer.bits, &mut answer.side)
@@ -208,7 +214,9 @@ pub extern "C" fn fixed_i8_rem_euclid_int(a: i8, k: i8, frac: u32, answer: &mut 
 /// where `b` is below 0.
 #[unsafe(no_mangle)]
 pub extern "C" fn fixed_i8_next_multiple_of(a: i8, b: i8, answer: &mut AnswerI8) -> i32
-    ensures { AnswersI8 (row_or ZeroDivisor (row_next_multiple_of a b)) answer.old answer.new result }
+    ensures { AnswersI8
+        (row_or ZeroDivisor (by_divisor b (exact_next_multiple_of a b)))
+        answer.old answer.new result }
 {
     remainders::next_multiple_of(a, b, &mut answer.bits, &mut answer.side)
 }
@@ -216,7 +224,9 @@ pub extern "C" fn fixed_i8_next_multiple_of(a: i8, b: i8, answer: &mut AnswerI8)
 /// The root of `a 2^frac`, rounded down.
 #[unsafe(no_mangle)]
 pub extern "C" fn fixed_i8_sqrt(a: i8, frac: u32, answer: &mut AnswerI8) -> i32
-    ensures { AnswersI8 (at_fraction 8 frac (row_or NegativeRoot (row_sqrt a frac))) answer.old answer.new result }
+    ensures { AnswersI8
+        (at_fraction 8 frac (row_or NegativeRoot (by_sign a (exact_sqrt a frac))))
+        answer.old answer.new result }
 {
     powers::sqrt(a, frac, &mut answer.bits, &mut answer.side)
 }

@@ -1,7 +1,7 @@
 //! The calls of `u8`.
 
 ghost use Rattle.std.specs.Prelude.{◌≡◌, Ok, false, pos};
-ghost use Rattle.fixed_kernel.specs.Rows.{exact_add, exact_add_prod, exact_dist, exact_mul, exact_mul_add, exact_mul_int, exact_neg, exact_next_power_of_two, exact_sub, row_div, row_div_euclid, row_div_euclid_int, row_div_int, row_next_multiple_of, row_recip, row_rem, row_rem_euclid, row_rem_euclid_int, row_rem_int, row_sqrt};
+ghost use Rattle.fixed_kernel.specs.Rows.{by_divisor, by_sign, exact_add, exact_add_prod, exact_dist, exact_div, exact_div_euclid, exact_div_euclid_int, exact_div_int, exact_mul, exact_mul_add, exact_mul_int, exact_neg, exact_next_multiple_of, exact_next_power_of_two, exact_recip, exact_rem, exact_rem_euclid, exact_rem_euclid_int, exact_rem_int, exact_sqrt, exact_sub};
 ghost use Rattle.fixed_c.specs.declared.answer.Code.TheVariants.{ZeroDivisor, NegativeRoot};
 ghost use Rattle.fixed_c.specs.Answers.{at_fraction, row_or};
 ghost use Rattle.fixed_c.specs.Filters.{filter_of, fractions, output_in, past_after};
@@ -112,7 +112,7 @@ pub extern "C" fn fixed_u8_add_prod(
 #[unsafe(no_mangle)]
 pub extern "C" fn fixed_u8_div(a: u8, b: u8, frac: u32, answer: &mut AnswerU8) -> i32
     ensures { AnswersU8
-        (at_fraction 8 frac (row_or ZeroDivisor (row_div (pos a) (pos b) frac)))
+        (at_fraction 8 frac (row_or ZeroDivisor (by_divisor (pos b) (exact_div (pos a) (pos b) frac))))
         answer.old answer.new result }
 {
     quotients::div(a, b, frac, &mut answer.bits, &mut answer.side)
@@ -121,7 +121,9 @@ pub extern "C" fn fixed_u8_div(a: u8, b: u8, frac: u32, answer: &mut AnswerU8) -
 /// `a / k`, rounded toward zero, for an integer `k`.
 #[unsafe(no_mangle)]
 pub extern "C" fn fixed_u8_div_int(a: u8, k: u8, answer: &mut AnswerU8) -> i32
-    ensures { AnswersU8 (row_or ZeroDivisor (row_div_int (pos a) (pos k))) answer.old answer.new result }
+    ensures { AnswersU8
+        (row_or ZeroDivisor (by_divisor (pos k) (exact_div_int (pos a) (pos k))))
+        answer.old answer.new result }
 {
     quotients::div_int(a, k, &mut answer.bits, &mut answer.side)
 }
@@ -130,7 +132,7 @@ pub extern "C" fn fixed_u8_div_int(a: u8, k: u8, answer: &mut AnswerU8) -> i32
 #[unsafe(no_mangle)]
 pub extern "C" fn fixed_u8_recip(a: u8, frac: u32, answer: &mut AnswerU8) -> i32
     ensures { AnswersU8
-        (at_fraction 8 frac (row_or ZeroDivisor (row_recip (pos a) frac)))
+        (at_fraction 8 frac (row_or ZeroDivisor (by_divisor (pos a) (exact_recip (pos a) frac))))
         answer.old answer.new result }
 {
     quotients::recip(a, frac, &mut answer.bits, &mut answer.side)
@@ -140,7 +142,7 @@ pub extern "C" fn fixed_u8_recip(a: u8, frac: u32, answer: &mut AnswerU8) -> i32
 #[unsafe(no_mangle)]
 pub extern "C" fn fixed_u8_div_euclid(a: u8, b: u8, frac: u32, answer: &mut AnswerU8) -> i32
     ensures { AnswersU8
-        (at_fraction 8 frac (row_or ZeroDivisor (row_div_euclid (pos a) (pos b) frac)))
+        (at_fraction 8 frac (row_or ZeroDivisor (by_divisor (pos b) (exact_div_euclid (pos a) (pos b) frac))))
         answer.old answer.new result }
 {
     quotients::div_euclid(a, b, frac, &mut answer.bits, &mut answer.side)
@@ -150,7 +152,7 @@ pub extern "C" fn fixed_u8_div_euclid(a: u8, b: u8, frac: u32, answer: &mut Answ
 #[unsafe(no_mangle)]
 pub extern "C" fn fixed_u8_div_euclid_int(a: u8, k: u8, frac: u32, answer: &mut AnswerU8) -> i32
     ensures { AnswersU8
-        (at_fraction 8 frac (row_or ZeroDivisor (row_div_euclid_int (pos a) (pos k) frac)))
+        (at_fraction 8 frac (row_or ZeroDivisor (by_divisor (pos k) (exact_div_euclid_int (pos a) (pos k) frac))))
         answer.old answer.new result }
 {
     quotients::div_euclid_int(a, k, frac, &mut answer.bits, &mut answer.side)
@@ -159,7 +161,9 @@ pub extern "C" fn fixed_u8_div_euclid_int(a: u8, k: u8, frac: u32, answer: &mut 
 /// `a - b q`, with the quotient q of `a` and `b` rounded toward zero.
 #[unsafe(no_mangle)]
 pub extern "C" fn fixed_u8_rem(a: u8, b: u8, answer: &mut AnswerU8) -> i32
-    ensures { AnswersU8 (row_or ZeroDivisor (row_rem (pos a) (pos b))) answer.old answer.new result }
+    ensures { AnswersU8
+        (row_or ZeroDivisor (by_divisor (pos b) (exact_rem (pos a) (pos b))))
+        answer.old answer.new result }
 {
     remainders::rem(a, b, &mut answer.bits, &mut answer.side)
 }
@@ -168,7 +172,7 @@ pub extern "C" fn fixed_u8_rem(a: u8, b: u8, answer: &mut AnswerU8) -> i32
 #[unsafe(no_mangle)]
 pub extern "C" fn fixed_u8_rem_int(a: u8, k: u8, frac: u32, answer: &mut AnswerU8) -> i32
     ensures { AnswersU8
-        (at_fraction 8 frac (row_or ZeroDivisor (row_rem_int (pos a) (pos k) frac)))
+        (at_fraction 8 frac (row_or ZeroDivisor (by_divisor (pos k) (exact_rem_int (pos a) (pos k) frac))))
         answer.old answer.new result }
 {
     remainders::rem_int(a, k, frac, &mut answer.bits, &mut answer.side)
@@ -177,7 +181,9 @@ pub extern "C" fn fixed_u8_rem_int(a: u8, k: u8, frac: u32, answer: &mut AnswerU
 /// The remainder of the Euclidean pair of `a` and `b`.
 #[unsafe(no_mangle)]
 pub extern "C" fn fixed_u8_rem_euclid(a: u8, b: u8, answer: &mut AnswerU8) -> i32
-    ensures { AnswersU8 (row_or ZeroDivisor (row_rem_euclid (pos a) (pos b))) answer.old answer.new result }
+    ensures { AnswersU8
+        (row_or ZeroDivisor (by_divisor (pos b) (exact_rem_euclid (pos a) (pos b))))
+        answer.old answer.new result }
 {
     remainders::rem_euclid(a, b, &mut answer.bits, &mut answer.side)
 }
@@ -186,7 +192,7 @@ pub extern "C" fn fixed_u8_rem_euclid(a: u8, b: u8, answer: &mut AnswerU8) -> i3
 #[unsafe(no_mangle)]
 pub extern "C" fn fixed_u8_rem_euclid_int(a: u8, k: u8, frac: u32, answer: &mut AnswerU8) -> i32
     ensures { AnswersU8
-        (at_fraction 8 frac (row_or ZeroDivisor (row_rem_euclid_int (pos a) (pos k) frac)))
+        (at_fraction 8 frac (row_or ZeroDivisor (by_divisor (pos k) (exact_rem_euclid_int (pos a) (pos k) frac))))
         answer.old answer.new result }
 {
     remainders::rem_euclid_int(a, k, frac, &mut answer.bits, &mut answer.side)
@@ -196,7 +202,9 @@ pub extern "C" fn fixed_u8_rem_euclid_int(a: u8, k: u8, frac: u32, answer: &mut 
 /// where `b` is below 0.
 #[unsafe(no_mangle)]
 pub extern "C" fn fixed_u8_next_multiple_of(a: u8, b: u8, answer: &mut AnswerU8) -> i32
-    ensures { AnswersU8 (row_or ZeroDivisor (row_next_multiple_of (pos a) (pos b))) answer.old answer.new result }
+    ensures { AnswersU8
+        (row_or ZeroDivisor (by_divisor (pos b) (exact_next_multiple_of (pos a) (pos b))))
+        answer.old answer.new result }
 {
     remainders::next_multiple_of(a, b, &mut answer.bits, &mut answer.side)
 }
@@ -205,7 +213,7 @@ pub extern "C" fn fixed_u8_next_multiple_of(a: u8, b: u8, answer: &mut AnswerU8)
 #[unsafe(no_mangle)]
 pub extern "C" fn fixed_u8_sqrt(a: u8, frac: u32, answer: &mut AnswerU8) -> i32
     ensures { AnswersU8
-        (at_fraction 8 frac (row_or NegativeRoot (row_sqrt (pos a) frac)))
+        (at_fraction 8 frac (row_or NegativeRoot (by_sign (pos a) (exact_sqrt (pos a) frac))))
         answer.old answer.new result }
 {
     powers::sqrt(a, frac, &mut answer.bits, &mut answer.side)

@@ -4,7 +4,7 @@ use Rattle.fixed_word.specs.declared.rounding.Rounding.{Rounding}
 use Rattle.fixed_script.specs.declared.names.Op.{Op}
 use Rattle.fixed_script.specs.declared.names.Op.TheVariants.{Neg, Add, Sub, Mul, Div, Recip, MulAdd, AddProd, MulInt, DivInt, DivEuclid, DivEuclidInt, RemEuclidInt, NextMultipleOf, Dist, Sqrt, Abs, Signum, Rem, RemInt, RemEuclid, NextPowerOfTwo}
 use Rattle.fixed_kernel.specs.RoundedRows.{rounded_mul, rounded_div, rounded_recip, rounded_mul_add, rounded_add_prod, rounded_div_int}
-use Rattle.fixed_kernel.specs.Rows.{by_divisor, exact_neg, exact_add, exact_sub, exact_mul, exact_mul_add, exact_add_prod, exact_mul_int, exact_dist, exact_abs, exact_signum, exact_next_power_of_two, row_div, row_recip, row_div_int, row_div_euclid, row_div_euclid_int, row_rem_euclid_int, row_next_multiple_of, row_sqrt, row_rem, row_rem_int, row_rem_euclid}
+use Rattle.fixed_kernel.specs.Rows.{by_divisor, exact_neg, exact_add, exact_sub, exact_mul, exact_mul_add, exact_add_prod, exact_mul_int, exact_dist, exact_abs, exact_signum, exact_next_power_of_two, exact_div, exact_recip, exact_div_int, exact_div_euclid, exact_div_euclid_int, exact_rem_euclid_int, exact_next_multiple_of, by_sign, exact_sqrt, exact_rem, exact_rem_int, exact_rem_euclid}
 
 -- The exact number of units of the result, or nothing where the row is undefined.
 -- The operands stand in the order of the text, and f, g, h are their fractions; an operation looks at its own alone.
@@ -13,23 +13,23 @@ exact Neg a _ _ _ _ _ = Some (exact_neg a)
 exact Add a b _ _ _ _ = Some (exact_add a b)
 exact Sub a b _ _ _ _ = Some (exact_sub a b)
 exact Mul a b _ f _ _ = Some (exact_mul a b f)
-exact Div a b _ f _ _ = row_div a b f
-exact Recip a _ _ f _ _ = row_recip a f
+exact Div a b _ f _ _ = by_divisor b (exact_div a b f)
+exact Recip a _ _ f _ _ = by_divisor a (exact_recip a f)
 exact MulAdd a m c f g _ = Some (exact_mul_add a m c g)
 exact AddProd c a b f g h = Some (exact_add_prod c a b f g h)
 exact MulInt a k _ _ _ _ = Some (exact_mul_int a k)
-exact DivInt a k _ _ _ _ = row_div_int a k
-exact DivEuclid a b _ f _ _ = row_div_euclid a b f
-exact DivEuclidInt a k _ f _ _ = row_div_euclid_int a k f
-exact RemEuclidInt a k _ f _ _ = row_rem_euclid_int a k f
-exact NextMultipleOf a b _ _ _ _ = row_next_multiple_of a b
+exact DivInt a k _ _ _ _ = by_divisor k (exact_div_int a k)
+exact DivEuclid a b _ f _ _ = by_divisor b (exact_div_euclid a b f)
+exact DivEuclidInt a k _ f _ _ = by_divisor k (exact_div_euclid_int a k f)
+exact RemEuclidInt a k _ f _ _ = by_divisor k (exact_rem_euclid_int a k f)
+exact NextMultipleOf a b _ _ _ _ = by_divisor b (exact_next_multiple_of a b)
 exact Dist a b _ _ _ _ = Some (exact_dist a b)
-exact Sqrt a _ _ f _ _ = row_sqrt a f
+exact Sqrt a _ _ f _ _ = by_sign a (exact_sqrt a f)
 exact Abs a _ _ _ _ _ = Some (exact_abs a)
 exact Signum a _ _ f _ _ = Some (exact_signum a f)
-exact Rem a b _ _ _ _ = row_rem a b
-exact RemInt a k _ f _ _ = row_rem_int a k f
-exact RemEuclid a b _ _ _ _ = row_rem_euclid a b
+exact Rem a b _ _ _ _ = by_divisor b (exact_rem a b)
+exact RemInt a k _ f _ _ = by_divisor k (exact_rem_int a k f)
+exact RemEuclid a b _ _ _ _ = by_divisor b (exact_rem_euclid a b)
 exact NextPowerOfTwo a _ _ _ _ _ = Some (exact_next_power_of_two a)
 
 -- the same with a rounding that is named; the other operations take none

@@ -6,13 +6,13 @@ use Rattle.std.specs.Prelude.{◌^◌, ◌+◌, ◌*◌, ◌+ℤ◌, ◌-ℤ◌,
 use Rattle.fixed_word.specs.Quotient.{floor_quotient, truncated_quotient, euclidean_quotient, euclidean_remainder}
 use Rattle.fixed_root.specs.Root.{root_of}
 
--- x, where d is not 0
+-- x, where d is not 0: the row of an operation with a divisor
 abbrev pub by_divisor : ℤ → ℤ → Option ℤ
 by_divisor (pos zero) x = None
 by_divisor (pos (suc n)) x = Some x
 by_divisor (negsuc n) x = Some x
 
--- x, where a is not below 0
+-- x, where a is not below 0: the row of a root
 abbrev pub by_sign : ℤ → ℤ → Option ℤ
 by_sign (pos n) x = Some x
 by_sign (negsuc n) x = None
@@ -109,37 +109,3 @@ power_over (suc n) = if nat_le (suc n) (power_over n) then power_over n else 2 *
 -- for a of at least 0: it is an operation of unsigned words alone
 abbrev pub exact_next_power_of_two : ℤ → ℤ
 exact_next_power_of_two a = pos (power_over (unsigned_abs a))
-
--- ---- the rows that are undefined somewhere
-abbrev pub row_div : ℤ → ℤ → ℕ → Option ℤ
-row_div a b f = by_divisor b (exact_div a b f)
-
-abbrev pub row_div_int : ℤ → ℤ → Option ℤ
-row_div_int a k = by_divisor k (exact_div_int a k)
-
-abbrev pub row_recip : ℤ → ℕ → Option ℤ
-row_recip a f = by_divisor a (exact_recip a f)
-
-abbrev pub row_div_euclid : ℤ → ℤ → ℕ → Option ℤ
-row_div_euclid a b f = by_divisor b (exact_div_euclid a b f)
-
-abbrev pub row_div_euclid_int : ℤ → ℤ → ℕ → Option ℤ
-row_div_euclid_int a k f = by_divisor k (exact_div_euclid_int a k f)
-
-abbrev pub row_rem : ℤ → ℤ → Option ℤ
-row_rem a b = by_divisor b (exact_rem a b)
-
-abbrev pub row_rem_int : ℤ → ℤ → ℕ → Option ℤ
-row_rem_int a k f = by_divisor k (exact_rem_int a k f)
-
-abbrev pub row_rem_euclid : ℤ → ℤ → Option ℤ
-row_rem_euclid a b = by_divisor b (exact_rem_euclid a b)
-
-abbrev pub row_rem_euclid_int : ℤ → ℤ → ℕ → Option ℤ
-row_rem_euclid_int a k f = by_divisor k (exact_rem_euclid_int a k f)
-
-abbrev pub row_next_multiple_of : ℤ → ℤ → Option ℤ
-row_next_multiple_of a b = by_divisor b (exact_next_multiple_of a b)
-
-abbrev pub row_sqrt : ℤ → ℕ → Option ℤ
-row_sqrt a f = by_sign a (exact_sqrt a f)

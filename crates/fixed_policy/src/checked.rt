@@ -4,7 +4,7 @@ ghost use Rattle.std.specs.Prelude.{◌<◌, ◌%◌, ◌^◌, ◌*ℤ◌, ◌�
 ghost use Rattle.fixed_word.specs.Format.{wrap};
 ghost use Rattle.fixed_word.specs.Policies.{checked};
 ghost use Rattle.fixed_word.specs.Quotient.{floor_quotient};
-ghost use Rattle.fixed_kernel.specs.Rows.{exact_abs, exact_add, exact_dist, exact_mul, exact_mul_int, exact_neg, exact_next_power_of_two, exact_signum, exact_sub, row_div, row_div_euclid, row_div_euclid_int, row_div_int, row_next_multiple_of, row_recip, row_rem, row_rem_euclid, row_rem_euclid_int, row_rem_int, row_sqrt};
+ghost use Rattle.fixed_kernel.specs.Rows.{by_divisor, by_sign, exact_abs, exact_add, exact_dist, exact_div, exact_div_euclid, exact_div_euclid_int, exact_div_int, exact_mul, exact_mul_int, exact_neg, exact_next_multiple_of, exact_next_power_of_two, exact_recip, exact_rem, exact_rem_euclid, exact_rem_euclid_int, exact_rem_int, exact_signum, exact_sqrt, exact_sub};
 
 use crate::numbers::checked_number;
 use fixed_kernel::{
@@ -43,31 +43,32 @@ pub trait Checked: Number {
     fn checked_div(self, rhs: Self) -> Option<Self>
         requires { Self.FRACTION ≤ Self.BITS }
         ensures { option_map Self.number result ≡ checked Self.SIGNED Self.BITS
-            (row_div (Self.number self) (Self.number rhs) Self.FRACTION) };
+            (by_divisor (Self.number rhs) (exact_div (Self.number self) (Self.number rhs) Self.FRACTION)) };
 
     /// One over the number, rounded toward zero; None exactly on zero or where it does not fit.
     fn checked_recip(self) -> Option<Self>
         requires { Self.FRACTION ≤ Self.BITS }
-        ensures { option_map Self.number result
-            ≡ checked Self.SIGNED Self.BITS (row_recip (Self.number self) Self.FRACTION) };
+        ensures { option_map Self.number result ≡ checked Self.SIGNED Self.BITS
+            (by_divisor (Self.number self) (exact_recip (Self.number self) Self.FRACTION)) };
 
     /// The remainder of the quotient that is rounded toward zero; None exactly on a zero divisor or
     /// where it does not fit.
     fn checked_rem(self, rhs: Self) -> Option<Self>
-        ensures { option_map Self.number result
-            ≡ checked Self.SIGNED Self.BITS (row_rem (Self.number self) (Self.number rhs)) };
+        ensures { option_map Self.number result ≡ checked Self.SIGNED Self.BITS
+            (by_divisor (Self.number rhs) (exact_rem (Self.number self) (Self.number rhs))) };
 
     /// The Euclidean remainder; None exactly on a zero divisor or where it does not fit.
     fn checked_rem_euclid(self, rhs: Self) -> Option<Self>
-        ensures { option_map Self.number result
-            ≡ checked Self.SIGNED Self.BITS (row_rem_euclid (Self.number self) (Self.number rhs)) };
+        ensures { option_map Self.number result ≡ checked Self.SIGNED Self.BITS
+            (by_divisor (Self.number rhs) (exact_rem_euclid (Self.number self) (Self.number rhs))) };
 
     /// The Euclidean quotient, a whole number; None exactly on a zero divisor or where it does not
     /// fit.
     fn checked_div_euclid(self, rhs: Self) -> Option<Self>
         requires { Self.FRACTION ≤ Self.BITS }
         ensures { option_map Self.number result ≡ checked Self.SIGNED Self.BITS
-            (row_div_euclid (Self.number self) (Self.number rhs) Self.FRACTION) };
+            (by_divisor (Self.number rhs)
+            (exact_div_euclid (Self.number self) (Self.number rhs) Self.FRACTION)) };
 
     /// The distance of both numbers; None exactly where it does not fit.
     fn checked_dist(self, other: Self) -> Option<Self>
@@ -78,7 +79,7 @@ pub trait Checked: Number {
     /// None exactly on a zero `other` or where it does not fit.
     fn checked_next_multiple_of(self, other: Self) -> Option<Self>
         ensures { option_map Self.number result ≡ checked Self.SIGNED Self.BITS
-            (row_next_multiple_of (Self.number self) (Self.number other)) };
+            (by_divisor (Self.number other) (exact_next_multiple_of (Self.number self) (Self.number other))) };
 
     /// The product by an integer; None exactly where it does not fit.
     fn checked_mul_int(self, rhs: Self::Bits) -> Option<Self>
@@ -89,34 +90,37 @@ pub trait Checked: Number {
     /// does not fit.
     fn checked_div_int(self, rhs: Self::Bits) -> Option<Self>
         ensures { option_map Self.number result ≡ checked Self.SIGNED Self.BITS
-            (row_div_int (Self.number self) (Self.Bits.value rhs)) };
+            (by_divisor (Self.Bits.value rhs) (exact_div_int (Self.number self) (Self.Bits.value rhs))) };
 
     /// The remainder by an integer, of the quotient that is rounded toward zero; None exactly on a
     /// zero divisor or where it does not fit.
     fn checked_rem_int(self, rhs: Self::Bits) -> Option<Self>
         requires { Self.FRACTION ≤ Self.BITS }
         ensures { option_map Self.number result ≡ checked Self.SIGNED Self.BITS
-            (row_rem_int (Self.number self) (Self.Bits.value rhs) Self.FRACTION) };
+            (by_divisor (Self.Bits.value rhs)
+            (exact_rem_int (Self.number self) (Self.Bits.value rhs) Self.FRACTION)) };
 
     /// The Euclidean remainder by an integer; None exactly on a zero divisor or where it does not
     /// fit.
     fn checked_rem_euclid_int(self, rhs: Self::Bits) -> Option<Self>
         requires { Self.FRACTION ≤ Self.BITS }
         ensures { option_map Self.number result ≡ checked Self.SIGNED Self.BITS
-            (row_rem_euclid_int (Self.number self) (Self.Bits.value rhs) Self.FRACTION) };
+            (by_divisor (Self.Bits.value rhs)
+            (exact_rem_euclid_int (Self.number self) (Self.Bits.value rhs) Self.FRACTION)) };
 
     /// The Euclidean quotient by an integer, a whole number; None exactly on a zero divisor or
     /// where it does not fit.
     fn checked_div_euclid_int(self, rhs: Self::Bits) -> Option<Self>
         requires { Self.FRACTION ≤ Self.BITS }
         ensures { option_map Self.number result ≡ checked Self.SIGNED Self.BITS
-            (row_div_euclid_int (Self.number self) (Self.Bits.value rhs) Self.FRACTION) };
+            (by_divisor (Self.Bits.value rhs)
+            (exact_div_euclid_int (Self.number self) (Self.Bits.value rhs) Self.FRACTION)) };
 
     /// The square root, rounded down; None exactly on a number below zero or where it does not fit.
     fn checked_sqrt(self) -> Option<Self>
         requires { Self.FRACTION ≤ Self.BITS }
-        ensures { option_map Self.number result
-            ≡ checked Self.SIGNED Self.BITS (row_sqrt (Self.number self) Self.FRACTION) };
+        ensures { option_map Self.number result ≡ checked Self.SIGNED Self.BITS
+            (by_sign (Self.number self) (exact_sqrt (Self.number self) Self.FRACTION)) };
 
     /// The bits moved up by `rhs` places, without what lies past the width; None exactly where
     /// `rhs` is the width or more.
