@@ -12,8 +12,7 @@ ghost use Rattle.fixed_word.specs.declared.rounding.Rounding.TheVariants.{Down, 
 ghost use Rattle.fixed_kernel.specs.RowLaws.{IsFromZero, IsNextMultiple, IsNextPower, IsOffZero, Misses};
 ghost use Rattle.fixed_kernel.specs.Rounded.{IsRounded, rounded};
 ghost use Rattle.fixed_kernel.specs.RoundedRows.{rounded_add_prod, rounded_div, rounded_div_int, rounded_mul, rounded_mul_add, rounded_recip};
-ghost use Rattle.fixed_kernel.specs.Rows.{exact_abs, exact_add_prod, exact_dist, exact_div, exact_div_euclid, exact_div_euclid_int, exact_div_int, exact_mul, exact_mul_add, exact_neg, exact_next_multiple_of, exact_next_power_of_two, exact_recip, exact_rem, exact_rem_euclid, exact_rem_euclid_int, exact_rem_int, exact_signum, exact_sqrt};
-ghost use Rattle.fixed_kernel.specs.Rows.{by_divisor, by_sign, exact_div, exact_div_euclid, exact_div_euclid_int, exact_div_int, exact_next_multiple_of, exact_recip, exact_rem, exact_rem_euclid, exact_rem_euclid_int, exact_rem_int, exact_sqrt};
+ghost use Rattle.fixed_kernel.specs.Rows.{by_divisor, by_sign, exact_abs, exact_add_prod, exact_dist, exact_div, exact_div_euclid, exact_div_euclid_int, exact_div_int, exact_mul, exact_mul_add, exact_neg, exact_next_multiple_of, exact_next_power_of_two, exact_recip, exact_rem, exact_rem_euclid, exact_rem_euclid_int, exact_rem_int, exact_signum, exact_sqrt};
 
 /// `rem`, `rem_int` and `rem_euclid` fit on every word, though the integer of `rem_int` may be far outside
 /// the range as a number of units; a Euclidean remainder is at least 0 and below the magnitude of its
@@ -81,23 +80,11 @@ pub fn power_law()
     ensures { (a : ℤ) → pos 0 ≤ℤ a → IsNextPower a (exact_next_power_of_two a) }
 {}
 
-/// A row has no number exactly where its divisor is 0, or where the operand of its root is below 0.
+/// A row with a divisor has no number exactly where that is 0, and the row of a root where its operand is
+/// below 0.
 pub fn row_law()
-    ensures div { (a b : ℤ) (f : ℕ) → IsOffZero b (exact_div a b f) (by_divisor b (exact_div a b f)) }
-    ensures div_int { (a k : ℤ) → IsOffZero k (exact_div_int a k) (by_divisor k (exact_div_int a k)) }
-    ensures recip { (a : ℤ) (f : ℕ) → IsOffZero a (exact_recip a f) (by_divisor a (exact_recip a f)) }
-    ensures div_euclid { (a b : ℤ) (f : ℕ)
-        → IsOffZero b (exact_div_euclid a b f) (by_divisor b (exact_div_euclid a b f)) }
-    ensures div_euclid_int { (a k : ℤ) (f : ℕ)
-        → IsOffZero k (exact_div_euclid_int a k f) (by_divisor k (exact_div_euclid_int a k f)) }
-    ensures rem { (a b : ℤ) → IsOffZero b (exact_rem a b) (by_divisor b (exact_rem a b)) }
-    ensures rem_int { (a k : ℤ) (f : ℕ) → IsOffZero k (exact_rem_int a k f) (by_divisor k (exact_rem_int a k f)) }
-    ensures rem_euclid { (a b : ℤ) → IsOffZero b (exact_rem_euclid a b) (by_divisor b (exact_rem_euclid a b)) }
-    ensures rem_euclid_int { (a k : ℤ) (f : ℕ)
-        → IsOffZero k (exact_rem_euclid_int a k f) (by_divisor k (exact_rem_euclid_int a k f)) }
-    ensures next_multiple_of { (a b : ℤ)
-        → IsOffZero b (exact_next_multiple_of a b) (by_divisor b (exact_next_multiple_of a b)) }
-    ensures sqrt { (a : ℤ) (f : ℕ) → IsFromZero a (exact_sqrt a f) (by_sign a (exact_sqrt a f)) }
+    ensures divisor { (d x : ℤ) → IsOffZero d x (by_divisor d x) }
+    ensures sign { (a x : ℤ) → IsFromZero a x (by_sign a x) }
 {}
 
 /// The rounded quotient meets the equation of its rounding, and nothing else does.
