@@ -1,5 +1,5 @@
 -- A line and its capped form have one cause and one move.
-use Rattle.std.proofs.Common.{◌≡◌, ◌^◌, ◌<◌, ◌≤◌, ℕ, suc, ℤ, pos, negsuc, neg_ℤ, Bool, true, false, not, ◌||◌, nat_le, unsigned_abs, List, ◌∷◌, length, Option, Some, if◌then◌else◌, Result, Ok, Err, subst, refl, sym, ap, ◌∙◌, arith}
+use Rattle.std.proofs.Common.{◌≡◌, ◌^◌, ◌<◌, ◌≤◌, ℕ, suc, ℤ, pos, negsuc, neg_ℤ, Bool, true, false, not, ◌||◌, nat_le, unsigned_abs, List, length, Option, Some, if◌then◌else◌, Result, Ok, Err, subst, refl, sym, ap, ◌∙◌, arith}
 use Rattle.std.proofs.lemmas.Int.{ints}
 use Rattle.std.proofs.lemmas.Bool.Decides.{nat_tests}
 use Rattle.fixed_text.specs.declared.names.WordName.{WordName}

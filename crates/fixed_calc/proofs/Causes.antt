@@ -1,5 +1,5 @@
 -- The cause of a line, from its tests.
-use Rattle.std.proofs.Common.{◌≡◌, ◌^◌, ◌<◌, ℕ, ℤ, Bool, true, false, nat_le, List, [], ◌∷◌, pos, set, length, unsigned_abs, Option, Some, None, Result, Ok, Err, if◌then◌else◌, ◌||◌, not, refl, ap, ◌∙◌, sym, arith, neg_ℤ, subst, inl, inr}
+use Rattle.std.proofs.Common.{◌≡◌, ◌^◌, ◌<◌, ℕ, ℤ, Bool, true, false, nat_le, List, pos, set, length, unsigned_abs, Option, Some, None, Result, Ok, Err, if◌then◌else◌, ◌||◌, not, refl, ap, ◌∙◌, sym, arith, neg_ℤ, subst, inl, inr}
 use Rattle.std.proofs.lemmas.Bool.Decides.{nat_tests}
 use Rattle.std.specs.Bool.{⊤}
 use Rattle.std.proofs.lemmas.List.{get_or_past}

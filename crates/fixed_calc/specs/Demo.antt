@@ -5,7 +5,7 @@ use Rattle.fixed_text.specs.declared.names.WordName.TheVariants.{I64}
 use Rattle.fixed_script.specs.declared.names.Policy.TheVariants.{Checked, Saturating, Wrapping, Overflowing}
 use Rattle.fixed_script.specs.declared.names.Op.TheVariants.{Add, Sub, Mul, Div, MulAdd, AddProd, Sqrt}
 use Rattle.fixed_calc.specs.declared.answer.Answer.{Answer}
-use Rattle.fixed_calc.specs.declared.answer.Answer.TheVariants.{Absent, Bits, Flagged}
+use Rattle.fixed_calc.specs.declared.answer.Answer.TheVariants.{Absent, Flagged}
 use Rattle.fixed_script.specs.Text.{ScriptHeader, header_text, ScriptLine, SetTo, Apply, OneRegister, TwoRegisters, ThreeRegisters, line_text}
 use Rattle.fixed_calc.specs.Machine.{State, answer, move}
 use Rattle.fixed_calc.specs.Meaning.{start}
