@@ -18,12 +18,18 @@ pub fn word<T: Word>(number: i128) -> T {
     T::residue(number < 0, number.unsigned_abs())
 }
 
-/// The checked, overflowing and wrapping answers of a call whose number is `exact`.
-pub fn answers_of<T: Word, const F: u32>(
-    exact: i128,
-) -> (Option<Fixed<T, F>>, (Fixed<T, F>, bool), Fixed<T, F>) {
+/// The checked, overflowing and wrapping answers of a call.
+pub type Answers<T, const F: u32> = (Option<Fixed<T, F>>, (Fixed<T, F>, bool), Fixed<T, F>);
+
+/// Those of a call whose number is `exact`.
+pub fn answers_of<T: Word, const F: u32>(exact: i128) -> Answers<T, F> {
     let kept = Fixed { bits: word(exact) };
     let fits = number(T::MIN) <= exact && exact <= number(T::MAX);
     let checked = if fits { Some(kept) } else { None };
     (checked, (kept, !fits), kept)
+}
+
+/// Whether those are the answers of a call whose number is `exact`.
+pub fn stand<T: Word, const F: u32>(answers: Answers<T, F>, exact: i128) -> bool {
+    answers == answers_of(exact)
 }

@@ -17,3 +17,5 @@ mod products;
 mod remainders;
 #[cfg(test)]
 mod roots;
+#[cfg(test)]
+mod same;

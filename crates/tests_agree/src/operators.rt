@@ -5,6 +5,7 @@
 
 ghost use Rattle.std.specs.Prelude.{◌≤◌, ◌<◌};
 
+use super::same::all_hold;
 use fixed_bits::BitWord;
 use fixed_num::{Fixed, FixedI16, FixedI32, FixedU16, FixedU32};
 use fixed_ops::Plain;
@@ -140,6 +141,11 @@ fn over(x: i64, d: i64) -> i64 {
     x.checked_div(d).unwrap_or(0)
 }
 
+/// Whether the number with these bits was found.
+fn is_number<T: Word, const F: u32>(found: Option<Fixed<T, F>>, bits: i64) -> bool {
+    found == Some(number(bits))
+}
+
 /// The operators on 128 a and 128 b, or on 128 a and the integer b, at seven places of a word.
 fn seven_places<T: Word, const F: u32>(rt: &impl Abort, zero: Fixed<T, F>, a: i64, b: i64)
     requires { F ≤ T.BITS }
@@ -147,44 +153,45 @@ fn seven_places<T: Word, const F: u32>(rt: &impl Abort, zero: Fixed<T, F>, a: i6
     let (x, y) = (a.wrapping_mul(128), b.wrapping_mul(128));
     let (p, q, k) = (number(x), number(y), number::<T, F>(b).bits);
     let left = x.wrapping_sub(y.wrapping_mul(over(a, b)));
-    assert!(rt; difference(p, p) == Some(zero), "{a}");
-    assert!(rt; sum(p, q) == Some(number(x.wrapping_add(y))), "{a} and {b}");
-    assert!(rt;
-        product(p, q) == Some(number(x.wrapping_mul(b))),
-        "{a} and {b}"
-    );
-    assert!(rt; quotient(p, q) == Some(number(over(x, b))), "{a} and {b}");
-    assert!(rt; remainder(p, q) == Some(number(left)), "{a} and {b}");
-    assert!(rt;
-        multiple(p, k) == Some(number(x.wrapping_mul(b))),
-        "{a} and {b}"
-    );
-    assert!(rt; part(p, k) == Some(number(over(x, b))), "{a} and {b}");
-    assert!(rt; rest(p, k) == Some(number(left)), "{a} and {b}");
-    if T::SIGNED || b < a {
-        assert!(rt;
-            difference(p, q) == Some(number(x.wrapping_sub(y))),
-            "{a} and {b}"
-        );
-    }
+    let falls = T::SIGNED || b < a;
+    let apart = !falls || is_number(difference(p, q), x.wrapping_sub(y));
+    let rows = [
+        ("difference of one number", difference(p, p) == Some(zero)),
+        ("sum", is_number(sum(p, q), x.wrapping_add(y))),
+        ("difference", apart),
+        ("product", is_number(product(p, q), x.wrapping_mul(b))),
+        ("quotient", is_number(quotient(p, q), over(x, b))),
+        ("remainder", is_number(remainder(p, q), left)),
+        (
+            "product by an integer",
+            is_number(multiple(p, k), x.wrapping_mul(b)),
+        ),
+        ("quotient by an integer", is_number(part(p, k), over(x, b))),
+        ("remainder by an integer", is_number(rest(p, k), left)),
+    ];
+    all_hold(rt, (a as i128, b as i128), &rows);
 }
 
 fn signed_places(rt: &impl Abort, a: i64, b: i64) {
     seven_places(rt, FixedI16::<7> { bits: 0 }, a, b);
     let units = a.wrapping_mul(128);
     let (x, k) = (number::<i16, 7>(units), number::<i16, 7>(b).bits);
-    assert_eq!(rt; negated(x), Some(number(units.wrapping_neg())));
-    assert_eq!(rt; multiple_signed(k, x), Some(number(units.wrapping_mul(b))));
+    let rows = [
+        ("negated first", is_number(negated(x), units.wrapping_neg())),
+        (
+            "product",
+            is_number(multiple_signed(k, x), units.wrapping_mul(b)),
+        ),
+    ];
+    all_hold(rt, (a as i128, b as i128), &rows);
 }
 
 fn unsigned_places(rt: &impl Abort, a: i64, b: i64) {
     seven_places(rt, FixedU16::<7> { bits: 0 }, a, b);
     let units = a.wrapping_mul(128);
     let (x, k) = (number::<u16, 7>(units), number::<u16, 7>(b).bits);
-    assert_eq!(rt;
-        multiple_unsigned(k, x),
-        Some(number(units.wrapping_mul(b)))
-    );
+    let product = is_number(multiple_unsigned(k, x), units.wrapping_mul(b));
+    assert!(rt; product, "{a} and {b}");
 }
 
 #[test]
@@ -247,6 +254,18 @@ fn rests<const F: u32>(bits: i32, k: i32) -> (Option<i32>, Option<i32>)
     )
 }
 
+/// Bits and an integer, with both remainders.
+type Rests = (i32, i32, (Option<i32>, Option<i32>));
+
+/// Asserts that each row has its remainders at that fraction.
+fn all_leave<const F: u32>(rt: &impl Abort, rows: &[Rests])
+    requires { F ≤ 32 }
+{
+    for (bits, k, want) in rows {
+        assert_eq!(rt; rests::<F>(*bits, *k), *want, "{bits} by {k} at {F}");
+    }
+}
+
 #[test]
 fn remainders_by_integers(rt: HostRuntime) {
     for a in [-32768_i32, -32767, 32767] {
@@ -257,43 +276,37 @@ fn remainders_by_integers(rt: HostRuntime) {
             } else {
                 left
             };
-            assert_eq!(rt;
-                rests::<16>(a.wrapping_mul(65536), k),
-                (Some(left.wrapping_mul(65536)), Some(up.wrapping_mul(65536))),
-                "{a} by {k}"
-            );
+            let (left, up) = (left.wrapping_mul(65536), up.wrapping_mul(65536));
+            let row = (a.wrapping_mul(65536), k, (Some(left), Some(up)));
+            all_leave::<16>(&rt, &[row]);
         }
     }
-    assert_eq!(rt; rests::<16>(i32::MIN, -1), (Some(0), Some(0)));
-    for (bits, want) in [
-        (i32::MIN, (Some(0), Some(0))),
-        (-1610612736, (Some(-1610612736), Some(536870912))),
-        (-1073741824, (Some(-1073741824), Some(1073741824))),
-        (-536870912, (Some(-536870912), Some(1610612736))),
-        (0, (Some(0), Some(0))),
-        (536870912, (Some(536870912), Some(536870912))),
-        (1073741824, (Some(1073741824), Some(1073741824))),
-        (1610612736, (Some(1610612736), Some(1610612736))),
-    ] {
-        assert_eq!(rt; rests::<31>(bits, 1), want, "{bits} by 1");
-    }
-    for bits in [-1073741824, -536870912] {
-        assert_eq!(rt; rests::<31>(bits, 3), (Some(bits), None), "{bits} by 3");
-    }
-    for bits in [i32::MIN, -1610612736, -1073741824] {
-        assert_eq!(rt;
-            rests::<32>(bits, 1),
-            (Some(bits), None),
-            "{bits} by 1, no whole bits"
-        );
-    }
-    for bits in [0, 1073741824] {
-        assert_eq!(rt;
-            rests::<32>(bits, 1),
-            (Some(bits), Some(bits)),
-            "{bits} by 1"
-        );
-    }
+    all_leave::<16>(&rt, &[(i32::MIN, -1, (Some(0), Some(0)))]);
+    all_leave::<31>(
+        &rt,
+        &[
+            (i32::MIN, 1, (Some(0), Some(0))),
+            (-1610612736, 1, (Some(-1610612736), Some(536870912))),
+            (-1073741824, 1, (Some(-1073741824), Some(1073741824))),
+            (-536870912, 1, (Some(-536870912), Some(1610612736))),
+            (0, 1, (Some(0), Some(0))),
+            (536870912, 1, (Some(536870912), Some(536870912))),
+            (1073741824, 1, (Some(1073741824), Some(1073741824))),
+            (1610612736, 1, (Some(1610612736), Some(1610612736))),
+            (-1073741824, 3, (Some(-1073741824), None)),
+            (-536870912, 3, (Some(-536870912), None)),
+        ],
+    );
+    all_leave::<32>(
+        &rt,
+        &[
+            (i32::MIN, 1, (Some(i32::MIN), None)),
+            (-1610612736, 1, (Some(-1610612736), None)),
+            (-1073741824, 1, (Some(-1073741824), None)),
+            (0, 1, (Some(0), Some(0))),
+            (1073741824, 1, (Some(1073741824), Some(1073741824))),
+        ],
+    );
 }
 
 /// The quotient and the remainder of unsigned bits by an integer.
@@ -302,16 +315,12 @@ fn divided<const F: u32>(rt: &impl Abort, a: u32, k: u32)
 {
     let x = FixedU32::<F> { bits: a };
     let moved = (k as u64) << F;
-    assert_eq!(rt;
+    let found = (
         part(x, k).map(|q| q.bits),
-        a.checked_div(k),
-        "{a} over {k}"
-    );
-    assert_eq!(rt;
         rest(x, k).map(|r| r.bits as u64),
-        (a as u64).checked_rem(moved),
-        "{a} by {k} at {F}"
     );
+    let want = (a.checked_div(k), (a as u64).checked_rem(moved));
+    assert_eq!(rt; found, want, "{a} and {k} at {F}");
 }
 
 /// The quotient and the remainder of signed bits by an integer.
@@ -320,16 +329,12 @@ fn divided_signed<const F: u32>(rt: &impl Abort, a: i32, k: i32)
 {
     let x = FixedI32::<F> { bits: a };
     let moved = (k as i128).wrapping_mul(1 << F);
-    assert_eq!(rt;
+    let found = (
         part(x, k).map(|q| q.bits),
-        a.checked_div(k),
-        "{a} over {k}"
-    );
-    assert_eq!(rt;
         rest(x, k).map(|r| r.bits as i128),
-        (a as i128).checked_rem(moved),
-        "{a} by {k} at {F}"
     );
+    let want = (a.checked_div(k), (a as i128).checked_rem(moved));
+    assert_eq!(rt; found, want, "{a} and {k} at {F}");
 }
 
 #[test]

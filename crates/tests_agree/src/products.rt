@@ -2,7 +2,7 @@
 
 ghost use Rattle.std.specs.Prelude.{◌≤◌};
 
-use super::exact::{answers_of, number, word};
+use super::exact::{number, stand, word};
 use fixed_num::{
     Fixed, FixedI8, FixedI16, FixedI32, FixedI64, FixedU8, FixedU16, FixedU32, FixedU64,
 };
@@ -27,7 +27,7 @@ fn adds<T: Word, const F: u32>(
         a.overflowing_mul_add(factor, add),
         a.wrapping_mul_add(factor, add),
     );
-    assert!(rt; answers == answers_of(exact), "{exact} at {F}");
+    assert!(rt; stand(answers, exact), "{exact} at {F}");
 }
 
 /// The greatest number and its half, by one and three, with a fraction that leaves room for three.
@@ -78,48 +78,107 @@ fn outside<T: Word, const N: u32>(rt: &impl Abort, greatest: Fixed<T, N>)
     adds(rt, greatest, greatest, greatest, square.wrapping_add(most));
 }
 
+/// The greatest number of a word, with a fraction that is the width or leaves room for three.
+fn at_the_end<T: Word, const F: u32>(rt: &impl Abort, greatest: Fixed<T, F>)
+    requires { F ≤ T.BITS }
+{
+    if F == T::BITS {
+        outside(rt, greatest);
+    } else {
+        inside(rt, greatest);
+    }
+}
+
+fn signed_8<const F: u32>(rt: &impl Abort)
+    requires { F ≤ 8 }
+{
+    at_the_end(rt, FixedI8::<F> { bits: i8::MAX });
+}
+
+fn signed_16<const F: u32>(rt: &impl Abort)
+    requires { F ≤ 16 }
+{
+    at_the_end(rt, FixedI16::<F> { bits: i16::MAX });
+}
+
+fn signed_32<const F: u32>(rt: &impl Abort)
+    requires { F ≤ 32 }
+{
+    at_the_end(rt, FixedI32::<F> { bits: i32::MAX });
+}
+
+fn signed_64<const F: u32>(rt: &impl Abort)
+    requires { F ≤ 64 }
+{
+    at_the_end(rt, FixedI64::<F> { bits: i64::MAX });
+}
+
+fn unsigned_8<const F: u32>(rt: &impl Abort)
+    requires { F ≤ 8 }
+{
+    at_the_end(rt, FixedU8::<F> { bits: u8::MAX });
+}
+
+fn unsigned_16<const F: u32>(rt: &impl Abort)
+    requires { F ≤ 16 }
+{
+    at_the_end(rt, FixedU16::<F> { bits: u16::MAX });
+}
+
+fn unsigned_32<const F: u32>(rt: &impl Abort)
+    requires { F ≤ 32 }
+{
+    at_the_end(rt, FixedU32::<F> { bits: u32::MAX });
+}
+
+fn unsigned_64<const F: u32>(rt: &impl Abort)
+    requires { F ≤ 64 }
+{
+    at_the_end(rt, FixedU64::<F> { bits: u64::MAX });
+}
+
 #[test]
 fn multiply_add_of_signed_words(rt: HostRuntime) {
-    inside(&rt, FixedI8::<0> { bits: i8::MAX });
-    inside(&rt, FixedI8::<4> { bits: i8::MAX });
-    inside(&rt, FixedI8::<5> { bits: i8::MAX });
-    inside(&rt, FixedI16::<0> { bits: i16::MAX });
-    inside(&rt, FixedI16::<8> { bits: i16::MAX });
-    inside(&rt, FixedI16::<13> { bits: i16::MAX });
-    inside(&rt, FixedI32::<0> { bits: i32::MAX });
-    inside(&rt, FixedI32::<16> { bits: i32::MAX });
-    inside(&rt, FixedI32::<29> { bits: i32::MAX });
-    inside(&rt, FixedI64::<0> { bits: i64::MAX });
-    inside(&rt, FixedI64::<32> { bits: i64::MAX });
-    inside(&rt, FixedI64::<61> { bits: i64::MAX });
+    signed_8::<0>(&rt);
+    signed_8::<4>(&rt);
+    signed_8::<5>(&rt);
+    signed_16::<0>(&rt);
+    signed_16::<8>(&rt);
+    signed_16::<13>(&rt);
+    signed_32::<0>(&rt);
+    signed_32::<16>(&rt);
+    signed_32::<29>(&rt);
+    signed_64::<0>(&rt);
+    signed_64::<32>(&rt);
+    signed_64::<61>(&rt);
 }
 
 #[test]
 fn multiply_add_of_unsigned_words(rt: HostRuntime) {
-    inside(&rt, FixedU8::<0> { bits: u8::MAX });
-    inside(&rt, FixedU8::<4> { bits: u8::MAX });
-    inside(&rt, FixedU8::<6> { bits: u8::MAX });
-    inside(&rt, FixedU16::<0> { bits: u16::MAX });
-    inside(&rt, FixedU16::<8> { bits: u16::MAX });
-    inside(&rt, FixedU16::<14> { bits: u16::MAX });
-    inside(&rt, FixedU32::<0> { bits: u32::MAX });
-    inside(&rt, FixedU32::<16> { bits: u32::MAX });
-    inside(&rt, FixedU32::<30> { bits: u32::MAX });
-    inside(&rt, FixedU64::<0> { bits: u64::MAX });
-    inside(&rt, FixedU64::<32> { bits: u64::MAX });
-    inside(&rt, FixedU64::<62> { bits: u64::MAX });
+    unsigned_8::<0>(&rt);
+    unsigned_8::<4>(&rt);
+    unsigned_8::<6>(&rt);
+    unsigned_16::<0>(&rt);
+    unsigned_16::<8>(&rt);
+    unsigned_16::<14>(&rt);
+    unsigned_32::<0>(&rt);
+    unsigned_32::<16>(&rt);
+    unsigned_32::<30>(&rt);
+    unsigned_64::<0>(&rt);
+    unsigned_64::<32>(&rt);
+    unsigned_64::<62>(&rt);
 }
 
 #[test]
 fn multiply_add_of_all_fraction(rt: HostRuntime) {
-    outside(&rt, FixedI8::<8> { bits: i8::MAX });
-    outside(&rt, FixedI16::<16> { bits: i16::MAX });
-    outside(&rt, FixedI32::<32> { bits: i32::MAX });
-    outside(&rt, FixedI64::<64> { bits: i64::MAX });
-    outside(&rt, FixedU8::<8> { bits: u8::MAX });
-    outside(&rt, FixedU16::<16> { bits: u16::MAX });
-    outside(&rt, FixedU32::<32> { bits: u32::MAX });
-    outside(&rt, FixedU64::<64> { bits: u64::MAX });
+    signed_8::<8>(&rt);
+    signed_16::<16>(&rt);
+    signed_32::<32>(&rt);
+    signed_64::<64>(&rt);
+    unsigned_8::<8>(&rt);
+    unsigned_16::<16>(&rt);
+    unsigned_32::<32>(&rt);
+    unsigned_64::<64>(&rt);
 }
 
 /// Asserts that nothing is left of `a` over `b`, where the fraction `N` is the width, and that it does not fit.
@@ -137,9 +196,8 @@ fn leaves_nothing<T: SignedWord, const N: u32>(rt: &impl Abort, a: Fixed<T, N>, 
 fn quotients_by_one_unit(rt: HostRuntime) {
     leaves_nothing(&rt, FixedI8::<8> { bits: i8::MIN }, Fixed { bits: -1 });
     leaves_nothing(&rt, FixedI16::<16> { bits: i16::MIN }, Fixed { bits: -1 });
-    leaves_nothing(&rt, FixedI32::<32> { bits: i32::MIN }, Fixed { bits: -1 });
     leaves_nothing(&rt, FixedI64::<64> { bits: i64::MIN }, Fixed { bits: -1 });
-    let next = FixedI32::<32> { bits: -2147483647 };
-    leaves_nothing(&rt, next, Fixed { bits: -1 });
-    leaves_nothing(&rt, next, Fixed { bits: 1 });
+    for (a, b) in [(i32::MIN, -1), (-2147483647, -1), (-2147483647, 1)] {
+        leaves_nothing(&rt, FixedI32::<32> { bits: a }, Fixed { bits: b });
+    }
 }

@@ -2,7 +2,8 @@
 
 ghost use Rattle.std.specs.Prelude.{◌≤◌};
 
-use super::exact::{answers_of, number, word};
+use super::exact::{number, stand, word};
+use super::same::all_hold;
 use fixed_num::{Fixed, FixedI16, FixedI32, FixedU16, FixedU32};
 use fixed_policy::{Checked, Overflowing, Wrapping};
 use fixed_word::Word;
@@ -32,18 +33,21 @@ fn least_remainder(a: i128, b: i128) -> i128 {
 fn sums<T: Word, const F: u32>(rt: &impl Abort, x: Fixed<T, F>, y: Fixed<T, F>, a: i128, b: i128) {
     let (units, other) = (a.wrapping_mul(128), b.wrapping_mul(128));
     let sum = (x.checked_add(y), x.overflowing_add(y), x.wrapping_add(y));
-    assert!(rt; sum == answers_of(units.wrapping_add(other)), "{a} and {b}");
     let difference = (x.checked_sub(y), x.overflowing_sub(y), x.wrapping_sub(y));
-    assert!(rt;
-        difference == answers_of(units.wrapping_sub(other)),
-        "{a} and {b}"
-    );
     let negated = (x.checked_neg(), x.overflowing_neg(), x.wrapping_neg());
-    assert!(rt; negated == answers_of(units.wrapping_neg()), "{a}");
     let above = (x.checked_shl(4), x.overflowing_shl(4), x.wrapping_shl(4));
-    assert!(rt; above == answers_of(a.wrapping_mul(2048)), "{a}");
     let below = (x.checked_shr(4), x.overflowing_shr(4), x.wrapping_shr(4));
-    assert!(rt; below == answers_of(a.wrapping_mul(8)), "{a}");
+    let rows = [
+        ("the sum", stand(sum, units.wrapping_add(other))),
+        (
+            "the difference",
+            stand(difference, units.wrapping_sub(other)),
+        ),
+        ("the negated first", stand(negated, units.wrapping_neg())),
+        ("the first by 4 up", stand(above, a.wrapping_mul(2048))),
+        ("the first by 4 down", stand(below, a.wrapping_mul(8))),
+    ];
+    all_hold(rt, (a, b), &rows);
 }
 
 /// Asserts that the product and the quotient of `x` and `y` have the answers of these numbers, and the remainder is
@@ -58,15 +62,19 @@ fn products<T: Word, const F: u32>(
 {
     let [times, over, left] = numbers;
     let products = (x.checked_mul(y), x.overflowing_mul(y), x.wrapping_mul(y));
-    assert!(rt; products == answers_of(times), "{times}");
-    if y.bits != T::ZERO {
+    let divided = if y.bits == T::ZERO {
+        true
+    } else {
         let quotients = (x.checked_div(y), x.overflowing_div(y), x.wrapping_div(y));
-        assert!(rt; quotients == answers_of(over), "{over}");
-    }
-    assert!(rt;
-        x.checked_rem(y) == Some(Fixed { bits: word(left) }),
-        "{left}"
-    );
+        stand(quotients, over)
+    };
+    let remainder = x.checked_rem(y) == Some(Fixed { bits: word(left) });
+    let rows = [
+        ("the product", stand(products, times)),
+        ("the quotient", divided),
+        ("the remainder", remainder),
+    ];
+    all_hold(rt, (number(x.bits), number(y.bits)), &rows);
 }
 
 /// The same by an integer.
@@ -79,19 +87,23 @@ fn by_integer<T: Word, const F: u32>(rt: &impl Abort, x: Fixed<T, F>, k: T, numb
         x.overflowing_mul_int(k),
         x.wrapping_mul_int(k),
     );
-    assert!(rt; products == answers_of(times), "{times}");
-    if k != T::ZERO {
+    let divided = if k == T::ZERO {
+        true
+    } else {
         let quotients = (
             x.checked_div_int(k),
             x.overflowing_div_int(k),
             x.wrapping_div_int(k),
         );
-        assert!(rt; quotients == answers_of(over), "{over}");
-    }
-    assert!(rt;
-        x.checked_rem_int(k) == Some(Fixed { bits: word(left) }),
-        "{left}"
-    );
+        stand(quotients, over)
+    };
+    let remainder = x.checked_rem_int(k) == Some(Fixed { bits: word(left) });
+    let rows = [
+        ("the product", stand(products, times)),
+        ("the quotient", divided),
+        ("the remainder", remainder),
+    ];
+    all_hold(rt, (number(x.bits), number(k)), &rows);
 }
 
 /// The operations on 128 a and 128 b, and on 128 a and the whole number b, at seven places.
@@ -135,11 +147,8 @@ fn each_by_integer<T: Word, const F: u32>(rt: &impl Abort, x: Fixed<T, F>, k: T)
 {
     let (units, by) = (number(x.bits), number(k));
     if k == T::ZERO {
-        assert!(rt;
-            x.checked_div_int(k).is_none() && x.checked_rem_int(k).is_none(),
-            "{units}"
-        );
-        assert!(rt; x.checked_rem_euclid_int(k).is_none(), "{units}");
+        let none = x.checked_div_int(k).is_none() && x.checked_rem_int(k).is_none();
+        assert!(rt; none && x.checked_rem_euclid_int(k).is_none(), "{units}");
     } else if F <= 64 {
         let moved = by.wrapping_mul(1 << F);
         let numbers = [
@@ -154,8 +163,15 @@ fn each_by_integer<T: Word, const F: u32>(rt: &impl Abort, x: Fixed<T, F>, k: T)
             x.wrapping_rem_euclid_int(k),
         );
         let least = least_remainder(units, moved);
-        assert!(rt; remainders == answers_of(least), "{units} by {by} at {F}");
+        assert!(rt; stand(remainders, least), "{units} by {by} at {F}");
     }
+}
+
+/// The same of a word of 32 bits with a sign.
+fn bits_by_integer<const F: u32>(rt: &impl Abort, bits: i32, k: i32)
+    requires { F ≤ 32 }
+{
+    each_by_integer(rt, FixedI32::<F> { bits }, k);
 }
 
 #[test]
@@ -163,10 +179,10 @@ fn remainders_by_integers(rt: HostRuntime) {
     for a in [-32768_i32, -32767, 32767] {
         for k in [-32768, -32767, 32767, 32768] {
             let bits = a.wrapping_mul(65536);
-            each_by_integer(&rt, FixedI32::<16> { bits }, k);
+            bits_by_integer::<16>(&rt, bits, k);
         }
     }
-    each_by_integer(&rt, FixedI32::<16> { bits: i32::MIN }, -1);
+    bits_by_integer::<16>(&rt, i32::MIN, -1);
     for bits in [
         i32::MIN,
         -1610612736,
@@ -177,9 +193,9 @@ fn remainders_by_integers(rt: HostRuntime) {
         1073741824,
         1610612736,
     ] {
-        each_by_integer(&rt, FixedI32::<31> { bits }, 1);
-        each_by_integer(&rt, FixedI32::<31> { bits }, 3);
-        each_by_integer(&rt, FixedI32::<32> { bits }, 1);
+        bits_by_integer::<31>(&rt, bits, 1);
+        bits_by_integer::<31>(&rt, bits, 3);
+        bits_by_integer::<32>(&rt, bits, 1);
     }
 }
 
@@ -214,7 +230,7 @@ fn signed_divisors<const F: u32>(rt: &impl Abort)
     ];
     for bits in words {
         for k in words {
-            each_by_integer(rt, FixedI32::<F> { bits }, k);
+            bits_by_integer::<F>(rt, bits, k);
         }
     }
 }
