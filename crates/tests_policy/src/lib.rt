@@ -12,6 +12,8 @@ mod fitting;
 #[cfg(test)]
 mod guide;
 #[cfg(test)]
+mod plain;
+#[cfg(test)]
 mod products;
 #[cfg(test)]
 mod rows;

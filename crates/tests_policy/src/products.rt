@@ -4,6 +4,7 @@ ghost use Rattle.std.specs.Prelude.{◌≡◌, ◌≤◌, length};
 ghost use Rattle.fixed_word.specs.Format.{InRange};
 ghost use Rattle.fixed_kernel.specs.Rows.{exact_add_prod, exact_mul_add};
 
+use super::plain::{Forms, all_fit, forms, shown, stands, value};
 use fixed_num::{Fixed, FixedI8, FixedU8};
 use fixed_policy::{
     CheckedMulAdd, CheckedProducts, OverflowingMulAdd, OverflowingProducts, WrappingMulAdd,
@@ -13,24 +14,15 @@ use fixed_strict::{
     SaturatingMulAdd, SaturatingProducts, StrictMulAdd, StrictProducts, UnwrappedMulAdd,
     UnwrappedProducts,
 };
-
-/// The checked, overflowing, wrapping and saturating answers.
-type Forms<N> = (Option<N>, (N, bool), N, N);
-
-/// Those of a number by the word that is left and the nearest that fits, which are one where it fits.
-fn forms<N: Copy + PartialEq>(left: N, nearest: N) -> Forms<N> {
-    let fits = left == nearest;
-    let checked = if fits { Some(left) } else { None };
-    (checked, (left, !fits), left, nearest)
-}
+use std::process::Abort;
 
 /// The four forms of multiply-add.
-fn scaled<const G: u32, N>(a: N, mul: Fixed<N::Bits, G>, add: N) -> Forms<N>
+fn scaled<const G: u32, N>(a: N, mul: Fixed<N::Bits, G>, add: N) -> Forms
 where
     N: CheckedMulAdd<G> + OverflowingMulAdd<G> + WrappingMulAdd<G> + SaturatingMulAdd<G>,
     requires { G ≤ N.BITS }
 {
-    (
+    shown(
         a.checked_mul_add(mul, add),
         a.overflowing_mul_add(mul, add),
         a.wrapping_mul_add(mul, add),
@@ -43,68 +35,67 @@ fn fitting_scaled<const G: u32, N: StrictMulAdd<G> + UnwrappedMulAdd<G>>(
     a: N,
     mul: Fixed<N::Bits, G>,
     add: N,
-) -> (N, N)
+) -> [i128; 2]
     requires fraction { G ≤ N.BITS }
     requires fits { InRange N.SIGNED N.BITS
         (exact_mul_add (N.number a) (N.Bits.value mul.bits) (N.number add) G) }
 {
-    (a.strict_mul_add(mul, add), a.unwrapped_mul_add(mul, add))
+    [
+        value(a.strict_mul_add(mul, add)),
+        value(a.unwrapped_mul_add(mul, add)),
+    ]
 }
 
 #[test]
 fn multiply_adds(rt: HostRuntime) {
     for (a, mul, add, left, nearest) in [
-        (127_i8, 24_i8, -127_i8, 63_i8, 63_i8),
+        (127_i8, 24_i8, -127_i8, 63, 63),
         (-3, 5, 0, -1, -1),
         (-128, 48, -1, 127, -128),
     ] {
         let (x, y) = (FixedI8::<7> { bits: a }, FixedI8::<4> { bits: mul });
-        let (left, nearest) = (FixedI8::<7> { bits: left }, FixedI8::<7> { bits: nearest });
         let found = scaled(x, y, FixedI8::<7> { bits: add });
-        assert_eq!(rt; found, forms(left, nearest), "{a} by {mul} and {add}");
+        let operands = [a as i128, mul as i128, add as i128];
+        stands(&rt, operands, found, forms(left, nearest));
     }
     let (x, y) = (FixedI8::<4> { bits: 127 }, FixedI8::<4> { bits: 48 });
-    let found = scaled(x, y, x);
-    assert_eq!(rt; found, forms(FixedI8::<4> { bits: -4 }, x));
+    stands(&rt, [127, 48, 127], scaled(x, y, x), forms(-4, 127));
     for (a, mul, add, left, nearest) in [
-        (255_u8, 255_u8, 1_u8, 255_u8, 255_u8),
+        (255_u8, 255_u8, 1_u8, 255, 255),
         (255, 255, 2, 0, 255),
         (255, 255, 3, 1, 255),
         (0, 255, 2, 2, 2),
         (1, 255, 0, 0, 0),
     ] {
         let (x, y) = (FixedU8::<4> { bits: a }, FixedU8::<8> { bits: mul });
-        let (left, nearest) = (FixedU8::<4> { bits: left }, FixedU8::<4> { bits: nearest });
         let found = scaled(x, y, FixedU8::<4> { bits: add });
-        assert_eq!(rt; found, forms(left, nearest), "{a} by {mul} and {add}");
+        let operands = [a as i128, mul as i128, add as i128];
+        stands(&rt, operands, found, forms(left, nearest));
     }
 }
 
 #[test]
 fn multiply_adds_that_fit(rt: HostRuntime) {
     let (x, y) = (FixedI8::<4> { bits: 127 }, FixedI8::<4> { bits: 24 });
-    let sum = FixedI8::<4> { bits: 63 };
-    assert_eq!(rt;
-        fitting_scaled(x, y, FixedI8::<4> { bits: -127 }),
-        (sum, sum)
-    );
+    let signed = fitting_scaled(x, y, FixedI8::<4> { bits: -127 });
     let half = FixedI8::<4> { bits: 8 };
-    let sum = FixedI8::<4> { bits: 32 };
-    assert_eq!(rt;
-        fitting_scaled(FixedI8::<4> { bits: 48 }, half, half),
-        (sum, sum)
-    );
+    let of_half = fitting_scaled(FixedI8::<4> { bits: 48 }, half, half);
     let (x, y) = (FixedU8::<4> { bits: 255 }, FixedU8::<8> { bits: 255 });
-    assert_eq!(rt; fitting_scaled(x, y, FixedU8::<4> { bits: 1 }), (x, x));
+    let unsigned = fitting_scaled(x, y, FixedU8::<4> { bits: 1 });
+    let found = [signed, of_half, unsigned];
+    assert_eq!(rt;
+        found,
+        [[63; 2], [32; 2], [255; 2]],
+        "signed, of a half, unsigned"
+    );
 }
+
+/// Sums as answers, and as they are stored beside what the call answers: checked, overflowing, wrapping, saturating.
+type Sums = (Forms, ((Option<()>, i128), (bool, i128), i128, i128));
 
 /// The four sums with a product, as answers, and where they are stored beside what the call
 /// answers.
-fn raised<const A: u32, const B: u32, N>(
-    c: N,
-    a: Fixed<N::Bits, A>,
-    b: Fixed<N::Bits, B>,
-) -> (Forms<N>, ((Option<()>, N), (bool, N), N, N))
+fn raised<const A: u32, const B: u32, N>(c: N, a: Fixed<N::Bits, A>, b: Fixed<N::Bits, B>) -> Sums
 where
     N: CheckedProducts<A, B>
         + OverflowingProducts<A, B>
@@ -114,7 +105,7 @@ where
     requires a { A ≤ N.BITS }
     requires b { B ≤ N.BITS }
 {
-    let answers = (
+    let answers = shown(
         c.checked_add_prod(a, b),
         c.overflowing_add_prod(a, b),
         c.wrapping_add_prod(a, b),
@@ -128,20 +119,16 @@ where
     (
         answers,
         (
-            (answer, checked),
-            (verdict, overflowing),
-            wrapping,
-            saturating,
+            (answer, value(checked)),
+            (verdict, value(overflowing)),
+            value(wrapping),
+            value(saturating),
         ),
     )
 }
 
-/// What they are, by the sum before, the word that is left and the nearest that fits.
-fn sums<N: Copy + PartialEq>(
-    before: N,
-    left: N,
-    nearest: N,
-) -> (Forms<N>, ((Option<()>, N), (bool, N), N, N)) {
+/// What they are, by the sum before, the bits that are left and the nearest that fit.
+fn sums(before: i128, left: i128, nearest: i128) -> Sums {
     let fits = left == nearest;
     let stored = if fits {
         (Some(()), left)
@@ -151,10 +138,16 @@ fn sums<N: Copy + PartialEq>(
     (forms(left, nearest), (stored, (!fits, left), left, nearest))
 }
 
+/// Asserts that the sum before and two factors have these sums; the message names them.
+fn sums_stand(rt: &impl Abort, operands: [i128; 3], found: Sums, left: i128, nearest: i128) {
+    let [before, _, _] = operands;
+    assert_eq!(rt; found, sums(before, left, nearest), "{operands:?}");
+}
+
 #[test]
 fn sums_with_products(rt: HostRuntime) {
     for (c, a, b, left, nearest) in [
-        (3_i8, 3_i8, -5_i8, 2_i8, 2_i8),
+        (3_i8, 3_i8, -5_i8, 2, 2),
         (-128, 64, 32, 0, 0),
         (-100, 64, -64, -100, -128),
         (100, 64, 64, 100, 127),
@@ -162,38 +155,27 @@ fn sums_with_products(rt: HostRuntime) {
         (-100, 127, -48, 31, -128),
     ] {
         let (x, y) = (FixedI8::<4> { bits: a }, FixedI8::<4> { bits: b });
-        let sum = FixedI8::<4> { bits: c };
-        let (left, nearest) = (FixedI8::<4> { bits: left }, FixedI8::<4> { bits: nearest });
-        assert_eq!(rt;
-            raised(sum, x, y),
-            sums(sum, left, nearest),
-            "{c}, {a} by {b}"
-        );
+        let found = raised(FixedI8::<4> { bits: c }, x, y);
+        sums_stand(&rt, [c as i128, a as i128, b as i128], found, left, nearest);
     }
     let (x, y) = (FixedI8::<0> { bits: 2 }, FixedI8::<0> { bits: -4 });
-    let (sum, left) = (FixedI8::<4> { bits: -3 }, FixedI8::<4> { bits: 125 });
-    let least = FixedI8::<4> { bits: -128 };
-    assert_eq!(rt; raised(sum, x, y), sums(sum, left, least));
+    let found = raised(FixedI8::<4> { bits: -3 }, x, y);
+    sums_stand(&rt, [-3, 2, -4], found, 125, -128);
 }
 
 #[test]
 fn unsigned_sums_with_products(rt: HostRuntime) {
     for (c, a, b, left, nearest) in [
-        (5_u8, 1_u8, 15_u8, 245_u8, 245_u8),
+        (5_u8, 1_u8, 15_u8, 245, 245),
         (16, 5, 3, 0, 255),
         (250, 3, 7, 74, 255),
     ] {
         let (x, y) = (FixedU8::<4> { bits: a }, FixedU8::<0> { bits: b });
-        let sum = FixedU8::<8> { bits: c };
-        let (left, nearest) = (FixedU8::<8> { bits: left }, FixedU8::<8> { bits: nearest });
-        assert_eq!(rt;
-            raised(sum, x, y),
-            sums(sum, left, nearest),
-            "{c}, {a} by {b}"
-        );
+        let found = raised(FixedU8::<8> { bits: c }, x, y);
+        sums_stand(&rt, [c as i128, a as i128, b as i128], found, left, nearest);
     }
     for (c, a, b, left, nearest) in [
-        (0_u8, 255_u8, 255_u8, 254_u8, 254_u8),
+        (0_u8, 255_u8, 255_u8, 254, 254),
         (1, 255, 255, 255, 255),
         (2, 255, 255, 0, 255),
         (7, 255, 255, 5, 255),
@@ -201,13 +183,8 @@ fn unsigned_sums_with_products(rt: HostRuntime) {
         (252, 128, 7, 255, 255),
     ] {
         let (x, y) = (FixedU8::<8> { bits: a }, FixedU8::<4> { bits: b });
-        let sum = FixedU8::<4> { bits: c };
-        let (left, nearest) = (FixedU8::<4> { bits: left }, FixedU8::<4> { bits: nearest });
-        assert_eq!(rt;
-            raised(sum, x, y),
-            sums(sum, left, nearest),
-            "{c}, {a} by {b}"
-        );
+        let found = raised(FixedU8::<4> { bits: c }, x, y);
+        sums_stand(&rt, [c as i128, a as i128, b as i128], found, left, nearest);
     }
 }
 
@@ -216,7 +193,7 @@ fn fitting_raised<const A: u32, const B: u32, N: StrictProducts<A, B> + Unwrappe
     c: N,
     a: Fixed<N::Bits, A>,
     b: Fixed<N::Bits, B>,
-) -> [N; 4]
+) -> [i128; 4]
     requires fraction { N.FRACTION ≤ N.BITS }
     requires a { A ≤ N.BITS }
     requires b { B ≤ N.BITS }
@@ -227,33 +204,38 @@ fn fitting_raised<const A: u32, const B: u32, N: StrictProducts<A, B> + Unwrappe
     strict.strict_mul_acc(a, b);
     unwrapped.unwrapped_mul_acc(a, b);
     [
-        c.strict_add_prod(a, b),
-        c.unwrapped_add_prod(a, b),
-        strict,
-        unwrapped,
+        value(c.strict_add_prod(a, b)),
+        value(c.unwrapped_add_prod(a, b)),
+        value(strict),
+        value(unwrapped),
     ]
 }
 
 #[test]
 fn sums_that_fit(rt: HostRuntime) {
     let (a, b) = (FixedI8::<4> { bits: 3 }, FixedI8::<4> { bits: -5 });
-    let sum = FixedI8::<4> { bits: 2 };
-    assert_eq!(rt; fitting_raised(FixedI8::<4> { bits: 3 }, a, b), [sum; 4]);
+    let above = fitting_raised(FixedI8::<4> { bits: 3 }, a, b);
     let (a, b) = (FixedI8::<4> { bits: 24 }, FixedI8::<4> { bits: -5 });
-    let sum = FixedI8::<4> { bits: -108 };
-    assert_eq!(rt; fitting_raised(FixedI8::<4> { bits: -100 }, a, b), [sum; 4]);
+    let below = fitting_raised(FixedI8::<4> { bits: -100 }, a, b);
     let (a, b) = (FixedI8::<4> { bits: 48 }, FixedI8::<4> { bits: 8 });
-    let sum = FixedI8::<4> { bits: 32 };
-    assert_eq!(rt; fitting_raised(FixedI8::<4> { bits: 8 }, a, b), [sum; 4]);
+    let half = fitting_raised(FixedI8::<4> { bits: 8 }, a, b);
     let (a, b) = (FixedI8::<0> { bits: 2 }, FixedI8::<0> { bits: 4 });
-    let sum = FixedI8::<4> { bits: 125 };
-    assert_eq!(rt; fitting_raised(FixedI8::<4> { bits: -3 }, a, b), [sum; 4]);
+    let whole = fitting_raised(FixedI8::<4> { bits: -3 }, a, b);
     let (a, b) = (FixedU8::<4> { bits: 1 }, FixedU8::<0> { bits: 15 });
-    let sum = FixedU8::<8> { bits: 245 };
-    assert_eq!(rt; fitting_raised(FixedU8::<8> { bits: 5 }, a, b), [sum; 4]);
+    let unsigned = fitting_raised(FixedU8::<8> { bits: 5 }, a, b);
     let (a, b) = (FixedU8::<8> { bits: 255 }, FixedU8::<4> { bits: 255 });
-    let sum = FixedU8::<4> { bits: 255 };
-    assert_eq!(rt; fitting_raised(FixedU8::<4> { bits: 1 }, a, b), [sum; 4]);
+    let greatest = fitting_raised(FixedU8::<4> { bits: 1 }, a, b);
+    all_fit(
+        &rt,
+        &[
+            ("above 0", above, [2; 4]),
+            ("below 0", below, [-108; 4]),
+            ("with a half", half, [32; 4]),
+            ("with whole factors", whole, [125; 4]),
+            ("without a sign", unsigned, [245; 4]),
+            ("to the greatest", greatest, [255; 4]),
+        ],
+    );
 }
 
 /// The sum with the products of the pairs, beside its answer.
@@ -261,7 +243,7 @@ fn dotted<const A: u32, const B: u32, N: CheckedProducts<A, B>>(
     c: N,
     a: &[Fixed<N::Bits, A>],
     b: &[Fixed<N::Bits, B>],
-) -> (Option<()>, N)
+) -> (Option<()>, i128)
     requires fraction { N.FRACTION ≤ N.BITS }
     requires a { A ≤ N.BITS }
     requires b { B ≤ N.BITS }
@@ -269,26 +251,26 @@ fn dotted<const A: u32, const B: u32, N: CheckedProducts<A, B>>(
 {
     let mut sum = c;
     let answer = sum.checked_dot_acc(a, b);
-    (answer, sum)
+    (answer, value(sum))
 }
 
 #[test]
 fn sums_with_all_products(rt: HostRuntime) {
     for (c, [a0, a1], [b0, b1], answer, sum) in [
-        (100_i8, [64_i8, 64], [64_i8, -64], None, 100_i8),
+        (100_i8, [64_i8, 64], [64_i8, -64], None, 100),
         (0, [3, 3], [1, -1], Some(()), -1),
         (-1, [127, 127], [127, 127], None, -1),
     ] {
         let left = [FixedI8::<4> { bits: a0 }, FixedI8::<4> { bits: a1 }];
         let right = [FixedI8::<4> { bits: b0 }, FixedI8::<4> { bits: b1 }];
         let found = dotted(FixedI8::<4> { bits: c }, &left, &right);
-        assert_eq!(rt; found, (answer, FixedI8::<4> { bits: sum }), "{c}");
+        assert_eq!(rt; found, (answer, sum), "{c}");
     }
     let left = [FixedU8::<8> { bits: 255 }, FixedU8::<8> { bits: 128 }];
     let right = [FixedU8::<4> { bits: 255 }, FixedU8::<4> { bits: 3 }];
-    let found = dotted(FixedU8::<4> { bits: 0 }, &left, &right);
-    assert_eq!(rt; found, (Some(()), FixedU8::<4> { bits: 255 }));
+    let fits = dotted(FixedU8::<4> { bits: 0 }, &left, &right);
     let large = [FixedU8::<4> { bits: 16 }, FixedU8::<4> { bits: 48 }];
-    let sum = FixedU8::<4> { bits: 100 };
-    assert_eq!(rt; dotted(sum, &large, &large), (None, sum));
+    let kept = dotted(FixedU8::<4> { bits: 100 }, &large, &large);
+    let wanted = [(Some(()), 255), (None, 100)];
+    assert_eq!(rt; [fits, kept], wanted, "one that fits, and one that is kept");
 }
