@@ -14,7 +14,8 @@ fn is_four(bytes: &[u8], at: usize, text: &[u8], from: usize) -> bool
     requires text { from + 4 ≤ length text.now }
     ensures { result ≡ true → take 4 (drop from (drop at bytes.now)) ≡ take 4 (drop from text.now) }
 {
-    let (mut found, mut wanted) = ([0; 4], [0; 4]);
+    let mut found = [0; 4];
+    let mut wanted = [0; 4];
     found.copy_from_slice(&bytes[at + from..at + from + 4]);
     wanted.copy_from_slice(&text[from..from + 4]);
     u32::from_le_bytes(found) == u32::from_le_bytes(wanted)
@@ -27,7 +28,8 @@ fn is_eight(bytes: &[u8], at: usize, text: &[u8], from: usize) -> bool
     requires text { from + 8 ≤ length text.now }
     ensures { result ≡ true → take 8 (drop from (drop at bytes.now)) ≡ take 8 (drop from text.now) }
 {
-    let (mut found, mut wanted) = ([0; 8], [0; 8]);
+    let mut found = [0; 8];
+    let mut wanted = [0; 8];
     found.copy_from_slice(&bytes[at + from..at + from + 8]);
     wanted.copy_from_slice(&text[from..from + 8]);
     u64::from_le_bytes(found) == u64::from_le_bytes(wanted)
