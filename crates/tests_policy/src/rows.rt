@@ -5,103 +5,66 @@ ghost use Rattle.std.specs.Prelude.{◌≤◌};
 
 use super::calls::{Op, checked, kept};
 use super::fitting::fitting;
-use super::plain::value;
-use fixed_num::{Fixed, FixedI8, FixedU8};
+use fixed_num::{Fixed, FixedI8, FixedI32, FixedU8, Number};
 use fixed_policy::{Checked, Overflowing, Wrapping};
 use fixed_strict::{Saturating, Strict, Unwrapped};
 use fixed_word::Side::{Above, Below, Fits};
-use fixed_word::{Side, Word};
+use fixed_word::{RawWord, Side};
 use std::process::Abort;
 
-/// What the policies answer, by the bits: checked; overflowing, wrapping and saturating; strict and unwrapped.
-type Answers = (
-    Option<i128>,
-    Option<((i128, bool), i128, i128)>,
-    Option<(i128, i128)>,
-);
+/// What the policies answer: checked; overflowing, wrapping and saturating; strict and unwrapped.
+type Forms<N> = (Option<N>, Option<((N, bool), N, N)>, Option<(N, N)>);
 
 /// What they answer to an operation.
-fn answers<N>(op: Op, a: N, b: N) -> Answers
+fn answers<N>(op: Op, a: N, b: N) -> Forms<N>
 where
     N: Checked + Overflowing + Wrapping + Saturating + Strict + Unwrapped,
     requires { N.FRACTION ≤ N.BITS }
 {
-    let checked = match checked(op, a, b) {
-        Some(number) => Some(value(number)),
-        None => None,
-    };
-    let kept = match kept(op, a, b) {
-        Some(((left, verdict), wrapping, saturating)) => {
-            Some(((value(left), verdict), value(wrapping), value(saturating)))
-        }
-        None => None,
-    };
-    let fitting = match fitting(op, a, b) {
-        Some((strict, unwrapped)) => Some((value(strict), value(unwrapped))),
-        None => None,
-    };
-    (checked, kept, fitting)
+    (checked(op, a, b), kept(op, a, b), fitting(op, a, b))
 }
 
-/// The same by the word and the fraction.
-fn answers_at<T: Word, const F: u32>(op: Op, a: T, b: T) -> Answers
-    requires { F ≤ T.BITS }
-{
-    answers(op, Fixed::<T, F> { bits: a }, Fixed::<T, F> { bits: b })
-}
-
-/// An operation with its operands.
-type Call = (Op, i128, i128);
-
-/// Asserts that all policies answer that this number is left of one on this side, where `nearest` is the nearest
-/// that fits. Plain remainders are offered under checked, strict and unwrapped alone.
-fn stands(rt: &impl Abort, call: Call, found: Answers, left: i128, nearest: i128, side: Side) {
-    let (op, a, b) = call;
-    let (checked, fitting) = match side {
-        Fits => (Some(left), Some((left, left))),
-        _ => (None, None),
+/// What they answer where this number is left of one on this side. Plain remainders are offered under checked,
+/// strict and unwrapped alone.
+fn forms<N: Number>(op: Op, left: N, side: Side) -> Forms<N> {
+    let (checked, fitting, nearest) = match side {
+        Fits => (Some(left), Some((left, left)), left),
+        Above => (None, None, N::from_bits(<N::Bits as RawWord>::MAX)),
+        Below => (None, None, N::from_bits(<N::Bits as RawWord>::MIN)),
     };
     let kept = match op {
         Op::Rem | Op::RemEuclid | Op::RemInt => None,
         _ => Some(((left, side != Fits), left, nearest)),
     };
-    assert_eq!(rt; found, (checked, kept, fitting), "{op:?} of {a} and {b}");
+    (checked, kept, fitting)
 }
 
-/// The same of a row of a signed byte.
-fn byte_stands(rt: &impl Abort, call: Call, found: Answers, left: i128, side: Side) {
-    let nearest = match side {
-        Fits => left,
-        Above => 127,
-        Below => -128,
-    };
-    stands(rt, call, found, left, nearest, side);
+/// Asserts that all policies answer by the row of `a` and `b`: this number is left of one on this side.
+fn stands<N>(rt: &impl Abort, op: Op, a: N, b: N, left: N, side: Side)
+where
+    N: Checked + Overflowing + Wrapping + Saturating + Strict + Unwrapped + PartialEq,
+    requires { N.FRACTION ≤ N.BITS }
+{
+    let (x, y) = (a.to_bits().magnitude(), b.to_bits().magnitude());
+    assert!(rt;
+        answers(op, a, b) == forms(op, left, side),
+        "{op:?} of {x} and {y}, without their signs"
+    );
 }
 
-/// The same of a row of a signed word of 32 bits.
-fn long_stands(rt: &impl Abort, call: Call, found: Answers, left: i128, side: Side) {
-    let nearest = match side {
-        Fits => left,
-        Above => 2147483647,
-        Below => -2147483648,
-    };
-    stands(rt, call, found, left, nearest, side);
-}
-
-/// The same of a row of an unsigned byte.
-fn unsigned_stands(rt: &impl Abort, call: Call, found: Answers, left: i128, side: Side) {
-    let nearest = match side {
-        Fits => left,
-        Above => 255,
-        Below => 0,
-    };
-    stands(rt, call, found, left, nearest, side);
+/// Asserts that the operation is undefined: there is no answer.
+fn is_undefined<N>(rt: &impl Abort, op: Op, a: N, b: N)
+where
+    N: Checked + Overflowing + Wrapping + Saturating + Strict + Unwrapped + PartialEq,
+    requires { N.FRACTION ≤ N.BITS }
+{
+    assert!(rt; answers(op, a, b) == (None, None, None), "{op:?}");
 }
 
 #[test]
 fn signed_bytes(rt: HostRuntime) {
     for (op, a, b, left, side) in [
-        (Op::Neg, -128_i8, 0_i8, -128, Above),
+        (Op::Neg, -128_i8, 0, -128, Above),
         (Op::Neg, -127, 0, 127, Fits),
         (Op::Add, 127, 1, -128, Above),
         (Op::Add, -128, -1, 127, Below),
@@ -136,39 +99,39 @@ fn signed_bytes(rt: HostRuntime) {
         (Op::RemEuclidInt, -120, 20, -56, Above),
         (Op::RemEuclidInt, -23, 1, 9, Fits),
     ] {
-        let found = answers(op, FixedI8::<4> { bits: a }, FixedI8::<4> { bits: b });
-        byte_stands(&rt, (op, a as i128, b as i128), found, left, side);
+        let (x, y) = (FixedI8::<4> { bits: a }, Fixed { bits: b });
+        stands(&rt, op, x, y, Fixed { bits: left }, side);
     }
 }
 
 #[test]
 fn one_integer_bit(rt: HostRuntime) {
     for (op, a, b, left, side) in [
-        (Op::Recip, 32_i8, 0_i8, 0, Above),
+        (Op::Recip, 32_i8, 0, 0, Above),
         (Op::Recip, -32, 0, 0, Below),
     ] {
-        let found = answers_at::<i8, 7>(op, a, b);
-        byte_stands(&rt, (op, a as i128, b as i128), found, left, side);
+        let (x, y) = (FixedI8::<7> { bits: a }, Fixed { bits: b });
+        stands(&rt, op, x, y, Fixed { bits: left }, side);
     }
 }
 
 #[test]
 fn no_integer_bits(rt: HostRuntime) {
     for (op, a, b, left, side) in [
-        (Op::Div, -128_i8, -1_i8, 0, Above),
+        (Op::Div, -128_i8, -1, 0, Above),
         (Op::Sqrt, 127, 0, -76, Above),
         (Op::DivEuclid, 64, 100, 0, Fits),
         (Op::DivEuclidInt, -64, 2, 0, Below),
     ] {
-        let found = answers_at::<i8, 8>(op, a, b);
-        byte_stands(&rt, (op, a as i128, b as i128), found, left, side);
+        let (x, y) = (FixedI8::<8> { bits: a }, Fixed { bits: b });
+        stands(&rt, op, x, y, Fixed { bits: left }, side);
     }
 }
 
 #[test]
 fn unsigned_bytes(rt: HostRuntime) {
     for (op, a, b, left, side) in [
-        (Op::Neg, 0_u8, 0_u8, 0, Fits),
+        (Op::Neg, 0_u8, 0, 0, Fits),
         (Op::Add, 255, 3, 2, Above),
         (Op::Add, 200, 55, 255, Fits),
         (Op::Sub, 7, 8, 255, Below),
@@ -184,55 +147,55 @@ fn unsigned_bytes(rt: HostRuntime) {
         (Op::Rem, 250, 20, 10, Fits),
         (Op::RemInt, 250, 3, 10, Fits),
     ] {
-        let found = answers(op, FixedU8::<4> { bits: a }, FixedU8::<4> { bits: b });
-        unsigned_stands(&rt, (op, a as i128, b as i128), found, left, side);
+        let (x, y) = (FixedU8::<4> { bits: a }, Fixed { bits: b });
+        stands(&rt, op, x, y, Fixed { bits: left }, side);
     }
 }
 
 #[test]
 fn unsigned_fractions(rt: HostRuntime) {
-    for (op, a, b, left, side) in [(Op::Sqrt, 255_u8, 0_u8, 255, Fits)] {
-        let found = answers_at::<u8, 8>(op, a, b);
-        unsigned_stands(&rt, (op, a as i128, b as i128), found, left, side);
+    for (op, a, b, left, side) in [(Op::Sqrt, 255_u8, 0, 255, Fits)] {
+        let (x, y) = (FixedU8::<8> { bits: a }, Fixed { bits: b });
+        stands(&rt, op, x, y, Fixed { bits: left }, side);
     }
 }
 
 #[test]
 fn thirty_two_bits(rt: HostRuntime) {
-    for (op, a, b, left, side) in [(Op::RemInt, i32::MIN, -1_i32, 0, Fits)] {
-        let found = answers_at::<i32, 16>(op, a, b);
-        long_stands(&rt, (op, a as i128, b as i128), found, left, side);
+    for (op, a, b, left, side) in [(Op::RemInt, i32::MIN, -1, 0, Fits)] {
+        let (x, y) = (FixedI32::<16> { bits: a }, Fixed { bits: b });
+        stands(&rt, op, x, y, Fixed { bits: left }, side);
     }
 }
 
 #[test]
 fn thirty_two_bits_one_integer_bit(rt: HostRuntime) {
     for (op, a, b, left, side) in [
-        (Op::RemEuclidInt, -1073741824_i32, 3_i32, 1073741824, Above),
+        (Op::RemEuclidInt, -1073741824_i32, 3, 1073741824, Above),
         (Op::RemEuclidInt, -536870912, 3, 1610612736, Above),
     ] {
-        let found = answers_at::<i32, 31>(op, a, b);
-        long_stands(&rt, (op, a as i128, b as i128), found, left, side);
+        let (x, y) = (FixedI32::<31> { bits: a }, Fixed { bits: b });
+        stands(&rt, op, x, y, Fixed { bits: left }, side);
     }
 }
 
 #[test]
 fn thirty_two_fraction_bits(rt: HostRuntime) {
     for (op, a, b, left, side) in [
-        (Op::Div, i32::MIN, 1_i32, 0, Below),
+        (Op::Div, i32::MIN, 1, 0, Below),
         (Op::Div, i32::MIN, i32::MIN, 0, Above),
         (Op::Div, -2147483647, i32::MIN, -2, Above),
         (Op::RemEuclidInt, -1610612736, 1, -1610612736, Above),
     ] {
-        let found = answers_at::<i32, 32>(op, a, b);
-        long_stands(&rt, (op, a as i128, b as i128), found, left, side);
+        let (x, y) = (FixedI32::<32> { bits: a }, Fixed { bits: b });
+        stands(&rt, op, x, y, Fixed { bits: left }, side);
     }
 }
 
 #[test]
 fn undefined(rt: HostRuntime) {
     for (op, a, b) in [
-        (Op::Sqrt, -16_i8, 0_i8),
+        (Op::Sqrt, -16_i8, 0),
         (Op::Recip, 0, 0),
         (Op::Div, 1, 0),
         (Op::DivEuclid, 1, 0),
@@ -244,7 +207,6 @@ fn undefined(rt: HostRuntime) {
         (Op::RemEuclidInt, 1, 0),
         (Op::RemInt, 5, 0),
     ] {
-        let found = answers_at::<i8, 4>(op, a, b);
-        assert_eq!(rt; found, (None, None, None), "{op:?} of {a} and {b}");
+        is_undefined(&rt, op, FixedI8::<4> { bits: a }, Fixed { bits: b });
     }
 }
