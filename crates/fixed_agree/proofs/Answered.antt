@@ -1,11 +1,11 @@
 -- The machine's answer to a line is what the policy makes of the line's row.
 use Rattle.std.proofs.Common.{◌≡◌, ℕ, Bool, true, false, [], ◌∷◌, refl, sym, inl, inr}
-use Rattle.fixed_calc.specs.Types.{WordName, I8, I16, I32, I64, U8, U16, U32, U64, Policy, Op}
-use Rattle.fixed_calc.specs.declared.answer.Answer.{Answer}
-use Rattle.fixed_calc.specs.Text.{ThreeRegisters}
-use Rattle.fixed_calc.specs.Machine.{State, OperandValues, row_of, answer}
-use Rattle.fixed_calc.specs.Words.{is_signed, width}
-use Rattle.fixed_calc.specs.Projection.{project}
+use Rattle.fixed_machine.specs.Types.{WordName, I8, I16, I32, I64, U8, U16, U32, U64, Policy, Op}
+use Rattle.fixed_machine.specs.declared.answer.Answer.{Answer}
+use Rattle.fixed_script.specs.Text.{ThreeRegisters}
+use Rattle.fixed_machine.specs.Machine.{State, OperandValues, row_of, answer}
+use Rattle.fixed_text.specs.Words.{is_signed, width}
+use Rattle.fixed_machine.specs.Projection.{project}
 use Rattle.fixed_word.specs.Format.{IsWidth}
 use Rattle.fixed_agree.specs.Agreement.{MachineAnswers}
 

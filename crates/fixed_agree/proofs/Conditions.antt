@@ -1,11 +1,11 @@
 -- When the machine finds no cause in a row.
 use Rattle.std.proofs.Common.{◌≡◌, Bool, Some, None, if◌then◌else◌, refl, ap}
 use Rattle.fixed_word.specs.Format.{fits}
-use Rattle.fixed_calc.specs.Types.{Checked, Strict, Sqrt}
-use Rattle.fixed_calc.specs.declared.cause.Cause.TheVariants.{Overflow}
-use Rattle.fixed_calc.specs.Machine.{row_cause}
-use Rattle.fixed_calc.proofs.Causes.{no_overflow}
-use Rattle.fixed_calc.proofs.Fits.{in_range, fit_true}
+use Rattle.fixed_machine.specs.Types.{Checked, Strict, Sqrt}
+use Rattle.fixed_machine.specs.declared.cause.Cause.TheVariants.{Overflow}
+use Rattle.fixed_machine.specs.Machine.{row_cause}
+use Rattle.fixed_machine.proofs.Causes.{no_overflow}
+use Rattle.fixed_machine.proofs.Fits.{in_range, fit_true}
 use Rattle.fixed_agree.specs.AgreementLaws.{NoCauseExactly}
 
 pub no_cause_exactly : NoCauseExactly

@@ -1,11 +1,11 @@
 -- Where the machine answers a value under checked, the row is defined and its number fits.
 use Rattle.std.proofs.Common.{◌≡◌, ℕ, ℤ, Bool, true, false, Option, Some, None, if◌then◌else◌, refl}
 use Rattle.fixed_word.specs.Format.{IsWidth, fits}
-use Rattle.fixed_calc.specs.Types.{Checked, Op}
-use Rattle.fixed_calc.specs.declared.answer.Answer.TheVariants.{Bits}
-use Rattle.fixed_calc.specs.Machine.{OperandValues, row_of}
-use Rattle.fixed_calc.specs.Projection.{plain, project}
-use Rattle.fixed_calc.proofs.Fits.{in_range}
+use Rattle.fixed_machine.specs.Types.{Checked, Op}
+use Rattle.fixed_machine.specs.declared.answer.Answer.TheVariants.{Bits}
+use Rattle.fixed_machine.specs.Machine.{OperandValues, row_of}
+use Rattle.fixed_machine.specs.Projection.{plain, project}
+use Rattle.fixed_machine.proofs.Fits.{in_range}
 use Rattle.fixed_agree.specs.Agreement.{MachineAnswers, RowFits}
 use Rattle.fixed_agree.proofs.Answered.{projection_of}
 

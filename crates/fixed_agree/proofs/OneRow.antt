@@ -1,12 +1,12 @@
 -- Four policies on one row.
 use Rattle.std.proofs.Common.{◌≡◌, ℕ, ℤ, Bool, true, false, not, Option, Some, None, if◌then◌else◌, refl, ap, sym, ◌∙◌}
 use Rattle.std.specs.Prelude.{IsSome}
-use Rattle.fixed_calc.specs.Types.{Checked, Saturating, Wrapping, Overflowing, Op, MulAdd, AddProd}
-use Rattle.fixed_calc.specs.Rows.{exact}
-use Rattle.fixed_calc.specs.declared.answer.Answer.TheVariants.{Absent, Bits}
-use Rattle.fixed_calc.specs.Machine.{OperandValues, row_of}
-use Rattle.fixed_calc.specs.Projection.{flagged, plain, project}
-use Rattle.fixed_calc.proofs.Fits.{in_range}
+use Rattle.fixed_machine.specs.Types.{Checked, Saturating, Wrapping, Overflowing, Op, MulAdd, AddProd}
+use Rattle.fixed_machine.specs.Rows.{exact}
+use Rattle.fixed_machine.specs.declared.answer.Answer.TheVariants.{Absent, Bits}
+use Rattle.fixed_machine.specs.Machine.{OperandValues, row_of}
+use Rattle.fixed_machine.specs.Projection.{flagged, plain, project}
+use Rattle.fixed_machine.proofs.Fits.{in_range}
 use Rattle.fixed_word.specs.Format.{IsWidth, fits, wrap}
 use Rattle.fixed_word.specs.Policies.{checked, overflowing, saturating, wrapping}
 use Rattle.fixed_word.proofs.Wraps.{width_pos, wrap_same}

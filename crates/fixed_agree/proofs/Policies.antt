@@ -1,11 +1,11 @@
 -- What a typed call answers is what the machine answers, policy by policy.
 use Rattle.std.proofs.Common.{◌≡◌, ℕ, ℤ, zero, suc, pos, negsuc, Bool, Option, Some, refl, sym, ap, ◌∙◌}
 use Rattle.std.specs.Prelude.{IsSome}
-use Rattle.fixed_calc.specs.Types.{Checked, Saturating, Wrapping, Overflowing, Strict, Op}
-use Rattle.fixed_calc.specs.declared.answer.Answer.{Answer}
-use Rattle.fixed_calc.specs.declared.answer.Answer.TheVariants.{Bits, Flagged}
-use Rattle.fixed_calc.specs.Machine.{OperandValues, row_of}
-use Rattle.fixed_calc.specs.Projection.{flagged, plain, project}
+use Rattle.fixed_machine.specs.Types.{Checked, Saturating, Wrapping, Overflowing, Strict, Op}
+use Rattle.fixed_machine.specs.declared.answer.Answer.{Answer}
+use Rattle.fixed_machine.specs.declared.answer.Answer.TheVariants.{Bits, Flagged}
+use Rattle.fixed_machine.specs.Machine.{OperandValues, row_of}
+use Rattle.fixed_machine.specs.Projection.{flagged, plain, project}
 use Rattle.fixed_word.specs.Policies.{checked, overflowing, saturating, wrapping}
 use Rattle.fixed_kernel.specs.Rows.{by_divisor, by_sign}
 use Rattle.fixed_agree.specs.Agreement.{MachineAnswers, RowFits}

@@ -1,9 +1,9 @@
 -- What the machine answers to an operation, by its row: for calls of which no answer is written.
 use Rattle.std.proofs.Common.{◌≡◌, ℕ, ℤ, Bool, Option, Some, None, refl, sym, ap, ◌∙◌}
-use Rattle.fixed_calc.specs.Types.{Checked, Saturating, Strict, Op}
-use Rattle.fixed_calc.specs.declared.answer.Answer.TheVariants.{Bits}
-use Rattle.fixed_calc.specs.Machine.{OperandValues, row_of}
-use Rattle.fixed_calc.specs.Projection.{plain, project}
+use Rattle.fixed_machine.specs.Types.{Checked, Saturating, Strict, Op}
+use Rattle.fixed_machine.specs.declared.answer.Answer.TheVariants.{Bits}
+use Rattle.fixed_machine.specs.Machine.{OperandValues, row_of}
+use Rattle.fixed_machine.specs.Projection.{plain, project}
 use Rattle.fixed_word.specs.Format.{clamp}
 use Rattle.fixed_word.specs.Policies.{checked}
 use Rattle.fixed_agree.specs.Agreement.{MachineAnswers}

@@ -1,11 +1,11 @@
 -- What the machine answers to a line, by what the line's registers hold.
 use Rattle.std.specs.Prelude.{◌≡◌, ℕ, ℤ, pos, Bool, true, false, Option, Some, None}
-use Rattle.fixed_calc.specs.Types.{Policy, Op}
-use Rattle.fixed_calc.specs.declared.answer.Answer.{Answer}
-use Rattle.fixed_calc.specs.Text.{Operands, OneRegister, TwoRegisters, RegisterAndInt, Apply, shape, shape_of}
-use Rattle.fixed_calc.specs.Machine.{State, Cell, OperandValues, operand_values, empty_cell, integer, answer}
-use Rattle.fixed_calc.specs.Words.{is_signed, width}
-use Rattle.fixed_calc.specs.Offered.{is_offered}
+use Rattle.fixed_machine.specs.Types.{Policy, Op}
+use Rattle.fixed_machine.specs.declared.answer.Answer.{Answer}
+use Rattle.fixed_script.specs.Text.{Operands, OneRegister, TwoRegisters, RegisterAndInt, Apply, shape, shape_of}
+use Rattle.fixed_machine.specs.Machine.{State, Cell, OperandValues, operand_values, empty_cell, integer, answer}
+use Rattle.fixed_text.specs.Words.{is_signed, width}
+use Rattle.fixed_machine.specs.Offered.{is_offered}
 use Rattle.fixed_word.specs.Format.{InRange}
 
 -- in every state of a word of that sign and width, the machine answers `result` to every line of the policy and the

@@ -1,10 +1,10 @@
 -- The laws of the agreement.
 use Rattle.std.specs.Prelude.{◌≡◌, ◌↔◌, ℕ, ℤ, Bool, Option, None, IsSome}
 use Rattle.std.specs.Bool.{⊤}
-use Rattle.fixed_calc.specs.Types.{Policy, Checked, Strict, Op}
-use Rattle.fixed_calc.specs.declared.answer.Answer.{Answer}
-use Rattle.fixed_calc.specs.Machine.{OperandValues, row_of, row_cause}
-use Rattle.fixed_calc.specs.Projection.{project}
+use Rattle.fixed_machine.specs.Types.{Policy, Checked, Strict, Op}
+use Rattle.fixed_machine.specs.declared.answer.Answer.{Answer}
+use Rattle.fixed_machine.specs.Machine.{OperandValues, row_of, row_cause}
+use Rattle.fixed_machine.specs.Projection.{project}
 use Rattle.fixed_word.specs.Format.{IsWidth}
 use Rattle.fixed_agree.specs.Agreement.{MachineAnswers, RowFits}
 

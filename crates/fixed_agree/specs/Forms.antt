@@ -1,6 +1,6 @@
 -- How the answers of four policies on the same operands agree.
 use Rattle.std.specs.Prelude.{◌≡◌, ◌≤◌, ◌↔◌, ℕ, ℤ, Bool, IsTrue, Option, Some, if◌then◌else◌}
-use Rattle.fixed_calc.specs.declared.answer.Answer.TheVariants.{Absent, Bits, Flagged}
+use Rattle.fixed_machine.specs.declared.answer.Answer.TheVariants.{Absent, Bits, Flagged}
 use Rattle.fixed_agree.specs.declared.forms.Forms.{Forms}
 use Rattle.fixed_agree.specs.declared.forms.Shifts.{Shifts}
 use Rattle.fixed_word.specs.Format.{clamp}

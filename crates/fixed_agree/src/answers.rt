@@ -1,9 +1,9 @@
 //! The answers of typed calls, in the form of the calculator's answers.
 
 ghost use Rattle.std.specs.Prelude.{◌≡◌, option_map};
-ghost use Rattle.fixed_calc.specs.Projection.{plain};
+ghost use Rattle.fixed_machine.specs.Projection.{plain};
 
-use fixed_calc::Answer;
+use fixed_machine::Answer;
 use fixed_num::Fixed;
 use fixed_word::RawWord;
 

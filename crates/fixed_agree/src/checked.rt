@@ -1,14 +1,15 @@
 //! The checked calls answer what the machine answers under `checked`: a number, or no value.
-#![tactic(auto, unfolding(fixed_calc::specs::Rows::exact, fixed_calc::specs::Offered::is_offered), using(crate::proofs::Answered::projected))]
+#![tactic(auto, unfolding(fixed_machine::specs::Rows::exact, fixed_machine::specs::Offered::is_offered), using(crate::proofs::Answered::projected))]
 
 ghost use Rattle.std.specs.Prelude.{◌≡◌, ◌≤◌, true, false};
-ghost use Rattle.fixed_calc.specs.Offered.{is_offered};
+ghost use Rattle.fixed_machine.specs.Offered.{is_offered};
 ghost use Rattle.fixed_agree.specs.Agreement.{IsBinary, IsByInteger, IsOfferedOnBoth, IsUnary, MachineAnswers, one_operand, three_operands, two_operands, with_integer};
 
 use crate::answers::bits_or_absent;
-use fixed_calc::{Answer, Op, Policy};
+use fixed_machine::Answer;
 use fixed_num::Fixed;
 use fixed_policy::{Checked, CheckedMulAdd, CheckedProducts, CheckedSigned, CheckedUnsigned};
+use fixed_script::{Op, Policy};
 use fixed_word::{SignedWord, UnsignedWord, Word};
 
 /// An operation on one number that is offered on all words.
@@ -57,7 +58,7 @@ pub fn unary_unsigned<T: UnsignedWord, const F: u32>(op: Op, a: Fixed<T, F>) -> 
 }
 
 /// An operation on two numbers.
-#[tactic(auto, unfolding(fixed_calc::specs::Rows::exact, fixed_calc::specs::Offered::is_offered), using(crate::proofs::Rows::checked_row))]
+#[tactic(auto, unfolding(fixed_machine::specs::Rows::exact, fixed_machine::specs::Offered::is_offered), using(crate::proofs::Rows::checked_row))]
 pub fn binary<T: Word, const F: u32>(op: Op, a: Fixed<T, F>, b: Fixed<T, F>) -> Answer
     requires fraction { F ≤ T.BITS }
     requires shape { IsBinary op }

@@ -1,9 +1,9 @@
 //! Four forms of one operation on the same operands, and how their answers agree.
-#![tactic(auto, unfolding(fixed_calc::specs::Offered::is_offered))]
+#![tactic(auto, unfolding(fixed_machine::specs::Offered::is_offered))]
 
 ghost use Rattle.std.specs.Prelude.{◌≡◌, ◌≤◌, ◌%◌, ◌^◌, ◌*ℤ◌, pos, IsSome, None, Some, if◌then◌else◌, is_some, option_map, true};
-ghost use Rattle.fixed_calc.specs.Machine.{row_of};
-ghost use Rattle.fixed_calc.specs.Offered.{is_offered};
+ghost use Rattle.fixed_machine.specs.Machine.{row_of};
+ghost use Rattle.fixed_machine.specs.Offered.{is_offered};
 ghost use Rattle.fixed_agree.specs.Agreement.{IsBinary, IsByInteger, IsOfferedOnBoth, IsUnary, one_operand, three_operands, two_operands, with_integer};
 ghost use Rattle.fixed_agree.specs.Forms.{FormsAgree, ShiftsAgree};
 ghost use Rattle.fixed_kernel.specs.Rows.{exact_add, exact_add_prod, exact_sub};
@@ -12,13 +12,14 @@ ghost use Rattle.fixed_word.specs.Quotient.{floor_quotient};
 
 use crate::answers::{bits_of, bits_or_absent, flagged_of};
 use crate::{checked, overflowing, saturating, wrapping};
-use fixed_calc::{Answer, Op, Policy};
+use fixed_machine::Answer;
 use fixed_num::Fixed;
 use fixed_policy::{
     Checked, CheckedProducts, CheckedSigned, CheckedUnsigned, Overflowing, OverflowingProducts,
     OverflowingSigned, OverflowingUnsigned, Wrapping, WrappingProducts, WrappingSigned,
     WrappingUnsigned,
 };
+use fixed_script::{Op, Policy};
 use fixed_strict::{SaturatingProducts, SaturatingSigned, SaturatingUnsigned};
 use fixed_word::{RawWord, SignedWord, UnsignedWord, Word};
 

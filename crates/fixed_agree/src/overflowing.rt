@@ -1,15 +1,16 @@
 //! The overflowing calls answer what the machine answers under `overflowing`: the wrapped number and its verdict.
-#![tactic(auto, unfolding(fixed_calc::specs::Rows::exact, fixed_calc::specs::Offered::is_offered), using(crate::proofs::Answered::projected))]
+#![tactic(auto, unfolding(fixed_machine::specs::Rows::exact, fixed_machine::specs::Offered::is_offered), using(crate::proofs::Answered::projected))]
 
 ghost use Rattle.std.specs.Prelude.{◌≡◌, ◌≤◌, true, false, IsSome};
-ghost use Rattle.fixed_calc.specs.Machine.{row_of};
-ghost use Rattle.fixed_calc.specs.Offered.{is_offered};
+ghost use Rattle.fixed_machine.specs.Machine.{row_of};
+ghost use Rattle.fixed_machine.specs.Offered.{is_offered};
 ghost use Rattle.fixed_agree.specs.Agreement.{IsBinary, IsByInteger, IsOfferedOnBoth, IsUnary, MachineAnswers, one_operand, three_operands, two_operands, with_integer};
 
 use crate::answers::flagged_of;
-use fixed_calc::{Answer, Op, Policy};
+use fixed_machine::Answer;
 use fixed_num::Fixed;
 use fixed_policy::{Overflowing, OverflowingMulAdd, OverflowingProducts, OverflowingSigned};
+use fixed_script::{Op, Policy};
 use fixed_word::{SignedWord, UnsignedWord, Word};
 
 /// An operation on one number that is offered on all words. Condition: the row is defined.

@@ -16,10 +16,10 @@ use Rattle.fixed_script.specs.Text.{ScriptHeader, ScriptLine, SetTo, Apply, Oper
 use Rattle.fixed_script.specs.Lines.{line_in, if_its_text, line_of, line_of_piece, header_of_piece}
 use Rattle.fixed_script.proofs.Joined.{tokens_of_line}
 use Rattle.fixed_script.proofs.TextsRead.{line_back, line_is, its_text, has_text}
-use Rattle.fixed_calc.specs.Answers.{answer_text}
-use Rattle.fixed_calc.specs.Machine.{State, cause, answer, move}
-use Rattle.fixed_calc.specs.Meaning.{Run, by_cause, step_then, run_lines, run_from, run_pieces, run_of, start, fractions_of, has_wide, stopped, meaning_with}
-use Rattle.fixed_calc.specs.declared.cause.Cause.TheVariants.{OutOfRange}
+use Rattle.fixed_machine.specs.Answers.{answer_text}
+use Rattle.fixed_machine.specs.Machine.{State, cause, answer, move}
+use Rattle.fixed_machine.specs.Meaning.{Run, by_cause, step_then, run_lines, run_from, run_pieces, run_of, start, fractions_of, has_wide, stopped, meaning_with}
+use Rattle.fixed_machine.specs.declared.cause.Cause.TheVariants.{OutOfRange}
 use Rattle.fixed_calc.specs.Before.{names_none, without_rounding, old_line_of, old_line_of_piece, old_step_then, old_run_lines, old_run_from, old_run_pieces, ReadsOldLines, EndsInRounding, MeansAsBefore}
 use Rattle.fixed_calc.proofs.Headed.{body_by}
 

@@ -4,18 +4,18 @@ use Rattle.std.specs.List.{All, flat_map}
 use Rattle.std.specs.Cmp.Derive.{both_true}
 use Rattle.std.proofs.lemmas.List.Elements.{All-nil, All-cons}
 use Rattle.fixed_word.specs.Pieces.{pieces}
-use Rattle.fixed_calc.specs.declared.cause.Cause.{Cause}
-use Rattle.fixed_calc.specs.declared.cause.RunFault.{RunFault}
-use Rattle.fixed_calc.specs.declared.cause.RunFault.TheVariants.{Script}
-use Rattle.fixed_calc.specs.Rooms.{IsAnswerOfMeaning}
-use Rattle.fixed_calc.specs.Answers.{answer_text}
+use Rattle.fixed_machine.specs.declared.cause.Cause.{Cause}
+use Rattle.fixed_machine.specs.declared.cause.RunFault.{RunFault}
+use Rattle.fixed_machine.specs.declared.cause.RunFault.TheVariants.{Script}
+use Rattle.fixed_machine.specs.Rooms.{IsAnswerOfMeaning}
+use Rattle.fixed_machine.specs.Answers.{answer_text, ended}
 use Rattle.fixed_script.specs.Text.{header_text, header_tokens, ScriptLine, line_text}
 use Rattle.fixed_script.specs.Lines.{line_of_piece}
-use Rattle.fixed_calc.specs.Machine.{State, Cell, cause, answer, move}
-use Rattle.fixed_calc.specs.Meaning.{Run, Output, Fault, by_cause, step_then, run_lines, run_of, start, zeros, fractions_of, meaning, meaning_with}
-use Rattle.fixed_calc.specs.Demo.{ended, demo_header, demo_lines, demo_text, answers_from, demo_answers}
-use Rattle.fixed_calc.proofs.Ended.{pieces_ended, line_read, header_read}
-use Rattle.fixed_calc.proofs.Runs.{run_of_lines}
+use Rattle.fixed_machine.specs.Machine.{State, Cell, cause, answer, move}
+use Rattle.fixed_machine.specs.Meaning.{Run, Output, Fault, by_cause, step_then, run_lines, run_of, start, zeros, fractions_of, meaning, meaning_with}
+use Rattle.fixed_calc.specs.Demo.{demo_header, demo_lines, demo_text, answers_from, demo_answers}
+use Rattle.fixed_machine.proofs.Ended.{pieces_ended, line_read, header_read}
+use Rattle.fixed_machine.proofs.Runs.{run_of_lines}
 use Rattle.fixed_text.proofs.Lacking.{lacks, naturals_lack, joined_lack}
 use Rattle.fixed_calc.proofs.Drawn.{IsReady, IsDrawn, stays_ready, lines_drawn}
 

@@ -12,18 +12,18 @@ use Rattle.fixed_script.specs.declared.names.Policy.{Policy}
 use Rattle.fixed_script.specs.declared.names.Policy.TheVariants.{Checked, Saturating, Wrapping, Overflowing}
 use Rattle.fixed_script.specs.declared.names.Op.{Op}
 use Rattle.fixed_script.specs.declared.names.Op.TheVariants.{Add, Sub, Mul, Div, MulAdd, AddProd, Sqrt}
-use Rattle.fixed_calc.specs.declared.answer.Answer.{Answer}
-use Rattle.fixed_calc.specs.declared.answer.Answer.TheVariants.{Absent, Bits, Flagged}
+use Rattle.fixed_machine.specs.declared.answer.Answer.{Answer}
+use Rattle.fixed_machine.specs.declared.answer.Answer.TheVariants.{Absent, Bits, Flagged}
 use Rattle.fixed_script.specs.Text.{ScriptLine, SetTo, Apply, Operands, OneRegister, TwoRegisters, ThreeRegisters, IsLine, shape, shape_of, line_text}
-use Rattle.fixed_calc.specs.Rows.{exact}
-use Rattle.fixed_calc.specs.Offered.{is_offered}
+use Rattle.fixed_machine.specs.Rows.{exact}
+use Rattle.fixed_machine.specs.Offered.{is_offered}
 use Rattle.fixed_text.specs.Words.{is_signed, width}
-use Rattle.fixed_calc.specs.Machine.{State, Cell, empty_cell, cell_at, destination, is_value, is_unoffered, is_out_of_range, is_mismatched, row_by, operand_values, row_cause, late_cause, cause, stored, answer, move}
+use Rattle.fixed_machine.specs.Machine.{State, Cell, empty_cell, cell_at, destination, is_value, is_unoffered, is_out_of_range, is_mismatched, row_by, operand_values, row_cause, late_cause, cause, stored, answer, move}
 use Rattle.fixed_calc.specs.inside.Draws.{draw}
 use Rattle.fixed_calc.specs.Demo.{state_at, octal_digit, choices, drawn_line, demo_lines}
-use Rattle.fixed_calc.proofs.Lacks.{line_lacks}
-use Rattle.fixed_calc.proofs.Causes.{PassesTests, after_tests}
-use Rattle.fixed_calc.proofs.Fits.{fit_true}
+use Rattle.fixed_machine.proofs.Lacks.{line_lacks}
+use Rattle.fixed_machine.proofs.Causes.{PassesTests, after_tests}
+use Rattle.fixed_machine.proofs.Fits.{fit_true}
 use Rattle.fixed_text.proofs.Lacking.{lacks}
 
 -- ---- the draws

@@ -8,7 +8,7 @@ use Rattle.std.proofs.lemmas.List.{take_more, take_all}
 use Rattle.fixed_word.specs.Pieces.{pieces, body}
 use Rattle.fixed_script.specs.Text.{ScriptHeader, header_text}
 use Rattle.fixed_script.specs.Lines.{header_of, header_of_piece}
-use Rattle.fixed_calc.specs.Meaning.{Output, run_from, run_pieces, run_of, meaning}
+use Rattle.fixed_machine.specs.Meaning.{Output, run_from, run_pieces, run_of, meaning}
 use Rattle.fixed_calc.specs.Widening.{script_of}
 use Rattle.fixed_text.proofs.Cutting.{pieces_joined}
 use Rattle.fixed_script.proofs.TextsRead.{reads_headers}

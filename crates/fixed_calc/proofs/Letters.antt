@@ -4,9 +4,9 @@ use Rattle.std.specs.Char.{is_ascii_digit}
 use Rattle.std.specs.List.{count_by, flat_map}
 use Rattle.std.proofs.lemmas.List.Sums.{sum_by-append, sum_by-cons}
 use Rattle.fixed_word.specs.Decimal.{whole_text}
-use Rattle.fixed_calc.specs.declared.answer.Answer.{Answer}
-use Rattle.fixed_calc.specs.declared.answer.Answer.TheVariants.{Absent, Bits, Flagged}
-use Rattle.fixed_calc.specs.Answers.{answer_text, verdict_text}
+use Rattle.fixed_machine.specs.declared.answer.Answer.{Answer}
+use Rattle.fixed_machine.specs.declared.answer.Answer.TheVariants.{Absent, Bits, Flagged}
+use Rattle.fixed_machine.specs.Answers.{answer_text, verdict_text}
 use Rattle.fixed_calc.specs.Demo.{is_absent, has_true_verdict}
 use Rattle.fixed_text.proofs.Lacking.{whole_lacks, count_lacks}
 

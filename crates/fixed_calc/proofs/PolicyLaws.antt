@@ -4,7 +4,7 @@ use Rattle.fixed_word.specs.Format.{IsWidth, fits, wrap}
 use Rattle.fixed_word.proofs.Wraps.{width_pos, wrap_same}
 use Rattle.fixed_word.proofs.Standings.{clamp_same}
 use Rattle.fixed_calc.specs.PolicyLaws.{WhereItFits, WhereItMisses}
-use Rattle.fixed_calc.proofs.Fits.{in_range}
+use Rattle.fixed_machine.proofs.Fits.{in_range}
 
 pub where_it_fits : (s : Bool) (n : ℕ) (x : ℤ) → IsWidth n → fits s n x ≡ true → WhereItFits s n x
 where_it_fits s n x w e =

@@ -9,7 +9,8 @@ use Rattle.fixed_script.specs.declared.names.Policy.{Policy}
 use Rattle.fixed_script.specs.declared.names.Op.{Op}
 use Rattle.fixed_script.specs.Names.{policy_name, op_name}
 use Rattle.fixed_script.specs.Text.{ScriptLine, SetTo, Apply, Operands, register_text, operand_tokens, line_text, header_text}
-use Rattle.fixed_calc.specs.Demo.{choices, drawn_line, state_at, demo_lines, demo_text, demo_header, ended}
+use Rattle.fixed_calc.specs.Demo.{choices, drawn_line, state_at, demo_lines, demo_text, demo_header}
+use Rattle.fixed_machine.specs.Answers.{ended}
 use Rattle.fixed_calc.specs.inside.Draws.{next_state, draw}
 use Rattle.fixed_text.proofs.Decimals.{natural_text_digit, natural_text_step}
 

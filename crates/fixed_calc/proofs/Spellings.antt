@@ -22,21 +22,20 @@ use Rattle.fixed_script.specs.Text.{ScriptHeader, ScriptLine, SetTo, Apply, Oper
 use Rattle.fixed_script.specs.Capped.{capped, checked_script_line, literal_value, of_shape}
 use Rattle.fixed_script.specs.Lines.{line_of, line_of_piece, header_of_piece}
 use Rattle.fixed_script.proofs.TextsRead.{reads_lines}
-use Rattle.fixed_calc.specs.Answers.{answer_text}
-use Rattle.fixed_calc.specs.Demo.{ended}
-use Rattle.fixed_calc.specs.Machine.{State, OperandValues, operand_values, row_by, row_cause, late_cause, literals_of, registers_of, is_value, is_unoffered, is_out_of_range, is_mismatched, stored, cause, answer, move}
+use Rattle.fixed_machine.specs.Answers.{answer_text, ended}
+use Rattle.fixed_machine.specs.Machine.{State, OperandValues, operand_values, row_by, row_cause, late_cause, literals_of, registers_of, is_value, is_unoffered, is_out_of_range, is_mismatched, stored, cause, answer, move}
 use Rattle.fixed_text.specs.Words.{is_signed, width}
-use Rattle.fixed_calc.specs.Rows.{exact, exact_rounded}
-use Rattle.fixed_calc.specs.Projection.{project}
-use Rattle.fixed_calc.specs.Meaning.{Run, by_cause, step_then, run_lines, run_from, run_pieces, run_of, start, fractions_of, has_wide, stopped, meaning_with}
-use Rattle.fixed_calc.specs.declared.cause.Cause.TheVariants.{Syntax, OutOfRange, FractionMismatch}
+use Rattle.fixed_machine.specs.Rows.{exact, exact_rounded}
+use Rattle.fixed_machine.specs.Projection.{project}
+use Rattle.fixed_machine.specs.Meaning.{Run, by_cause, step_then, run_lines, run_from, run_pieces, run_of, start, fractions_of, has_wide, stopped, meaning_with}
+use Rattle.fixed_machine.specs.declared.cause.Cause.TheVariants.{Syntax, OutOfRange, FractionMismatch}
 use Rattle.fixed_calc.specs.Spelled.{default_rounding, spelled_line, Spelling, Written, NoForm, in_front, spell_then, spelled_lines, spelled_from, spelled_pieces, spelled, KeepsMeaning}
 use Rattle.fixed_calc.specs.inside.Spelling.{added_to, with_end}
-use Rattle.fixed_calc.specs.inside.Stepping.{script_line_of}
+use Rattle.fixed_machine.specs.inside.Stepping.{script_line_of}
 use Rattle.fixed_calc.proofs.Before.{join_last}
-use Rattle.fixed_calc.proofs.Ended.{pieces_ended, line_read, header_read}
+use Rattle.fixed_machine.proofs.Ended.{pieces_ended, line_read, header_read}
 use Rattle.fixed_calc.proofs.Headed.{body_by, header_piece}
-use Rattle.fixed_calc.proofs.Lacks.{line_lacks}
+use Rattle.fixed_machine.proofs.Lacks.{line_lacks}
 use Rattle.fixed_calc.proofs.WidenedRuns.{script_pieces}
 
 -- ---- the line that was read, and the rounding that is added

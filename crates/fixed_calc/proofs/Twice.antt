@@ -2,15 +2,15 @@
 use Rattle.std.proofs.Common.{◌≡◌, ◌+◌, ◌*◌, ◌≤◌, ℕ, Bool, true, false, List, [], ◌∷◌, length, length-append, Option, Some, None, refl, ap, arith, if◌then◌else◌}
 use Rattle.std.specs.List.{concat}
 use Rattle.fixed_word.specs.Pieces.{pieces}
-use Rattle.fixed_calc.specs.Answers.{answer_text}
+use Rattle.fixed_machine.specs.Answers.{answer_text}
 use Rattle.fixed_script.specs.Text.{ScriptHeader, ScriptLine}
-use Rattle.fixed_calc.specs.Machine.{State, answer, cause, move}
-use Rattle.fixed_calc.specs.Meaning.{Run, Output, stopped, by_cause, step_then, run_lines, run_from, run_pieces, run_of, start, has_wide, fractions_of, meaning, meaning_with}
+use Rattle.fixed_machine.specs.Machine.{State, answer, cause, move}
+use Rattle.fixed_machine.specs.Meaning.{Run, Output, stopped, by_cause, step_then, run_lines, run_from, run_pieces, run_of, start, has_wide, fractions_of, meaning, meaning_with}
 use Rattle.fixed_script.specs.Lines.{line_of_piece, header_of_piece}
-use Rattle.fixed_calc.specs.declared.cause.Cause.{Cause}
-use Rattle.fixed_calc.specs.declared.cause.Cause.TheVariants.{OutOfRange}
+use Rattle.fixed_machine.specs.declared.cause.Cause.{Cause}
+use Rattle.fixed_machine.specs.declared.cause.Cause.TheVariants.{OutOfRange}
 use Rattle.fixed_text.proofs.Cutting.{pieces_joined}
-use Rattle.fixed_calc.proofs.Short.{answer_fits}
+use Rattle.fixed_machine.proofs.Short.{answer_fits}
 
 -- a run without a fault, whose output is at most twice as long as the pieces
 abbrev pub IsTwice : List (List ℕ) → Run → Type 0

@@ -6,19 +6,18 @@ use Rattle.fixed_word.specs.Pieces.{pieces}
 use Rattle.fixed_script.specs.Lines.{line_of_piece}
 use Rattle.fixed_text.specs.declared.names.WordName.{WordName}
 use Rattle.fixed_text.specs.declared.names.WordName.TheVariants.{I8, I16, I32, I64, U8, U16, U32, U64}
-use Rattle.fixed_calc.specs.declared.cause.Cause.{Cause}
+use Rattle.fixed_machine.specs.declared.cause.Cause.{Cause}
 use Rattle.fixed_text.specs.Words.{width, word_name}
-use Rattle.fixed_calc.specs.Answers.{answer_text}
+use Rattle.fixed_machine.specs.Answers.{answer_text, ended}
 use Rattle.fixed_script.specs.Text.{ScriptHeader, header_text, header_tokens, ScriptLine}
-use Rattle.fixed_calc.specs.Machine.{State, cause, answer, move}
-use Rattle.fixed_calc.specs.Meaning.{Run, Output, after, by_cause, step_then, run_lines, run_of, start, has_wide, fractions_of, meaning, meaning_with}
-use Rattle.fixed_calc.specs.Demo.{ended}
+use Rattle.fixed_machine.specs.Machine.{State, cause, answer, move}
+use Rattle.fixed_machine.specs.Meaning.{Run, Output, after, by_cause, step_then, run_lines, run_of, start, has_wide, fractions_of, meaning, meaning_with}
 use Rattle.fixed_calc.specs.Widening.{IsWider, script_of, with_word, row_fits, fits_then, rows_fit}
 use Rattle.fixed_text.proofs.Decimals.{both}
 use Rattle.fixed_text.proofs.Lacking.{lacks, naturals_lack, joined_lack}
-use Rattle.fixed_calc.proofs.Runs.{run_of_lines, run_of_wide}
+use Rattle.fixed_machine.proofs.Runs.{run_of_lines, run_of_wide}
 use Rattle.fixed_calc.proofs.Twice.{output_of}
-use Rattle.fixed_calc.proofs.Ended.{pieces_ended, header_read}
+use Rattle.fixed_machine.proofs.Ended.{pieces_ended, header_read}
 use Rattle.fixed_calc.proofs.Wider.{widened, still_no_cause, same_answer, same_move}
 
 -- ---- lines

@@ -9,19 +9,19 @@ use Rattle.fixed_script.specs.declared.names.Policy.{Policy}
 use Rattle.fixed_script.specs.declared.names.Policy.TheVariants.{Checked, Saturating, Wrapping, Overflowing, Strict}
 use Rattle.fixed_script.specs.declared.names.Op.{Op}
 use Rattle.fixed_script.specs.declared.names.Op.TheVariants.{Sqrt}
-use Rattle.fixed_calc.specs.declared.answer.Answer.{Answer}
-use Rattle.fixed_calc.specs.declared.cause.Cause.TheVariants.{Overflow}
+use Rattle.fixed_machine.specs.declared.answer.Answer.{Answer}
+use Rattle.fixed_machine.specs.declared.cause.Cause.TheVariants.{Overflow}
 use Rattle.fixed_script.specs.Text.{ScriptLine, SetTo, Apply}
-use Rattle.fixed_calc.specs.Offered.{is_offered}
-use Rattle.fixed_calc.specs.Projection.{plain, flagged, project}
-use Rattle.fixed_calc.specs.Machine.{State, is_value, is_unoffered, is_out_of_range, is_mismatched, literals_of, registers_of, row_by, operand_values, row_cause, late_cause, cause, answer, move, stored, destination}
+use Rattle.fixed_machine.specs.Offered.{is_offered}
+use Rattle.fixed_machine.specs.Projection.{plain, flagged, project}
+use Rattle.fixed_machine.specs.Machine.{State, is_value, is_unoffered, is_out_of_range, is_mismatched, literals_of, registers_of, row_by, operand_values, row_cause, late_cause, cause, answer, move, stored, destination}
 use Rattle.fixed_text.specs.Words.{is_signed, width}
 use Rattle.fixed_calc.specs.PolicyLaws.{WhereItFits}
-use Rattle.fixed_calc.specs.Step.{state_in}
+use Rattle.fixed_machine.specs.Step.{state_in}
 use Rattle.fixed_calc.specs.Widening.{IsWider, exceeds, row_fits}
-use Rattle.fixed_calc.proofs.Fits.{in_range, fit_true, is_width}
+use Rattle.fixed_machine.proofs.Fits.{in_range, fit_true, is_width}
 use Rattle.fixed_calc.proofs.PolicyLaws.{where_it_fits}
-use Rattle.fixed_calc.proofs.Causes.{PassesTests, after_tests, no_cause, either_false}
+use Rattle.fixed_machine.proofs.Causes.{PassesTests, after_tests, no_cause, either_false}
 
 -- ---- numbers
 wider_range : (s : Bool) (n m : ℕ) (x : ℤ) → n ≤ m → InRange s n x → InRange s m x

@@ -9,15 +9,15 @@ use Rattle.fixed_text.specs.Tokens.{tokens_of}
 use Rattle.fixed_script.specs.Names.{rounding_name}
 use Rattle.fixed_script.specs.Text.{ScriptHeader, ScriptLine, SetTo, Apply, IsLine, line_text}
 use Rattle.fixed_script.specs.Lines.{line_in, if_its_text, header_of_piece}
-use Rattle.fixed_calc.specs.declared.answer.Answer.{Answer}
-use Rattle.fixed_calc.specs.declared.answer.Answer.TheVariants.{Bits}
-use Rattle.fixed_calc.specs.declared.cause.Cause.{Cause}
-use Rattle.fixed_calc.specs.declared.cause.Cause.TheVariants.{Syntax, OutOfRange, FractionMismatch}
-use Rattle.fixed_calc.specs.Answers.{answer_text}
-use Rattle.fixed_calc.specs.Projection.{project}
-use Rattle.fixed_calc.specs.Machine.{State, operand_values, row_of, row_cause, is_unoffered, is_out_of_range, is_mismatched, destination, stored}
+use Rattle.fixed_machine.specs.declared.answer.Answer.{Answer}
+use Rattle.fixed_machine.specs.declared.answer.Answer.TheVariants.{Bits}
+use Rattle.fixed_machine.specs.declared.cause.Cause.{Cause}
+use Rattle.fixed_machine.specs.declared.cause.Cause.TheVariants.{Syntax, OutOfRange, FractionMismatch}
+use Rattle.fixed_machine.specs.Answers.{answer_text}
+use Rattle.fixed_machine.specs.Projection.{project}
+use Rattle.fixed_machine.specs.Machine.{State, operand_values, row_of, row_cause, is_unoffered, is_out_of_range, is_mismatched, destination, stored}
 use Rattle.fixed_text.specs.Words.{is_signed, width}
-use Rattle.fixed_calc.specs.Meaning.{Run, Meaning, stopped, by_cause, start, fractions_of, has_wide, meaning, meaning_with}
+use Rattle.fixed_machine.specs.Meaning.{Run, Meaning, stopped, by_cause, start, fractions_of, has_wide, meaning, meaning_with}
 
 -- ---- reading
 abbrev pub names_none : ScriptLine → Bool

@@ -4,11 +4,12 @@ use Rattle.fixed_word.specs.Decimal.{natural_text}
 use Rattle.fixed_text.specs.declared.names.WordName.TheVariants.{I64}
 use Rattle.fixed_script.specs.declared.names.Policy.TheVariants.{Checked, Saturating, Wrapping, Overflowing}
 use Rattle.fixed_script.specs.declared.names.Op.TheVariants.{Add, Sub, Mul, Div, MulAdd, AddProd, Sqrt}
-use Rattle.fixed_calc.specs.declared.answer.Answer.{Answer}
-use Rattle.fixed_calc.specs.declared.answer.Answer.TheVariants.{Absent, Flagged}
+use Rattle.fixed_machine.specs.declared.answer.Answer.{Answer}
+use Rattle.fixed_machine.specs.declared.answer.Answer.TheVariants.{Absent, Flagged}
 use Rattle.fixed_script.specs.Text.{ScriptHeader, header_text, ScriptLine, SetTo, Apply, OneRegister, TwoRegisters, ThreeRegisters, line_text}
-use Rattle.fixed_calc.specs.Machine.{State, answer, move}
-use Rattle.fixed_calc.specs.Meaning.{start}
+use Rattle.fixed_machine.specs.Answers.{ended}
+use Rattle.fixed_machine.specs.Machine.{State, answer, move}
+use Rattle.fixed_machine.specs.Meaning.{start}
 
 -- ---- the draws
 -- the generator's state at line i
@@ -49,10 +50,6 @@ demo_header = record { word = I64; first = 32; others = replicate 7 32 }
 unfoldable pub demo_lines : ℕ → List ScriptLine
 demo_lines zero = []
 demo_lines (suc i) = demo_lines i ++ (drawn_line (state_at (suc i) / 2 ^ 33) ∷ [])
-
--- a text and a newline
-abbrev pub ended : List ℕ → List ℕ
-ended text = text ++ (10 ∷ [])
 
 unfoldable pub demo_text : ℕ → List ℕ
 demo_text n = ended (header_text demo_header) ++ flat_map (λ line. ended (line_text line)) (demo_lines n)

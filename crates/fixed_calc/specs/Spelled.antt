@@ -8,8 +8,8 @@ use Rattle.fixed_script.specs.declared.names.Op.{Op}
 use Rattle.fixed_script.specs.declared.names.Op.TheVariants.{Mul, Div, Recip, MulAdd, AddProd, DivInt}
 use Rattle.fixed_script.specs.Text.{ScriptHeader, ScriptLine, SetTo, Apply, header_text, line_text}
 use Rattle.fixed_script.specs.Lines.{header_of_piece, line_of_piece}
-use Rattle.fixed_calc.specs.Demo.{ended}
-use Rattle.fixed_calc.specs.Meaning.{meaning}
+use Rattle.fixed_machine.specs.Answers.{ended}
+use Rattle.fixed_machine.specs.Meaning.{meaning}
 use Rattle.fixed_calc.specs.declared.spelled.ExplicitFault.{ExplicitFault}
 use Rattle.fixed_calc.specs.declared.spelled.ExplicitFault.TheVariants.{Syntax, Memory}
 

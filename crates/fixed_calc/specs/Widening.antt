@@ -4,7 +4,7 @@ use Rattle.fixed_script.specs.Lines.{line_of_piece}
 use Rattle.fixed_text.specs.declared.names.WordName.{WordName}
 use Rattle.fixed_script.specs.Text.{ScriptHeader, header_text, ScriptLine, SetTo, Apply}
 use Rattle.fixed_word.specs.Format.{fits}
-use Rattle.fixed_calc.specs.Machine.{State, row_by, operand_values, move}
+use Rattle.fixed_machine.specs.Machine.{State, row_by, operand_values, move}
 use Rattle.fixed_text.specs.Words.{is_signed, width}
 
 -- a wider word of the same sign

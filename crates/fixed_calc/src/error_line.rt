@@ -4,9 +4,9 @@ ghost use Rattle.std.specs.Prelude.{◌≡◌, ◌≤◌, ◌++◌, codes, lengt
 ghost use Rattle.fixed_word.specs.Decimal.{natural_text};
 ghost use Rattle.fixed_calc.specs.Headline.{error_line};
 
-use crate::cause::Cause;
 use crate::short_text::ShortText;
 use crate::status::Status;
+use fixed_machine::Cause;
 
 fn cause_text(number: u64, words: &[u8]) -> ShortText
     requires { length words.now ≤ 30 }

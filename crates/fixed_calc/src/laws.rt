@@ -2,12 +2,12 @@
 
 ghost use Rattle.std.specs.Prelude.{◌≡◌, ◌*◌, ◌+◌, ◌<◌, ◌≤◌, Bool, List, None, ℕ, ℤ, false, flat_map, length, min, true};
 ghost use Rattle.fixed_word.specs.Format.{IsWidth, fits};
-ghost use Rattle.fixed_calc.specs.Answers.{answer_text};
+ghost use Rattle.fixed_machine.specs.Answers.{answer_text};
 ghost use Rattle.fixed_calc.specs.Before.{MeansAsBefore, ReadsOldLines};
 ghost use Rattle.fixed_calc.specs.Calls.{ReadsToEnd, TookBytes, buffer_size};
-ghost use Rattle.fixed_calc.specs.CapLaw.{CapsAlike};
+ghost use Rattle.fixed_machine.specs.CapLaw.{CapsAlike};
 ghost use Rattle.fixed_calc.specs.Demo.{demo_answers, demo_text};
-ghost use Rattle.fixed_calc.specs.Meaning.{Output, meaning, run_of, start};
+ghost use Rattle.fixed_machine.specs.Meaning.{Output, meaning, run_of, start};
 ghost use Rattle.fixed_calc.specs.Memory.{IsCallsFor, MemoryInput, MemoryOutput};
 ghost use Rattle.fixed_calc.specs.PolicyLaws.{WhereItFits, WhereItMisses};
 ghost use Rattle.fixed_calc.specs.Outside.{last_count};

@@ -5,7 +5,7 @@ ghost use Rattle.fixed_word.specs.Pieces.{pieces};
 ghost use Rattle.fixed_script.specs.Names.{rounding_name};
 ghost use Rattle.fixed_calc.specs.Spelled.{IsAnswerOfSpelling, default_rounding, in_front, spelled, spelled_lines};
 ghost use Rattle.fixed_calc.specs.inside.Spelling.{SpellsAll, HasSpelled, StopsSpelling, added_to, with_end};
-ghost use Rattle.fixed_calc.specs.inside.Stepping.{script_line_of};
+ghost use Rattle.fixed_machine.specs.inside.Stepping.{script_line_of};
 
 use crate::demo::Script;
 use fixed_script::{Line, Op, Rounding, header_of_piece, line_of_piece};

@@ -1,15 +1,14 @@
 //! The summary of a demonstration.
 
 ghost use Rattle.std.specs.Prelude.{◌≡◌, ◌==◌, ◌≤◌, ◌<◌, ◌^◌, List, count_by, flat_map, length, IfOk};
-ghost use Rattle.fixed_calc.specs.declared.answer.Answer.{Answer};
-ghost use Rattle.fixed_calc.specs.Answers.{answer_text};
+ghost use Rattle.fixed_machine.specs.declared.answer.Answer.{Answer};
+ghost use Rattle.fixed_machine.specs.Answers.{answer_text};
 ghost use Rattle.fixed_calc.specs.Demo.{is_absent, has_true_verdict, summary, summary_text as text_of};
 ghost use Rattle.fixed_calc.specs.CommandLine.{most_lines};
 
-use crate::cause::RunFault;
 use crate::demo::demo_script;
-use crate::running::run;
 use crate::short_text::ShortText;
+use fixed_machine::{RunFault, run};
 use std::alloc::{AllocError, Global};
 
 /// How many bytes are counted at once.

@@ -6,15 +6,14 @@ ghost use Rattle.fixed_calc.specs.Calls.{WritesOfLine, ReadsOfStatus, WritesOfSt
 ghost use Rattle.fixed_calc.specs.Demo.{summary};
 ghost use Rattle.fixed_calc.specs.CommandLine.{IsDemo, IsNoCommand, most_lines};
 
-use crate::cause::RunFault;
 use crate::command::{Command, command_of};
 use crate::error_line::error_line_of;
 use crate::outside::{Refusal, Sink, Source};
 use crate::reading::{Stop, read_all};
-use crate::running::run;
 use crate::status::Status;
 use crate::summary::demo_summary;
 use crate::writing::write_all;
+use fixed_machine::{RunFault, run};
 use std::alloc::Global;
 
 /// Reads, runs and writes.

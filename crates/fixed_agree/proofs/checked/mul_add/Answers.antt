@@ -1,4 +1,4 @@
-use Rattle.fixed_calc.specs.Rows.{exact}
+use Rattle.fixed_machine.specs.Rows.{exact}
 use Rattle.fixed_agree.proofs.Policies.{by_checked}
 use Rattle.fixed_agree.proofs.checked.mul_add.Goals as goal
 

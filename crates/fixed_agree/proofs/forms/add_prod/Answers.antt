@@ -1,4 +1,4 @@
-use Rattle.fixed_calc.specs.Types.{AddProd}
+use Rattle.fixed_machine.specs.Types.{AddProd}
 use Rattle.fixed_agree.specs.Agreement.{three_operands}
 use Rattle.fixed_agree.proofs.OneRow.{forms_agree, add_prod_defined}
 use Rattle.fixed_agree.proofs.forms.add_prod.Goals as goal

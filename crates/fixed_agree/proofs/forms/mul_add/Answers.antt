@@ -1,4 +1,4 @@
-use Rattle.fixed_calc.specs.Types.{MulAdd}
+use Rattle.fixed_machine.specs.Types.{MulAdd}
 use Rattle.fixed_agree.specs.Agreement.{three_operands}
 use Rattle.fixed_agree.proofs.OneRow.{forms_agree, mul_add_defined}
 use Rattle.fixed_agree.proofs.forms.mul_add.Goals as goal

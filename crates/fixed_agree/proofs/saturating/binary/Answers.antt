@@ -1,6 +1,6 @@
 use Rattle.std.proofs.Common.{refl}
 use Rattle.fixed_kernel.specs.Rows.{exact_div, exact_div_euclid, exact_next_multiple_of}
-use Rattle.fixed_calc.specs.Rows.{exact}
+use Rattle.fixed_machine.specs.Rows.{exact}
 use Rattle.fixed_agree.proofs.Policies.{by_saturating, some_divided}
 use Rattle.fixed_agree.proofs.saturating.binary.Goals as goal
 

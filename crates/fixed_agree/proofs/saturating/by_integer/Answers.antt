@@ -1,6 +1,6 @@
 use Rattle.std.proofs.Common.{refl}
 use Rattle.fixed_kernel.specs.Rows.{exact_div_euclid_int, exact_div_int, exact_rem_euclid_int}
-use Rattle.fixed_calc.specs.Rows.{exact}
+use Rattle.fixed_machine.specs.Rows.{exact}
 use Rattle.fixed_agree.proofs.Policies.{by_saturating, some_divided}
 use Rattle.fixed_agree.proofs.saturating.by_integer.Goals as goal
 

@@ -1,6 +1,6 @@
 use Rattle.std.proofs.Common.{refl}
 use Rattle.fixed_kernel.specs.Rows.{exact_recip, exact_sqrt}
-use Rattle.fixed_calc.specs.Rows.{exact}
+use Rattle.fixed_machine.specs.Rows.{exact}
 use Rattle.fixed_agree.proofs.Policies.{by_saturating, some_divided, some_rooted}
 use Rattle.fixed_agree.proofs.saturating.unary.Goals as goal
 

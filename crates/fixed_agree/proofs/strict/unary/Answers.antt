@@ -1,6 +1,6 @@
 use Rattle.std.proofs.Common.{refl}
 use Rattle.fixed_kernel.specs.Rows.{exact_recip, exact_sqrt}
-use Rattle.fixed_calc.specs.Rows.{exact}
+use Rattle.fixed_machine.specs.Rows.{exact}
 use Rattle.fixed_agree.proofs.Policies.{by_strict, fit_divided, fit_rooted}
 use Rattle.fixed_agree.proofs.strict.unary.Goals as goal
 

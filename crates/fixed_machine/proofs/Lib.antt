@@ -1,0 +1,11 @@
+pub mod Cells
+pub mod Fits
+pub mod Causes
+pub mod Caps
+pub mod Runs
+pub mod Short
+pub mod QuickSteps
+pub mod Divisors
+pub mod Ended
+pub mod Lacks
+pub mod QuickText

@@ -1,0 +1,13 @@
+use Rattle.std.proofs.Common.{◌≡◌, ◌≢◌, pos, arith, sym, ap, ◌∙◌}
+use Rattle.fixed_machine.proofs.Divisors.{divided, no_row}
+use Rattle.fixed_machine.proofs.rows.rounded_quotient.Goals as goal
+
+pub returns-then-eq : goal.returns-then-eq
+returns-then-eq g c =
+    no_row _ _ ((g.met.T.RawWord.eq_law _ _).0 (sym c.eq.ensures ∙ c.if-eq.true) ∙ ap g.T.Valued.value c.ZERO.ensures ∙ g.met.T.RawWord.zero_law)
+
+pub returns : goal.returns
+returns g c =
+    let zero_is : g.T.Valued.value c.ZERO.result ≡ pos 0 = ap g.T.Valued.value c.ZERO.ensures ∙ g.met.T.RawWord.zero_law in
+    let some : g.T.Valued.value c.args.b ≢ pos 0 = λ none. grind (arith, c.eq.ensures, c.if-eq.false, (g.met.T.RawWord.eq_law _ _).1 (none ∙ sym zero_is)) in
+    divided _ _ _ _ _ _ some c.div_round_of.ensures

@@ -1,0 +1,11 @@
+pub mod Answers
+pub mod Rows
+pub mod Projection
+pub mod Offered
+pub mod Machine
+pub mod Meaning
+pub mod Step
+pub mod Rooms
+pub mod CapLaw
+pub mod inside
+pub mod Types

@@ -1,0 +1,136 @@
+-- The register machine: its states, the cause of a line, and its move.
+use Rattle.std.specs.Prelude.{ℕ, ◌==◌, nat_le, ◌||◌, not, Bool, false, ℤ, pos, List, [], ◌∷◌, get_or, set, length, Option, Some, None, if◌then◌else◌}
+use Rattle.std.specs.List.{list_any}
+use Rattle.fixed_word.specs.declared.rounding.Rounding.{Rounding}
+use Rattle.fixed_text.specs.declared.names.WordName.{WordName}
+use Rattle.fixed_text.specs.Words.{is_signed, width}
+use Rattle.fixed_script.specs.declared.names.Policy.{Policy}
+use Rattle.fixed_script.specs.declared.names.Op.{Op}
+use Rattle.fixed_script.specs.declared.names.Op.TheVariants.{AddProd, Sqrt}
+use Rattle.fixed_script.specs.declared.names.Policy.TheVariants.{Checked, Strict}
+use Rattle.fixed_machine.specs.declared.answer.Answer.{Answer}
+use Rattle.fixed_machine.specs.declared.answer.Answer.TheVariants.{Absent, Bits, Flagged}
+use Rattle.fixed_script.specs.Text.{ScriptLine, SetTo, Apply, Operands, OneRegister, TwoRegisters, RegisterAndInt, ThreeRegisters}
+use Rattle.fixed_word.specs.Format.{fits}
+use Rattle.fixed_machine.specs.Rows.{exact, exact_by}
+use Rattle.fixed_machine.specs.Projection.{project}
+use Rattle.fixed_machine.specs.Offered.{is_offered}
+use Rattle.fixed_machine.specs.declared.cause.Cause.{Cause}
+use Rattle.fixed_machine.specs.declared.cause.Cause.TheVariants.{Syntax, OutOfRange, FractionMismatch, ZeroDivisor, NegativeRoot, Overflow}
+
+abbrev pub is_value : WordName → ℤ → Bool
+is_value word x = fits (is_signed word) (width word) x
+
+-- ---- states
+-- a register: its bits as a whole number, and its fraction
+pub record Cell : Type 0 where
+  pub bits : ℤ
+  pub fraction : ℕ
+
+pub record State : Type 0 where
+  pub word : WordName
+  pub registers : List Cell
+
+abbrev pub empty_cell : Cell
+empty_cell = record { bits = pos 0; fraction = 0 }
+
+abbrev pub cell_at : List Cell → ℕ → Cell
+cell_at cells r = get_or cells r empty_cell
+
+-- ---- what a line names
+abbrev pub destination : ScriptLine → ℕ
+destination (SetTo dest k) = dest
+destination (Apply dest policy op xs rounding) = dest
+
+abbrev pub operand_registers : Operands → List ℕ
+operand_registers (OneRegister a) = a ∷ []
+operand_registers (TwoRegisters a b) = a ∷ b ∷ []
+operand_registers (RegisterAndInt a k) = a ∷ []
+operand_registers (ThreeRegisters a b c) = a ∷ b ∷ c ∷ []
+
+abbrev pub registers_of : ScriptLine → List ℕ
+registers_of (SetTo dest k) = dest ∷ []
+registers_of (Apply dest policy op xs rounding) = dest ∷ operand_registers xs
+
+abbrev pub literals_of : ScriptLine → List ℤ
+literals_of (SetTo dest k) = k ∷ []
+literals_of (Apply dest policy op (RegisterAndInt a k) rounding) = k ∷ []
+literals_of (Apply dest policy op xs rounding) = []
+
+-- the operands that have to have the destination's fraction
+abbrev pub tied : Operands → Op → List ℕ
+tied (ThreeRegisters c a b) AddProd = c ∷ []
+tied (ThreeRegisters a m c) op = a ∷ c ∷ []
+tied xs op = operand_registers xs
+
+abbrev pub tied_registers : ScriptLine → List ℕ
+tied_registers (SetTo dest k) = []
+tied_registers (Apply dest policy op xs rounding) = tied xs op
+
+-- ---- the row of a line
+-- three operands, of which a line takes the first ones; an integer has no fraction
+pub record OperandValues : Type 0 where
+  pub a : Cell
+  pub b : Cell
+  pub c : Cell
+
+abbrev pub integer : ℤ → Cell
+integer k = record { bits = k; fraction = 0 }
+
+abbrev pub operand_values : List Cell → Operands → OperandValues
+operand_values cells (OneRegister a) = record { a = cell_at cells a; b = empty_cell; c = empty_cell }
+operand_values cells (TwoRegisters a b) = record { a = cell_at cells a; b = cell_at cells b; c = empty_cell }
+operand_values cells (RegisterAndInt a k) = record { a = cell_at cells a; b = integer k; c = empty_cell }
+operand_values cells (ThreeRegisters a b c) = record { a = cell_at cells a; b = cell_at cells b; c = cell_at cells c }
+
+abbrev pub row_of : Op → OperandValues → Option ℤ
+row_of op t = exact op t.a.bits t.b.bits t.c.bits t.a.fraction t.b.fraction t.c.fraction
+
+-- with the rounding that a line names, if it names one
+abbrev pub row_by : Option Rounding → Op → OperandValues → Option ℤ
+row_by rounding op t = exact_by rounding op t.a.bits t.b.bits t.c.bits t.a.fraction t.b.fraction t.c.fraction
+
+-- ---- causes
+unfoldable pub is_unoffered : WordName → ScriptLine → Bool
+is_unoffered word (SetTo dest k) = false
+is_unoffered word (Apply dest policy op xs rounding) = not (is_offered (is_signed word) policy op)
+
+unfoldable pub is_out_of_range : State → ScriptLine → Bool
+is_out_of_range s line = list_any (λ r. nat_le (length s.registers) r) (registers_of line) || list_any (λ k. not (is_value s.word k)) (literals_of line)
+
+unfoldable pub is_mismatched : State → ScriptLine → Bool
+is_mismatched s line = list_any (λ r. not ((cell_at s.registers r).fraction == (cell_at s.registers (destination line)).fraction)) (tied_registers line)
+
+-- the cause of a row that is undefined, or that a strict policy does not answer
+unfoldable pub row_cause : Bool → ℕ → Policy → Option ℤ → Op → ℕ → Option Cause
+row_cause signed n Checked None op k = None
+row_cause signed n policy None Sqrt k = Some (NegativeRoot k)
+row_cause signed n policy None op k = Some (ZeroDivisor k)
+row_cause signed n Strict (Some x) op k = if fits signed n x then None else Some (Overflow k)
+row_cause signed n policy (Some x) op k = None
+
+-- the cause of a line whose first three tests fail
+abbrev pub late_cause : State → ScriptLine → ℕ → Option Cause
+late_cause s (SetTo dest x) k = None
+late_cause s (Apply dest policy op xs rounding) k = row_cause (is_signed s.word) (width s.word) policy (row_by rounding op (operand_values s.registers xs)) op k
+
+-- the first that holds
+abbrev pub cause : State → ScriptLine → ℕ → Option Cause
+cause s line k =
+    if is_unoffered s.word line then Some (Syntax k)
+    else if is_out_of_range s line then Some (OutOfRange k)
+    else if is_mismatched s line then Some (FractionMismatch k)
+    else late_cause s line k
+
+-- ---- moves
+unfoldable pub answer : State → ScriptLine → Answer
+answer s (SetTo dest k) = Bits k
+answer s (Apply dest policy op xs rounding) = project policy (is_signed s.word) (width s.word) (row_by rounding op (operand_values s.registers xs))
+
+abbrev pub stored : List Cell → ℕ → Answer → List Cell
+stored cells dest Absent = cells
+stored cells dest (Bits x) = set cells dest (record { bits = x; fraction = (cell_at cells dest).fraction })
+stored cells dest (Flagged x verdict) = set cells dest (record { bits = x; fraction = (cell_at cells dest).fraction })
+
+abbrev pub move : State → ScriptLine → State
+move s line = record { word = s.word; registers = stored s.registers (destination line) (answer s line) }

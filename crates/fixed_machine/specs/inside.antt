@@ -1,0 +1,8 @@
+-- What private functions alone cite.
+pub mod Buffers
+pub mod Moves
+pub mod Quick
+pub mod QuickSteps
+pub mod Stepping
+pub mod Groups
+pub mod Signed

@@ -1,0 +1,158 @@
+//! The text of an answer, put at the end of a buffer with room.
+
+ghost use Rattle.std.specs.Prelude.{◌≡◌, ◌+◌, ◌++◌, ◌≤◌, pos, drop, length, take, vec_len};
+ghost use Rattle.std.specs.Vec.{vec_capacity};
+ghost use Rattle.fixed_word.specs.Decimal.{natural_text, whole_text};
+ghost use Rattle.fixed_machine.specs.Answers.{answer_text};
+ghost use Rattle.fixed_machine.specs.inside.Signed.{signed_text};
+
+use fixed_text::{decimal_before, push_all, push_whole};
+
+/// The answer of a line: no value, the destination's bits, or its bits with the verdict of the
+/// overflowing policy, which is true where the number does not fit.
+#[derive(Clone, Copy, Debug, PartialEq, Eq)]
+pub enum Answer {
+    Absent,
+    Bits(i128),
+    Flagged(i128, bool),
+}
+
+/// How many bytes are written for an answer at once; what is past its text is taken off again.
+pub(crate) const SPARE: usize = 32;
+
+/// Where the digits of a number end in its text.
+const DIGITS_END: usize = 24;
+
+/// The sign and the magnitude of a number.
+#[inline(always)]
+fn sign_and_magnitude(n: i128) -> (bool, u128)
+    ensures { whole_text n ≡ signed_text result.0 result.1 }
+{
+    if n < 0 {
+        (true, n.unsigned_abs())
+    } else {
+        (false, n as u128)
+    }
+}
+
+/// Puts a number before what follows it, and answers where it begins.
+#[inline(always)]
+fn put_signed(below_zero: bool, magnitude: u64, text: &mut [u8; 56]) -> usize
+    ensures start { result + length (signed_text below_zero magnitude) ≡ 24 }
+    ensures length { length (signed_text below_zero magnitude) ≤ 21 }
+    ensures text { drop result text.new ≡ signed_text below_zero magnitude ++ drop 24 text.old }
+{
+    let start = decimal_before(magnitude, text, DIGITS_END);
+    if below_zero {
+        let at = start - 1;
+        text[at] = b'-';
+        at
+    } else {
+        start
+    }
+}
+
+/// Adds the front of a text: all of it is copied, and the rest taken off.
+#[inline(always)]
+fn push_front(out: &mut Vec<u8>, text: &[u8], count: usize)
+    requires count { count ≤ length text.now }
+    requires room { vec_len out.old + length text.now ≤ vec_capacity out.old }
+    ensures items { out.new.items ≡ out.old.items ++ take count text.now }
+    ensures len { vec_len out.new ≡ vec_len out.old + count }
+    ensures capacity { vec_capacity out.old ≤ vec_capacity out.new }
+{
+    let end = out.len() + count;
+    push_all(out, text);
+    out.truncate(end);
+}
+
+/// Puts what follows a number at its place.
+#[inline(always)]
+fn put_tail(tail: &[u8; 8], text: &mut [u8; 56])
+    ensures { drop 24 text.new ≡ tail.now ++ drop 32 text.old }
+{
+    text[DIGITS_END..DIGITS_END + 8].copy_from_slice(tail);
+}
+
+/// Adds a number of 64 bits and a sign, and so many bytes of what stands behind it in its text.
+#[inline(always)]
+fn push_before(
+    out: &mut Vec<u8>,
+    text: &mut [u8; 56],
+    below_zero: bool,
+    magnitude: u64,
+    count: usize,
+)
+    requires count { count ≤ 8 }
+    requires room { vec_len out.old + 32 ≤ vec_capacity out.old }
+    ensures items { out.new.items ≡ out.old.items
+        ++ (signed_text below_zero magnitude ++ take count (drop 24 text.old)) }
+    ensures len { vec_len out.new
+        ≡ vec_len out.old + (length (signed_text below_zero magnitude) + count) }
+    ensures capacity { vec_capacity out.old ≤ vec_capacity out.new }
+{
+    let start = put_signed(below_zero, magnitude, text);
+    push_front(out, &text[start..start + SPARE], DIGITS_END - start + count);
+}
+
+/// Adds a number of 64 bits and a sign, and so many bytes of what follows it.
+#[inline(always)]
+fn push_number(
+    out: &mut Vec<u8>,
+    text: &mut [u8; 56],
+    below_zero: bool,
+    magnitude: u64,
+    tail: &[u8; 8],
+    count: usize,
+)
+    requires count { count ≤ 8 }
+    requires room { vec_len out.old + 32 ≤ vec_capacity out.old }
+    ensures items { out.new.items ≡ out.old.items
+        ++ (signed_text below_zero magnitude ++ take count tail.now) }
+    ensures len { vec_len out.new
+        ≡ vec_len out.old + (length (signed_text below_zero magnitude) + count) }
+    ensures capacity { vec_capacity out.old ≤ vec_capacity out.new }
+{
+    put_tail(tail, text);
+    push_before(out, text, below_zero, magnitude, count);
+}
+
+/// Adds a number and so many bytes of what follows it.
+#[inline(always)]
+fn push_with(out: &mut Vec<u8>, text: &mut [u8; 56], n: i128, tail: &[u8; 8], count: usize)
+    requires count { count ≤ 8 }
+    requires room { vec_len out.old + (length (whole_text n) + count) ≤ vec_capacity out.old }
+    requires spare { vec_len out.old + 32 ≤ vec_capacity out.old }
+    ensures items { out.new.items ≡ out.old.items ++ (whole_text n ++ take count tail.now) }
+    ensures len { vec_len out.new ≡ vec_len out.old + (length (whole_text n) + count) }
+    ensures capacity { vec_capacity out.old ≤ vec_capacity out.new }
+{
+    let (below_zero, magnitude) = sign_and_magnitude(n);
+    if magnitude < 1 << 64 {
+        push_number(out, text, below_zero, magnitude as u64, tail, count);
+    } else {
+        push_whole(out, n);
+        push_all(out, &tail[..count]);
+    }
+}
+
+/// Adds the text of an answer. Its number is written in room that is lent.
+#[inline(always)]
+pub(crate) fn push_answer(out: &mut Vec<u8>, text: &mut [u8; 56], answer: Answer)
+    requires { vec_len out.old + length (answer_text answer) + 32 ≤ vec_capacity out.old }
+    ensures items { out.new.items ≡ out.old.items ++ answer_text answer }
+    ensures len { vec_len out.new ≡ vec_len out.old + length (answer_text answer) }
+    ensures capacity { vec_capacity out.old ≤ vec_capacity out.new }
+{
+    match answer {
+        Answer::Absent => push_all(out, b"none\n"),
+        Answer::Bits(n) => push_with(out, text, n, b"\n.......", 1),
+        Answer::Flagged(n, verdict) => {
+            if verdict {
+                push_with(out, text, n, b" true\n..", 6);
+            } else {
+                push_with(out, text, n, b" false\n.", 7);
+            }
+        }
+    }
+}

@@ -1,0 +1,84 @@
+//! A buffer whose room is asked for once, so that adding to it takes no memory.
+
+ghost use Rattle.std.specs.Prelude.{◌≡◌, ◌+◌, ◌++◌, ◌≤◌, [], length, IfOk};
+ghost use Rattle.fixed_machine.specs.inside.Buffers.{Buffered};
+ghost use Rattle.fixed_machine.specs.Answers.{answer_text};
+
+use crate::answer::{Answer, SPARE, push_answer};
+use std::alloc::{AllocError, Global};
+use std::marker::Model;
+
+/// Bytes, with room for a fixed number of them, and spare room behind it; and room in which the number of an
+/// answer is written.
+#[derive(Drop)]
+pub(crate) struct Buffer {
+    held: Vec<u8>,
+    most: usize,
+    text: [u8; 56],
+}
+
+impl Model for Buffer {
+    ghost use Rattle.std.specs.Prelude.{◌+◌, ◌≤◌};
+    ghost use Rattle.std.specs.Vec.{vec_capacity};
+    ghost use Rattle.fixed_machine.specs.inside.Buffers.{Buffered};
+
+    ghost Value = { Buffered };
+
+    ghost view = { λ b. record { bytes = b.held.items; room = b.most } };
+
+    ghost invariant = { λ b. b.most + 32 ≤ vec_capacity b.held };
+}
+
+impl Buffer {
+    /// Empty, with room for so many bytes.
+    pub(crate) fn with_room(alloc: Global, room: usize) -> Result<Self, AllocError>
+        ensures { IfOk result (λ b. b ≡ record { bytes = []; room = room }) }
+    {
+        match room.checked_add(SPARE) {
+            Some(total) => Ok(Buffer {
+                held: Vec::with_capacity(alloc, total)?,
+                most: room,
+                text: [0; 56],
+            }),
+            None => Err(AllocError),
+        }
+    }
+
+    /// For how many bytes there is room.
+    pub(crate) fn room(&self) -> usize
+        ensures { result ≡ self.now.room }
+    {
+        self.most
+    }
+
+    /// The bytes.
+    pub(crate) fn bytes(&self) -> &[u8]
+        ensures { result.now ≡ self.now.bytes }
+    {
+        self.held.as_slice()
+    }
+
+    /// Turns the buffer into its bytes.
+    pub(crate) fn into_bytes(self) -> Vec<u8>
+        ensures { result.items ≡ self.bytes }
+    {
+        self.held
+    }
+
+    /// Takes all bytes out; the room stays.
+    pub(crate) fn reset(&mut self)
+        ensures { self.new ≡ record { bytes = []; room = self.old.room } }
+    {
+        self.held.clear();
+    }
+
+    /// Adds the text of an answer, for which there is room.
+    #[inline(always)]
+    pub(crate) fn push_text(&mut self, answer: Answer)
+        requires { length self.old.bytes + length (answer_text answer) ≤ self.old.room }
+        ensures { self.new
+            ≡ record { bytes = self.old.bytes ++ answer_text answer; room = self.old.room } }
+    {
+        push_answer(&mut self.held, &mut self.text, answer);
+    }
+}

@@ -1,0 +1,152 @@
+//! What a policy makes of a row.
+
+ghost use Rattle.std.specs.Prelude.{◌≡◌, ◌≤◌, ◌<◌, ◌^◌, ℕ, ℤ, Bool, Option, Some, None, true, false, unsigned_abs, IsTrue};
+ghost use Rattle.fixed_script.specs.declared.names.Op.{Op as Operation};
+ghost use Rattle.fixed_word.specs.Format.{fits};
+ghost use Rattle.fixed_word.specs.Standing.{StandsFor};
+ghost use Rattle.fixed_machine.specs.Offered.{is_offered};
+ghost use Rattle.fixed_machine.specs.Machine.{row_by};
+ghost use Rattle.fixed_text.specs.Words.{is_signed, width};
+ghost use Rattle.fixed_machine.specs.Step.{FitsFormat, IsCell, cell_of};
+ghost use Rattle.fixed_machine.specs.inside.Stepping.{IsAnswerOfRow, values_of};
+
+use crate::answer::Answer;
+use crate::cause::Cause;
+use crate::register::{OperandRegisters, Register, with_sign};
+use crate::rows::{Operand, outcome_by};
+use fixed_script::{Op, Policy};
+use fixed_text::WordName;
+use fixed_word::{
+    Outcome, RawWord, Rounding, Side, Word, checked_of, overflowing_of, saturating_of, strict_of,
+    wrapping_of,
+};
+
+/// The number of a word.
+#[inline(always)]
+fn number_of<T: RawWord>(word: T) -> i128
+    ensures { result ≡ T.value word }
+{
+    let magnitude = word.magnitude() as i128;
+    if word.is_below_zero() {
+        -magnitude
+    } else {
+        magnitude
+    }
+}
+
+/// The word of a register.
+#[inline(always)]
+fn word_held<T: Word>(register: Register) -> T
+    requires { IsTrue (fits T.SIGNED T.BITS (cell_of register).bits) }
+    ensures { T.value result ≡ (cell_of register).bits }
+{
+    T::residue(register.below_zero, register.magnitude as u128)
+}
+
+/// The operand that a register holds.
+#[inline(always)]
+fn operand_of<T: Word>(register: Register) -> Operand<T>
+    requires { IsTrue (fits T.SIGNED T.BITS (cell_of register).bits) }
+    ensures bits { T.value result.bits ≡ (cell_of register).bits }
+    ensures fraction { result.fraction ≡ (cell_of register).fraction }
+{
+    Operand {
+        bits: word_held(register),
+        fraction: register.fraction,
+    }
+}
+
+/// What the policy makes of the number that an outcome stands for.
+#[tactic(auto, unfolding(crate::specs::Machine::row_cause))]
+#[inline(always)]
+fn answered<T: Word>(policy: Policy, outcome: Outcome<T>, number: u64) -> Result<Answer, Cause>
+    ensures { (x : ℤ) (op : Operation) → StandsFor T.value T.SIGNED T.BITS x outcome
+        → IsAnswerOfRow T.SIGNED T.BITS policy op (Some x) number result }
+{
+    match policy {
+        Policy::Checked => match checked_of(outcome) {
+            Some(word) => Ok(Answer::Bits(number_of(word))),
+            None => Ok(Answer::Absent),
+        },
+        Policy::Saturating => Ok(Answer::Bits(number_of(saturating_of(outcome)))),
+        Policy::Wrapping => Ok(Answer::Bits(number_of(wrapping_of(outcome)))),
+        Policy::Overflowing => {
+            let (word, verdict) = overflowing_of(outcome);
+            Ok(Answer::Flagged(number_of(word), verdict))
+        }
+        Policy::Strict => match outcome.side {
+            Side::Fits => Ok(Answer::Bits(number_of(strict_of(outcome)))),
+            Side::Above | Side::Below => Err(Cause::Overflow(number)),
+        },
+    }
+}
+
+/// What the policy makes of a row that is undefined.
+#[tactic(auto, unfolding(crate::specs::Machine::row_cause))]
+#[inline(always)]
+fn unanswered(policy: Policy, op: Op, number: u64) -> Result<Answer, Cause>
+    ensures { (signed : Bool) (n : ℕ) (row : Option ℤ) → row ≡ None
+        → IsAnswerOfRow signed n policy op row number result }
+{
+    if policy == Policy::Checked {
+        Ok(Answer::Absent)
+    } else if op == Op::Sqrt {
+        Err(Cause::NegativeRoot(number))
+    } else {
+        Err(Cause::ZeroDivisor(number))
+    }
+}
+
+/// The answer of an operation on registers of a word, or its cause.
+#[inline(always)]
+#[tactic(auto, unfolding(crate::specs::Machine::row_cause))]
+pub(crate) fn answer_as<T: Word>(
+    policy: Policy,
+    op: Op,
+    rounding: Option<Rounding>,
+    taken: &OperandRegisters,
+    number: u64,
+) -> Result<Answer, Cause>
+    requires offered { is_offered T.SIGNED policy op ≡ true }
+    requires a { FitsFormat T.SIGNED T.BITS (cell_of taken.now.a) }
+    requires b { FitsFormat T.SIGNED T.BITS (cell_of taken.now.b) }
+    requires c { FitsFormat T.SIGNED T.BITS (cell_of taken.now.c) }
+    ensures { IsAnswerOfRow T.SIGNED T.BITS policy op (row_by rounding op (values_of taken.now)) number result }
+{
+    let a = operand_of::<T>(taken.a);
+    let b = operand_of::<T>(taken.b);
+    let c = operand_of::<T>(taken.c);
+    match outcome_by(rounding, policy, op, a, b, c) {
+        None => unanswered(policy, op, number),
+        Some(outcome) => answered(policy, outcome, number),
+    }
+}
+
+/// The same in the word of a name.
+#[inline(never)]
+pub(crate) fn answer_in_word(
+    word: WordName,
+    policy: Policy,
+    op: Op,
+    rounding: Option<Rounding>,
+    taken: &OperandRegisters,
+    number: u64,
+) -> Result<Answer, Cause>
+    requires offered { is_offered (is_signed word) policy op ≡ true }
+    requires a { IsCell word (cell_of taken.now.a) }
+    requires b { IsCell word (cell_of taken.now.b) }
+    requires c { IsCell word (cell_of taken.now.c) }
+    ensures { IsAnswerOfRow (is_signed word)
+        (width word) policy op (row_by rounding op (values_of taken.now)) number result }
+{
+    match word {
+        WordName::I8 => answer_as::<i8>(policy, op, rounding, taken, number),
+        WordName::I16 => answer_as::<i16>(policy, op, rounding, taken, number),
+        WordName::I32 => answer_as::<i32>(policy, op, rounding, taken, number),
+        WordName::I64 => answer_as::<i64>(policy, op, rounding, taken, number),
+        WordName::U8 => answer_as::<u8>(policy, op, rounding, taken, number),
+        WordName::U16 => answer_as::<u16>(policy, op, rounding, taken, number),
+        WordName::U32 => answer_as::<u32>(policy, op, rounding, taken, number),
+        WordName::U64 => answer_as::<u64>(policy, op, rounding, taken, number),
+    }
+}

@@ -1,0 +1,212 @@
+//! A quick reading of a line of the common form, in one pass over the bytes from its start on. It
+//! answers only where registers have one or two digits and numbers at most nineteen, and where at
+//! least as many bytes are left as the longest such line may have. Any other line is left to the
+//! general reading.
+
+ghost use Rattle.std.specs.Prelude.{◌≡◌, ◌≤◌, ◌<◌, ◌+◌, drop, take, length, true, IfSome};
+ghost use Rattle.std.specs.List.{list_all};
+ghost use Rattle.std.specs.Char.{is_ascii_digit};
+ghost use Rattle.std.specs.Str.Parse.{digits_value};
+ghost use Rattle.fixed_word.specs.Decimal.{natural_text, whole_text};
+ghost use Rattle.fixed_word.specs.Format.{with_sign};
+ghost use Rattle.fixed_script.specs.Text.{register_text};
+ghost use Rattle.fixed_machine.specs.inside.Quick.{Stands, HasOperands, IsQuickLine};
+
+use crate::quick_names::{is_text, op_at, policy_at};
+use fixed_script::{Op, Policy, Shape, shape_of};
+
+/// The longest line that is read quickly, newline included; so many bytes have to be left.
+pub(crate) const LONGEST: usize = 64;
+
+/// A policy and an operation.
+#[derive(Clone, Copy)]
+pub(crate) struct Applied {
+    pub policy: Policy,
+    pub op: Op,
+}
+
+/// A line that was read quickly. Of registers that its operation does not take, it names its first
+/// one again; of a number that it does not take, it says 0.
+#[derive(Clone, Copy)]
+pub(crate) struct QuickLine {
+    /// None of a line that sets a register.
+    pub applied: Option<Applied>,
+    pub dest: usize,
+    pub a: usize,
+    pub b: usize,
+    pub c: usize,
+    pub below_zero: bool,
+    pub magnitude: u64,
+}
+
+/// The register of two digits that stands at a place.
+#[inline(always)]
+fn long_register_before(bytes: &[u8], at: usize, separator: u8, count: u8) -> Option<(usize, usize)>
+    requires { at + 4 ≤ length bytes.now }
+    ensures { IfSome result (λ found. (found.0 < count)
+        × Stands bytes.now at (register_text found.0) separator 4 found.1) }
+{
+    let (tens, ones) = (bytes[at + 1], bytes[at + 2]);
+    if bytes[at] != b'r' || bytes[at + 3] != separator {
+        return None;
+    }
+    if !tens.is_ascii_digit() || tens == b'0' || !ones.is_ascii_digit() {
+        return None;
+    }
+    let number = (tens - b'0') * 10 + (ones - b'0');
+    if number < count {
+        Some((usize::from(number), at + 4))
+    } else {
+        None
+    }
+}
+
+/// The register of one or two digits that stands at a place, if it is one of the first so many and
+/// the separator stands behind it, and where what comes after that begins.
+#[inline(always)]
+fn register_before(bytes: &[u8], at: usize, separator: u8, count: u8) -> Option<(usize, usize)>
+    requires { at + 4 ≤ length bytes.now }
+    ensures { IfSome result (λ found. (found.0 < count)
+        × Stands bytes.now at (register_text found.0) separator 4 found.1) }
+{
+    if bytes[at + 2] != separator {
+        return long_register_before(bytes, at, separator, count);
+    }
+    let number = bytes[at + 1].wrapping_sub(b'0');
+    if bytes[at] == b'r' && number < count.min(10) {
+        Some((usize::from(number), at + 3))
+    } else {
+        None
+    }
+}
+
+/// The digits that stand at a place, at most nineteen, as a number, and how many they are.
+#[inline(always)]
+fn digits_at(bytes: &[u8], at: usize) -> (u64, usize)
+    requires { at + 19 ≤ length bytes.now }
+    ensures most { result.1 ≤ 19 }
+    ensures digits { list_all is_ascii_digit (take result.1 (drop at bytes.now)) ≡ true }
+    ensures value { result.0 ≡ digits_value 10 (take result.1 (drop at bytes.now)) }
+{
+    // A slice of that length, so that no index in the loop is tested.
+    let digits = &bytes[at..at + 19];
+    let mut value = 0;
+    let mut count = 0;
+    while count < 19 && digits[count].is_ascii_digit() {
+        value = value * 10 + u64::from(digits[count] - b'0');
+        count += 1;
+    }
+    (value, count)
+}
+
+/// The natural number of at most nineteen digits that stands at a place before a newline, and where
+/// the next line begins.
+#[inline(always)]
+fn natural_at(bytes: &[u8], at: usize) -> Option<(u64, usize)>
+    requires { at + 20 ≤ length bytes.now }
+    ensures { IfSome result (λ found. Stands bytes.now at (natural_text found.0) 10 20 found.1) }
+{
+    let (value, count) = digits_at(bytes, at);
+    if count == 0 || bytes[at + count] != b'\n' || (count > 1 && bytes[at] == b'0') {
+        return None;
+    }
+    Some((value, at + count + 1))
+}
+
+/// The same of a whole number: whether it is below 0, and its magnitude. No minus stands before 0.
+#[inline(always)]
+fn literal_at(bytes: &[u8], at: usize) -> Option<(bool, u64, usize)>
+    requires { at + 21 ≤ length bytes.now }
+    ensures { IfSome result
+        (λ found. Stands bytes.now at (whole_text (with_sign found.0 found.1)) 10 21 found.2) }
+{
+    let below_zero = bytes[at] == b'-';
+    let start = if below_zero { at + 1 } else { at };
+    let (magnitude, end) = natural_at(bytes, start)?;
+    if below_zero && magnitude == 0 {
+        return None;
+    }
+    Some((below_zero, magnitude, end))
+}
+
+/// The line with the operands that stand at a place, and where the next line begins.
+#[inline(always)]
+fn operands_at(
+    bytes: &[u8],
+    at: usize,
+    count: u8,
+    kind: Shape,
+    line: QuickLine,
+) -> Option<(QuickLine, usize)>
+    requires room { at + 25 ≤ length bytes.now }
+    requires dest { line.dest < count }
+    requires spare { line.a ≡ line.dest × line.b ≡ line.dest × line.c ≡ line.dest }
+    ensures { IfSome result (λ found. HasOperands kind count bytes.now at line found.0 found.1) }
+{
+    match kind {
+        Shape::Unary => {
+            let (a, end) = register_before(bytes, at, b'\n', count)?;
+            Some((QuickLine { a, ..line }, end))
+        }
+        Shape::Binary => {
+            let (a, at) = register_before(bytes, at, b' ', count)?;
+            let (b, end) = register_before(bytes, at, b'\n', count)?;
+            Some((QuickLine { a, b, ..line }, end))
+        }
+        Shape::ByInteger => {
+            let (a, at) = register_before(bytes, at, b' ', count)?;
+            let (below_zero, magnitude, end) = literal_at(bytes, at)?;
+            let line = QuickLine {
+                a,
+                below_zero,
+                magnitude,
+                ..line
+            };
+            Some((line, end))
+        }
+        Shape::Ternary => {
+            let (a, at) = register_before(bytes, at, b' ', count)?;
+            let (b, at) = register_before(bytes, at, b' ', count)?;
+            let (c, end) = register_before(bytes, at, b'\n', count)?;
+            Some((QuickLine { a, b, c, ..line }, end))
+        }
+    }
+}
+
+/// The line in front, and where the next one begins.
+#[inline(always)]
+pub(crate) fn quick_line(bytes: &[u8], count: u8) -> Option<(QuickLine, usize)>
+    requires room { 64 ≤ length bytes.now }
+    requires count { count ≤ 100 }
+    ensures { IfSome result (λ found. IsQuickLine count bytes.now found.0 found.1) }
+{
+    let (dest, at) = register_before(bytes, 0, b' ', count)?;
+    let line = QuickLine {
+        applied: None,
+        dest,
+        a: dest,
+        b: dest,
+        c: dest,
+        below_zero: false,
+        magnitude: 0,
+    };
+    if is_text(bytes, at, b"set ") {
+        let (below_zero, magnitude, end) = literal_at(bytes, at + 4)?;
+        let line = QuickLine {
+            below_zero,
+            magnitude,
+            ..line
+        };
+        return Some((line, end));
+    }
+    let (policy, at) = policy_at(bytes, at)?;
+    let (op, at) = op_at(bytes, at)?;
+    let applied = Some(Applied { policy, op });
+    operands_at(
+        bytes,
+        at,
+        count,
+        shape_of(op),
+        QuickLine { applied, ..line },
+    )
+}

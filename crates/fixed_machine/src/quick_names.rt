@@ -1,0 +1,156 @@
+//! The names of policies and operations, read quickly: four or eight of their bytes are compared at once.
+
+ghost use Rattle.std.specs.Prelude.{◌≡◌, ◌≤◌, ◌+◌, ◌++◌, drop, length, take, true, IfSome};
+ghost use Rattle.fixed_script.specs.Names.{policy_name, op_name};
+ghost use Rattle.fixed_machine.specs.inside.Quick.{Stands};
+
+use fixed_script::{Op, Policy};
+
+/// Whether four bytes of a text, from a place of it on, stand at the same place behind `at`. They are compared as one
+/// number.
+#[inline]
+fn is_four(bytes: &[u8], at: usize, text: &[u8], from: usize) -> bool
+    requires bytes { at + from + 4 ≤ length bytes.now }
+    requires text { from + 4 ≤ length text.now }
+    ensures { result ≡ true → take 4 (drop from (drop at bytes.now)) ≡ take 4 (drop from text.now) }
+{
+    let mut found = [0; 4];
+    let mut wanted = [0; 4];
+    found.copy_from_slice(&bytes[at + from..at + from + 4]);
+    wanted.copy_from_slice(&text[from..from + 4]);
+    u32::from_le_bytes(found) == u32::from_le_bytes(wanted)
+}
+
+/// The same of eight bytes.
+#[inline]
+fn is_eight(bytes: &[u8], at: usize, text: &[u8], from: usize) -> bool
+    requires bytes { at + from + 8 ≤ length bytes.now }
+    requires text { from + 8 ≤ length text.now }
+    ensures { result ≡ true → take 8 (drop from (drop at bytes.now)) ≡ take 8 (drop from text.now) }
+{
+    let mut found = [0; 8];
+    let mut wanted = [0; 8];
+    found.copy_from_slice(&bytes[at + from..at + from + 8]);
+    wanted.copy_from_slice(&text[from..from + 8]);
+    u64::from_le_bytes(found) == u64::from_le_bytes(wanted)
+}
+
+/// Whether a text of 4 to 24 bytes stands at a place. Four or eight bytes are compared at once.
+#[inline]
+pub(crate) fn is_text<const N: usize>(bytes: &[u8], at: usize, text: &[u8; N]) -> bool
+    requires least { 4 ≤ N }
+    requires most { N ≤ 24 }
+    requires within { at + N ≤ length bytes.now }
+    ensures { result ≡ true → drop at bytes.now ≡ text.now ++ drop (at + N) bytes.now }
+{
+    if N < 8 {
+        is_four(bytes, at, text, 0) && is_four(bytes, at, text, N - 4)
+    } else if N <= 16 {
+        is_eight(bytes, at, text, 0) && is_eight(bytes, at, text, N - 8)
+    } else {
+        is_eight(bytes, at, text, 0)
+            && is_eight(bytes, at, text, 8)
+            && is_eight(bytes, at, text, N - 8)
+    }
+}
+
+/// The policy that stands at a place, and where what comes after its space begins.
+#[inline(always)]
+pub(crate) fn policy_at(bytes: &[u8], at: usize) -> Option<(Policy, usize)>
+    requires { at + 12 ≤ length bytes.now }
+    ensures { IfSome result
+        (λ found. Stands bytes.now at (policy_name found.0) 32 12 found.1) }
+{
+    if is_text(bytes, at, b"checked ") {
+        Some((Policy::Checked, at + 8))
+    } else if is_text(bytes, at, b"wrapping ") {
+        Some((Policy::Wrapping, at + 9))
+    } else if is_text(bytes, at, b"overflowing ") {
+        Some((Policy::Overflowing, at + 12))
+    } else if is_text(bytes, at, b"saturating ") {
+        Some((Policy::Saturating, at + 11))
+    } else if is_text(bytes, at, b"strict ") {
+        Some((Policy::Strict, at + 7))
+    } else {
+        None
+    }
+}
+
+/// The operation that stands at a place, if its name has three letters.
+#[inline(always)]
+fn short_op_at(bytes: &[u8], at: usize) -> Option<(Op, usize)>
+    requires { at + 18 ≤ length bytes.now }
+    ensures { IfSome result (λ found. Stands bytes.now at (op_name found.0) 32 18 found.1) }
+{
+    if is_text(bytes, at, b"neg ") {
+        Some((Op::Neg, at + 4))
+    } else if is_text(bytes, at, b"add ") {
+        Some((Op::Add, at + 4))
+    } else if is_text(bytes, at, b"sub ") {
+        Some((Op::Sub, at + 4))
+    } else if is_text(bytes, at, b"mul ") {
+        Some((Op::Mul, at + 4))
+    } else if is_text(bytes, at, b"div ") {
+        Some((Op::Div, at + 4))
+    } else if is_text(bytes, at, b"abs ") {
+        Some((Op::Abs, at + 4))
+    } else if is_text(bytes, at, b"rem ") {
+        Some((Op::Rem, at + 4))
+    } else {
+        None
+    }
+}
+
+/// The same, if its name has more.
+#[inline(always)]
+fn long_op_at(bytes: &[u8], at: usize) -> Option<(Op, usize)>
+    requires { at + 18 ≤ length bytes.now }
+    ensures { IfSome result (λ found. Stands bytes.now at (op_name found.0) 32 18 found.1) }
+{
+    if is_text(bytes, at, b"sqrt ") {
+        Some((Op::Sqrt, at + 5))
+    } else if is_text(bytes, at, b"dist ") {
+        Some((Op::Dist, at + 5))
+    } else if is_text(bytes, at, b"recip ") {
+        Some((Op::Recip, at + 6))
+    } else if is_text(bytes, at, b"signum ") {
+        Some((Op::Signum, at + 7))
+    } else if is_text(bytes, at, b"mul_add ") {
+        Some((Op::MulAdd, at + 8))
+    } else if is_text(bytes, at, b"add_prod ") {
+        Some((Op::AddProd, at + 9))
+    } else if is_text(bytes, at, b"mul_int ") {
+        Some((Op::MulInt, at + 8))
+    } else if is_text(bytes, at, b"div_int ") {
+        Some((Op::DivInt, at + 8))
+    } else if is_text(bytes, at, b"rem_int ") {
+        Some((Op::RemInt, at + 8))
+    } else if is_text(bytes, at, b"div_euclid ") {
+        Some((Op::DivEuclid, at + 11))
+    } else if is_text(bytes, at, b"rem_euclid ") {
+        Some((Op::RemEuclid, at + 11))
+    } else if is_text(bytes, at, b"div_euclid_int ") {
+        Some((Op::DivEuclidInt, at + 15))
+    } else if is_text(bytes, at, b"rem_euclid_int ") {
+        Some((Op::RemEuclidInt, at + 15))
+    } else if is_text(bytes, at, b"next_multiple_of ") {
+        Some((Op::NextMultipleOf, at + 17))
+    } else if is_text(bytes, at, b"next_power_of_two ") {
+        Some((Op::NextPowerOfTwo, at + 18))
+    } else {
+        None
+    }
+}
+
+/// The operation that stands at a place, and where what comes after its space begins.
+#[inline(always)]
+pub(crate) fn op_at(bytes: &[u8], at: usize) -> Option<(Op, usize)>
+    requires { at + 18 ≤ length bytes.now }
+    ensures { IfSome result (λ found. Stands bytes.now at (op_name found.0) 32 18 found.1) }
+{
+    if bytes[at + 3] == b' ' {
+        short_op_at(bytes, at)
+    } else {
+        long_op_at(bytes, at)
+    }
+}

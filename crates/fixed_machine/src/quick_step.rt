@@ -1,0 +1,183 @@
+//! A line that was read quickly, over the registers. It answers only where the line has no cause; for any
+//! other the general step follows, which names the cause.
+
+ghost use Rattle.std.specs.Prelude.{◌≡◌, ◌<◌, ◌≤◌, length, Some, None, Ok, IfSome, true, false};
+ghost use Rattle.std.specs.List.{All};
+ghost use Rattle.fixed_script.specs.Text.{shape, Apply};
+ghost use Rattle.fixed_text.specs.Words.{is_signed as signed, width as width_in};
+ghost use Rattle.fixed_machine.specs.Machine.{cell_at as cell_in, is_mismatched as mismatched, is_value};
+ghost use Rattle.fixed_machine.specs.Step.{IsCell, IsStepOfLine, cell_of, cells_of, state_in};
+ghost use Rattle.fixed_machine.specs.inside.Quick.{quick_number, quick_operands, script_line_of_quick};
+ghost use Rattle.fixed_machine.specs.inside.QuickSteps.{IsSecond};
+ghost use Rattle.fixed_machine.specs.inside.Stepping.{IsAnswerOfLine};
+
+use crate::answer::Answer;
+use crate::projected::answer_as;
+use crate::quick::{Applied, QuickLine};
+use crate::register::{OperandRegisters, Register, with_sign};
+use crate::stepping::{is_literal, is_offered, store};
+use fixed_script::{Literal, Op, Shape, shape_of};
+use fixed_text::WordName;
+use fixed_word::Word;
+
+/// Whether the number of the line is a value of the word.
+#[inline(always)]
+fn is_number(word: WordName, line: QuickLine) -> bool
+    ensures { result ≡ is_value word (quick_number line) }
+{
+    let literal = Literal {
+        below_zero: line.below_zero,
+        magnitude: u128::from(line.magnitude),
+    };
+    is_literal(word, literal)
+}
+
+/// Whether the operands have the fractions that the operation asks for.
+#[inline(always)]
+#[tactic(auto, unfolding(crate::specs::Machine::is_mismatched))]
+fn is_matched(word: WordName, registers: &[Register], line: QuickLine, applied: Applied) -> bool
+    requires dest { line.dest < length registers.now }
+    requires a { line.a < length registers.now }
+    requires b { line.b < length registers.now }
+    requires c { line.c < length registers.now }
+    ensures { result ≡ true → mismatched (state_in word (cells_of registers.now))
+        (Apply line.dest applied.policy applied.op (quick_operands (shape applied.op) line) None) ≡ false }
+{
+    let fraction = registers[line.dest].fraction;
+    registers[line.a].fraction == fraction
+        && match applied.op {
+            Op::AddProd => true,
+            Op::MulAdd => registers[line.c].fraction == fraction,
+            _ => registers[line.b].fraction == fraction,
+        }
+}
+
+/// The second operand: a register, or the number of the line, if it is a value of the word.
+#[inline(always)]
+fn second_of(word: WordName, registers: &[Register], line: QuickLine, op: Op) -> Option<Register>
+    requires b { line.b < length registers.now }
+    ensures { IfSome result
+        (λ second. IsSecond word (cells_of registers.now) line (shape op) (cell_of second)) }
+{
+    match shape_of(op) {
+        Shape::ByInteger => {
+            if is_number(word, line) {
+                Some(Register {
+                    magnitude: line.magnitude,
+                    fraction: 0,
+                    below_zero: line.below_zero,
+                })
+            } else {
+                None
+            }
+        }
+        Shape::Unary | Shape::Binary | Shape::Ternary => Some(registers[line.b]),
+    }
+}
+
+/// The answer of a line that applies an operation; None where it has a cause.
+#[inline(always)]
+fn answer_of_applied<T: Word>(
+    word: WordName,
+    registers: &[Register],
+    line: QuickLine,
+    applied: Applied,
+    number: u64,
+) -> Option<Answer>
+    requires signed { T.SIGNED ≡ signed word }
+    requires bits { T.BITS ≡ width_in word }
+    requires cells { All (IsCell word) (cells_of registers.now) }
+    requires dest { line.dest < length registers.now }
+    requires a { line.a < length registers.now }
+    requires b { line.b < length registers.now }
+    requires c { line.c < length registers.now }
+    ensures { IfSome result (λ answer. IsAnswerOfLine (state_in word (cells_of registers.now))
+        (Apply line.dest applied.policy applied.op (quick_operands (shape applied.op) line) None) number (Ok answer)) }
+{
+    if !is_offered(word, applied.policy, applied.op) {
+        return None;
+    }
+    let b = match second_of(word, registers, line, applied.op) {
+        Some(second) => second,
+        None => return None,
+    };
+    if !is_matched(word, registers, line, applied) {
+        return None;
+    }
+    let taken = OperandRegisters {
+        a: registers[line.a],
+        b,
+        c: registers[line.c],
+    };
+    let Ok(answer) = answer_as::<T>(applied.policy, applied.op, None, &taken, number) else {
+        return None;
+    };
+    Some(answer)
+}
+
+/// The answer of a line; None where it has a cause.
+#[inline(always)]
+fn quick_answer<T: Word>(
+    word: WordName,
+    registers: &[Register],
+    line: QuickLine,
+    number: u64,
+) -> Option<Answer>
+    requires signed { T.SIGNED ≡ signed word }
+    requires bits { T.BITS ≡ width_in word }
+    requires cells { All (IsCell word) (cells_of registers.now) }
+    requires dest { line.dest < length registers.now }
+    requires a { line.a < length registers.now }
+    requires b { line.b < length registers.now }
+    requires c { line.c < length registers.now }
+    ensures { IfSome result (λ answer. IsAnswerOfLine (state_in word (cells_of registers.now))
+        (script_line_of_quick line) number (Ok answer)) }
+{
+    match line.applied {
+        None => {
+            if is_number(word, line) {
+                Some(Answer::Bits(with_sign(line.below_zero, line.magnitude)))
+            } else {
+                None
+            }
+        }
+        Some(applied) => answer_of_applied::<T>(word, registers, line, applied, number),
+    }
+}
+
+/// One line over the registers; None where it has a cause. It asks for the word by its name and its type.
+#[inline(always)]
+pub(crate) fn quick_step<T: Word>(
+    word: WordName,
+    registers: &mut [Register],
+    line: QuickLine,
+    number: u64,
+) -> Option<Answer>
+    requires signed { T.SIGNED ≡ signed word }
+    requires bits { T.BITS ≡ width_in word }
+    requires cells { All (IsCell word) (cells_of registers.old) }
+    requires dest { line.dest < length registers.old }
+    requires a { line.a < length registers.old }
+    requires b { line.b < length registers.old }
+    requires c { line.c < length registers.old }
+    ensures some { IfSome result (λ answer. IsStepOfLine (state_in word (cells_of registers.old))
+        (Some (script_line_of_quick line)) number (Ok answer) (cells_of registers.new)) }
+    ensures none { result ≡ None → cells_of registers.new ≡ cells_of registers.old }
+    ensures kept { All (IsCell word) (cells_of registers.new) }
+{
+    let answer = match quick_answer::<T>(word, registers, line, number) {
+        Some(answer) => answer,
+        None => return None,
+    };
+    match answer {
+        Answer::Absent => Some(answer),
+        Answer::Bits(x) => {
+            store(registers, line.dest as u128, x);
+            Some(answer)
+        }
+        Answer::Flagged(x, _) => {
+            store(registers, line.dest as u128, x);
+            Some(answer)
+        }
+    }
+}

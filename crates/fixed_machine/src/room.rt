@@ -1,0 +1,336 @@
+//! Where a script runs: its registers and its answers, with room that is made once.
+
+ghost use Rattle.std.specs.Prelude.{◌≡◌, ◌≤◌, ◌<◌, ◌*◌, ◌+◌, ◌++◌, [], length, vec_len, vec_capacity, IfOk, IfErr, OnOk, IsSome, IfSome, IsTrue, ◌↔◌, Some, None, Ok, true, false};
+ghost use Rattle.fixed_machine.specs.Answers.{answer_text};
+ghost use Rattle.fixed_text.specs.Words.{is_signed as signed, width as width_in};
+ghost use Rattle.fixed_machine.specs.inside.Quick.{script_line_of_quick};
+ghost use Rattle.fixed_machine.specs.Meaning.{has_wide as is_wide, zeros};
+ghost use Rattle.fixed_script.specs.Capped.{checked_script_line};
+ghost use Rattle.fixed_machine.specs.Rooms.{KeepsTheRest, spaces, spaces_in};
+ghost use Rattle.fixed_machine.specs.Step.{IsStepOfLine, cell_of, cells_of, state_in};
+
+use crate::answer::Answer;
+use crate::buffer::Buffer;
+use crate::cause::Cause;
+use crate::piece::read_and_step;
+use crate::quick::QuickLine;
+use crate::quick_step::quick_step;
+use crate::register::{Register, with_sign};
+use crate::stepping::step_registers;
+use fixed_script::{Header, Line};
+use fixed_text::{WordName, piece_end};
+use fixed_word::Word;
+use std::alloc::{AllocError, Global};
+use std::marker::Model;
+
+fn width(word: WordName) -> u128
+    ensures { result ≡ width_in word }
+{
+    match word {
+        WordName::I8 | WordName::U8 => 8,
+        WordName::I16 | WordName::U16 => 16,
+        WordName::I32 | WordName::U32 => 32,
+        WordName::I64 | WordName::U64 => 64,
+    }
+}
+
+/// Whether a fraction exceeds the width.
+fn has_wide(header: &Header<'_>) -> bool
+    ensures { result ≡ is_wide header.now.word header.now.fractions }
+{
+    let width = width(header.word());
+    let mut fractions = header.fractions();
+    while let Some(fraction) = fractions.next() {
+        if width < fraction {
+            return true;
+        }
+    }
+    false
+}
+
+/// A register of bits 0 for each fraction.
+fn push_fractions(registers: &mut Vec<Register>, header: &Header<'_>)
+    requires room { vec_len registers.old + length header.now.fractions
+        ≤ vec_capacity registers.old }
+    requires narrow { is_wide header.now.word header.now.fractions ≡ false }
+    ensures items { cells_of registers.new.items
+        ≡ cells_of registers.old.items ++ zeros header.now.fractions }
+    ensures capacity { vec_capacity registers.new ≡ vec_capacity registers.old }
+{
+    let mut fractions = header.fractions();
+    while let Some(fraction) = fractions.next() {
+        registers.push_reserved(Register {
+            magnitude: 0,
+            fraction: fraction as u32,
+            below_zero: false,
+        });
+    }
+}
+
+/// Where a script runs: the word of its header, its registers and the bytes of its answers, with room that
+/// was made for it. Contracts see it as a `Space`: what it holds, and for how many
+/// registers and answer bytes there is room.
+#[derive(Drop)]
+pub struct Room {
+    word: Option<WordName>,
+    registers: Vec<Register>,
+    most: usize,
+    answers: Buffer,
+}
+
+impl Model for Room {
+    ghost use Rattle.std.specs.Prelude.{◌≤◌, vec_capacity};
+    ghost use Rattle.fixed_machine.specs.Step.{cells_of};
+    ghost use Rattle.fixed_machine.specs.Rooms.{Space, IsRoom};
+
+    ghost Value = { Space };
+
+    ghost view = { λ r. record { word = r.word; registers = cells_of r.registers.items; answers = r.answers.bytes; register_room = r.most; answer_room = r.answers.room } };
+
+    ghost invariant = { λ r. IsRoom r.word (cells_of r.registers.items) × (r.most ≤ vec_capacity r.registers) };
+}
+
+/// The bytes of all answers, one a line. Contracts see it as a list of bytes.
+#[derive(Drop)]
+pub struct Answers {
+    bytes: Vec<u8>,
+}
+
+impl Model for Answers {
+    ghost use Rattle.std.specs.Prelude.{List, ℕ};
+
+    ghost Value = { List ℕ };
+
+    ghost view = { λ a. a.bytes.items };
+}
+
+impl Answers {
+    /// Answers of these bytes. It takes no memory.
+    pub fn new(bytes: Vec<u8>) -> Answers
+        ensures { result ≡ bytes.items }
+    {
+        Answers { bytes }
+    }
+
+    /// The bytes.
+    pub fn as_bytes(&self) -> &[u8]
+        ensures { result.now ≡ self.now }
+    {
+        &self.bytes
+    }
+
+    /// Turns the answers into their bytes. It takes no memory.
+    pub fn into_bytes(self) -> Vec<u8>
+        ensures { result.items ≡ self }
+    {
+        self.bytes
+    }
+}
+
+impl Room {
+    ghost use Rattle.fixed_script.specs.Lines.{line_of_piece};
+    ghost use Rattle.fixed_script.specs.Capped.{checked_script_line};
+    ghost use Rattle.fixed_machine.specs.Machine.{cell_at};
+    ghost use Rattle.fixed_machine.specs.Rooms.{IsEmptySpace, IsStarted, KeepsTheRest, KeepsRoom, Suffices, spaces};
+    ghost use Rattle.fixed_machine.specs.Step.{IsStepOfLine, state_in};
+
+    /// A room without a header, registers and answers, for as many registers as the script's first piece has
+    /// spaces and for twice the script's length of answer bytes. AllocError says that memory ran out.
+    pub fn for_script(alloc: Global, script: &[u8]) -> Result<Room, AllocError>
+        ensures { IfOk result
+            (λ room. IsEmptySpace (spaces script.now) (2 * length script.now) room) }
+    {
+        let most = spaces_of(script);
+        Ok(Room {
+            word: None,
+            registers: Vec::with_capacity(alloc, most)?,
+            most,
+            answers: Buffer::with_room(alloc, 2 * script.len())?,
+        })
+    }
+
+    /// Whether the room is for at least as many registers and answer bytes as `for_script` makes room for.
+    pub fn suffices(&self, script: &[u8]) -> bool
+        ensures { IsTrue result ↔ Suffices script.now self.now }
+    {
+        spaces_of(script) <= self.most && 2 * script.len() <= self.answers.room()
+    }
+
+    pub(crate) fn clear(&mut self)
+        ensures { IsEmptySpace self.old.register_room self.old.answer_room self.new }
+    {
+        self.word = None;
+        self.registers.clear();
+        self.answers.reset();
+    }
+
+    /// Declares the registers of a header, with bits 0, and no answers. Condition: there is room for its
+    /// fractions. `OutOfRange(1)` exactly where a fraction exceeds the width; then there is no header, no
+    /// register and no answer.
+    pub fn declare(&mut self, header: &Header<'_>) -> Result<(), Cause>
+        requires { length header.now.fractions ≤ self.old.register_room }
+        ensures ok { OnOk result ((is_wide header.now.word header.now.fractions ≡ false)
+            × IsStarted header.now self.new) }
+        ensures err { IfErr result (λ cause. (is_wide header.now.word header.now.fractions ≡ true)
+            × (cause ≡ Cause.OutOfRange 1)
+            × IsEmptySpace self.old.register_room self.old.answer_room self.new) }
+        ensures kept { KeepsRoom self.old self.new }
+    {
+        self.clear();
+        if has_wide(header) {
+            return Err(Cause::OutOfRange(1));
+        }
+        push_fractions(&mut self.registers, header);
+        self.word = Some(header.word());
+        Ok(())
+    }
+
+    /// Runs one line.
+    pub(crate) fn step_line(&mut self, line: &Line, number: u64) -> Result<Answer, Cause>
+        requires { IsSome self.old.word }
+        ensures tells { IfSome self.old.word (λ word. IsStepOfLine (state_in word self.old.registers)
+            (checked_script_line line.now) number result self.new.registers) }
+        ensures kept { KeepsTheRest self.old self.new }
+    {
+        let word = self.word.unwrap();
+        step_registers(word, &mut self.registers, line, number)
+    }
+
+    /// Runs one piece.
+    pub(crate) fn step_piece(&mut self, piece: &[u8], number: u64) -> Result<Answer, Cause>
+        requires { IsSome self.old.word }
+        ensures tells { IfSome self.old.word (λ word. IsStepOfLine (state_in word self.old.registers)
+            (line_of_piece piece.now) number result self.new.registers) }
+        ensures kept { KeepsTheRest self.old self.new }
+    {
+        let word = self.word.unwrap();
+        read_and_step(word, &mut self.registers, piece, number)
+    }
+
+    /// Runs a line that was read quickly; None where it has a cause. It asks for the word by its name and
+    /// its type.
+    #[inline(always)]
+    pub(crate) fn step_quick_line<T: Word>(
+        &mut self,
+        word: WordName,
+        line: QuickLine,
+        number: u64,
+    ) -> Option<Answer>
+        requires signed { T.SIGNED ≡ signed word }
+        requires bits { T.BITS ≡ width_in word }
+        requires word { self.old.word ≡ Some word }
+        requires dest { line.dest < length self.old.registers }
+        requires a { line.a < length self.old.registers }
+        requires b { line.b < length self.old.registers }
+        requires c { line.c < length self.old.registers }
+        ensures some { IfSome result (λ answer. IsStepOfLine (state_in word self.old.registers)
+            (Some (script_line_of_quick line)) number (Ok answer) self.new.registers) }
+        ensures none { result ≡ None → self.new.registers ≡ self.old.registers }
+        ensures count { length self.new.registers ≡ length self.old.registers }
+        ensures kept { KeepsTheRest self.old self.new }
+    {
+        quick_step::<T>(word, &mut self.registers, line, number)
+    }
+
+    /// Adds the text of an answer, for which there is room.
+    #[inline(always)]
+    pub(crate) fn push(&mut self, answer: Answer)
+        requires { length self.old.answers + length (answer_text answer) ≤ self.old.answer_room }
+        ensures answers { self.new.answers ≡ self.old.answers ++ answer_text answer }
+        ensures word { self.new.word ≡ self.old.word }
+        ensures registers { self.new.registers ≡ self.old.registers }
+        ensures kept { KeepsRoom self.old self.new }
+    {
+        self.answers.push_text(answer);
+    }
+
+    /// The word of the declared header, if there is one: the test of the condition of `step`.
+    pub fn word(&self) -> Option<WordName>
+        ensures { result ≡ self.now.word }
+    {
+        self.word
+    }
+
+    /// Whether there is room for the header's fractions: the test of the condition of `declare`.
+    pub fn has_room_for(&self, header: &Header<'_>) -> bool
+        ensures { IsTrue result ↔ (length header.now.fractions ≤ self.now.register_room) }
+    {
+        let mut left = self.most;
+        let mut fractions = header.fractions();
+        while fractions.next().is_some() {
+            if left == 0 {
+                return false;
+            }
+            left -= 1;
+        }
+        true
+    }
+
+    /// How many registers there are.
+    pub fn registers(&self) -> usize
+        ensures { result ≡ length self.now.registers }
+    {
+        self.registers.len()
+    }
+
+    /// The bits of a register as a whole number. Condition: the index is below the number of registers.
+    pub fn bits_at(&self, index: usize) -> i128
+        requires { index < length self.now.registers }
+        ensures { result ≡ (cell_at self.now.registers index).bits }
+    {
+        let register = self.registers[index];
+        with_sign(register.below_zero, register.magnitude)
+    }
+
+    /// The fraction of a register. Condition: the index is below the number of registers.
+    pub fn fraction_at(&self, index: usize) -> u32
+        requires { index < length self.now.registers }
+        ensures { result ≡ (cell_at self.now.registers index).fraction }
+    {
+        self.registers[index].fraction
+    }
+
+    /// The bytes of the answers so far.
+    pub fn answers(&self) -> &[u8]
+        ensures { result.now ≡ self.now.answers }
+    {
+        self.answers.bytes()
+    }
+
+    /// Turns the room into its answers so far. It takes no memory.
+    pub fn into_answers(self) -> Answers
+        ensures { result ≡ self.answers }
+    {
+        Answers::new(self.answers.into_bytes())
+    }
+}
+
+/// Runs one line of a script: its answer, with the number stored in its register, or its cause with that
+/// line number and all registers as they were. A line whose operation takes other operands has the cause
+/// `Syntax`. The header and the answers in the room stay. Condition: a header was declared. It takes no
+/// memory.
+pub fn step(room: &mut Room, line: &Line, number: u64) -> Result<Answer, Cause>
+    requires { IsSome room.old.word }
+    ensures tells { IfSome room.old.word (λ word. IsStepOfLine
+        (state_in word room.old.registers) (checked_script_line line.now) number result room.new.registers) }
+    ensures kept { KeepsTheRest room.old room.new }
+{
+    room.step_line(line, number)
+}
+
+/// The spaces of a piece.
+fn spaces_in(piece: &[u8]) -> usize
+    ensures { result ≡ spaces_in piece.now }
+{
+    piece.iter().filter(|byte| **byte == b' ').count()
+}
+
+/// The spaces of the first piece.
+fn spaces_of(script: &[u8]) -> usize
+    ensures { result ≡ spaces script.now }
+{
+    if script.is_empty() {
+        return 0;
+    }
+    spaces_in(&script[..piece_end(script)])
+}

@@ -1,0 +1,273 @@
+//! The row of an operation, over one word.
+
+ghost use Rattle.std.specs.Prelude.{◌≡◌, ◌≢◌, ◌≤◌, ℕ, ℤ, pos, true};
+ghost use Rattle.fixed_machine.specs.Rows.{exact as exact_row, exact_by, exact_rounded};
+ghost use Rattle.fixed_kernel.specs.Rows.{by_divisor};
+ghost use Rattle.fixed_kernel.specs.RoundedRows.{rounded_div, rounded_div_int, rounded_recip};
+ghost use Rattle.fixed_script.specs.Text.{takes_rounding as rounds};
+ghost use Rattle.fixed_machine.specs.Offered.{is_offered};
+ghost use Rattle.fixed_machine.specs.inside.Groups.{group, OfOne, SumOrProduct, ByDivisor};
+ghost use Rattle.fixed_machine.specs.inside.Stepping.{IsOutcomeOfRow};
+
+use fixed_kernel::{
+    abs_of, add_of, add_prod_of, add_prod_round_of, dist_of, div_euclid_int_of, div_euclid_of,
+    div_int_of, div_int_round_of, div_of, div_round_of, mul_add_of, mul_add_round_of, mul_int_of,
+    mul_of, mul_round_of, neg_of, next_multiple_of_of, next_power_of_two_of, recip_of,
+    recip_round_of, rem_euclid_int_of, rem_euclid_of, rem_int_of, rem_of, signum_of, sqrt_of,
+    sub_of,
+};
+use fixed_script::{Op, Policy, takes_rounding};
+use fixed_word::{Outcome, Rounding, Word};
+
+/// An operand: its bits in a word, and its fraction.
+#[derive(Clone, Copy)]
+pub(crate) struct Operand<T> {
+    pub bits: T,
+    pub fraction: u32,
+}
+
+/// Which operands decide whether an operation has a number.
+#[derive(Clone, Copy)]
+pub(crate) enum Group {
+    /// Operations on one number.
+    OfOne,
+    /// Sums, differences and products, which have a number for all operands.
+    SumOrProduct,
+    /// Quotients, remainders and multiples, which have none where the divisor is 0.
+    ByDivisor,
+}
+
+/// The operation's group.
+#[inline(always)]
+fn group_of(op: Op) -> Group
+    ensures { result ≡ group op }
+{
+    match op {
+        Op::Neg | Op::Abs | Op::Signum | Op::NextPowerOfTwo | Op::Recip | Op::Sqrt => Group::OfOne,
+        Op::Add | Op::Sub | Op::Dist | Op::Mul | Op::MulInt | Op::MulAdd | Op::AddProd => {
+            Group::SumOrProduct
+        }
+        Op::Div
+        | Op::DivInt
+        | Op::DivEuclid
+        | Op::DivEuclidInt
+        | Op::Rem
+        | Op::RemInt
+        | Op::RemEuclid
+        | Op::RemEuclidInt
+        | Op::NextMultipleOf => Group::ByDivisor,
+    }
+}
+
+/// The outcome of an operation on one number, where it is defined.
+#[inline(always)]
+#[tactic(auto, unfolding(crate::specs::Rows::exact, crate::specs::Offered::is_offered))]
+fn outcome_of_one<T: Word>(policy: Policy, op: Op, x: T, frac: u32) -> Option<Outcome<T>>
+    requires group { group op ≡ OfOne }
+    requires offered { is_offered T.SIGNED policy op ≡ true }
+    requires frac { frac ≤ T.BITS }
+    ensures { (b c : ℤ) (g h : ℕ) → IsOutcomeOfRow T.value T.SIGNED T.BITS
+        (exact_row op (T.value x) b c frac g h) result }
+{
+    match op {
+        Op::Neg => Some(neg_of(x)),
+        Op::Abs => Some(abs_of(x)),
+        Op::Signum => Some(signum_of(x, frac)),
+        Op::NextPowerOfTwo => Some(next_power_of_two_of(x)),
+        Op::Recip => {
+            if x == T::ZERO {
+                None
+            } else {
+                Some(recip_of(x, frac))
+            }
+        }
+        Op::Sqrt => {
+            if x.is_below_zero() {
+                None
+            } else {
+                Some(sqrt_of(x, frac))
+            }
+        }
+        _ => None,
+    }
+}
+
+/// The outcome of a sum, a difference or a product.
+#[inline(always)]
+#[tactic(auto, unfolding(crate::specs::Rows::exact))]
+fn outcome_of_sum_or_product<T: Word>(
+    op: Op,
+    a: Operand<T>,
+    b: Operand<T>,
+    c: Operand<T>,
+) -> Option<Outcome<T>>
+    requires group { group op ≡ SumOrProduct }
+    requires a { a.fraction ≤ T.BITS }
+    requires b { b.fraction ≤ T.BITS }
+    requires c { c.fraction ≤ T.BITS }
+    ensures { IsOutcomeOfRow T.value T.SIGNED T.BITS
+        (exact_row op (T.value a.bits) (T.value b.bits) (T.value c.bits) a.fraction b.fraction c.fraction) result }
+{
+    match op {
+        Op::Add => Some(add_of(a.bits, b.bits)),
+        Op::Sub => Some(sub_of(a.bits, b.bits)),
+        Op::Dist => Some(dist_of(a.bits, b.bits)),
+        Op::Mul => Some(mul_of(a.bits, b.bits, a.fraction)),
+        Op::MulInt => Some(mul_int_of(a.bits, b.bits)),
+        Op::MulAdd => Some(mul_add_of(a.bits, b.bits, c.bits, b.fraction)),
+        Op::AddProd => Some(add_prod_of(
+            a.bits, b.bits, c.bits, a.fraction, b.fraction, c.fraction,
+        )),
+        _ => None,
+    }
+}
+
+/// The outcome of a quotient, a remainder or a multiple. Condition: the divisor is not 0.
+#[inline(always)]
+fn outcome_of_quotient<T: Word>(op: Op, x: T, y: T, frac: u32) -> Option<Outcome<T>>
+    requires group { group op ≡ ByDivisor }
+    requires divisor { T.value y ≢ pos 0 }
+    requires frac { frac ≤ T.BITS }
+    ensures { (c : ℤ) (g h : ℕ) → IsOutcomeOfRow T.value T.SIGNED T.BITS
+        (exact_row op (T.value x) (T.value y) c frac g h) result }
+{
+    match op {
+        Op::Div => Some(div_of(x, y, frac)),
+        Op::DivInt => Some(div_int_of(x, y)),
+        Op::DivEuclid => Some(div_euclid_of(x, y, frac)),
+        Op::DivEuclidInt => Some(div_euclid_int_of(x, y, frac)),
+        Op::Rem => Some(rem_of(x, y)),
+        Op::RemInt => Some(rem_int_of(x, y, frac)),
+        Op::RemEuclid => Some(rem_euclid_of(x, y)),
+        Op::RemEuclidInt => Some(rem_euclid_int_of(x, y, frac)),
+        Op::NextMultipleOf => Some(next_multiple_of_of(x, y)),
+        _ => None,
+    }
+}
+
+/// The same, and None where the divisor is 0.
+#[inline(always)]
+fn outcome_by_divisor<T: Word>(op: Op, x: T, y: T, frac: u32) -> Option<Outcome<T>>
+    requires group { group op ≡ ByDivisor }
+    requires frac { frac ≤ T.BITS }
+    ensures { (c : ℤ) (g h : ℕ) → IsOutcomeOfRow T.value T.SIGNED T.BITS
+        (exact_row op (T.value x) (T.value y) c frac g h) result }
+{
+    if y == T::ZERO {
+        return None;
+    }
+    outcome_of_quotient(op, x, y, frac)
+}
+
+/// The outcome of the operation's row, where it is defined.
+#[inline(always)]
+#[tactic(auto)]
+fn outcome_as<T: Word>(
+    policy: Policy,
+    op: Op,
+    a: Operand<T>,
+    b: Operand<T>,
+    c: Operand<T>,
+) -> Option<Outcome<T>>
+    requires offered { is_offered T.SIGNED policy op ≡ true }
+    requires a { a.fraction ≤ T.BITS }
+    requires b { b.fraction ≤ T.BITS }
+    requires c { c.fraction ≤ T.BITS }
+    ensures { IsOutcomeOfRow T.value T.SIGNED T.BITS
+        (exact_row op (T.value a.bits) (T.value b.bits) (T.value c.bits) a.fraction b.fraction c.fraction) result }
+{
+    match group_of(op) {
+        Group::OfOne => outcome_of_one(policy, op, a.bits, a.fraction),
+        Group::SumOrProduct => outcome_of_sum_or_product(op, a, b, c),
+        Group::ByDivisor => outcome_by_divisor(op, a.bits, b.bits, a.fraction),
+    }
+}
+
+/// The quotient with that rounding, and None where the divisor is 0.
+fn rounded_quotient<T: Word>(a: Operand<T>, b: T, rounding: Rounding) -> Option<Outcome<T>>
+    requires { a.fraction ≤ T.BITS }
+    ensures { IsOutcomeOfRow T.value T.SIGNED T.BITS
+        (by_divisor (T.value b) (rounded_div (T.value a.bits) (T.value b) a.fraction rounding)) result }
+{
+    if b == T::ZERO {
+        return None;
+    }
+    Some(div_round_of(a.bits, b, a.fraction, rounding))
+}
+
+/// The quotient by an integer with that rounding, and None where the integer is 0.
+fn rounded_quotient_by<T: Word>(a: T, k: T, rounding: Rounding) -> Option<Outcome<T>>
+    ensures { IsOutcomeOfRow T.value T.SIGNED T.BITS
+        (by_divisor (T.value k) (rounded_div_int (T.value a) (T.value k) rounding)) result }
+{
+    if k == T::ZERO {
+        return None;
+    }
+    Some(div_int_round_of(a, k, rounding))
+}
+
+/// The reciprocal with that rounding, and None where the operand is 0.
+fn rounded_reciprocal<T: Word>(a: Operand<T>, rounding: Rounding) -> Option<Outcome<T>>
+    requires { a.fraction ≤ T.BITS }
+    ensures { IsOutcomeOfRow T.value T.SIGNED T.BITS
+        (by_divisor (T.value a.bits) (rounded_recip (T.value a.bits) a.fraction rounding)) result }
+{
+    if a.bits == T::ZERO {
+        return None;
+    }
+    Some(recip_round_of(a.bits, a.fraction, rounding))
+}
+
+/// The outcome of the operation's row with the rounding that is named, where it is defined.
+#[inline(never)]
+#[tactic(auto, unfolding(crate::specs::Rows::exact_rounded))]
+fn rounded_outcome_as<T: Word>(
+    rounding: Rounding,
+    op: Op,
+    a: Operand<T>,
+    b: Operand<T>,
+    c: Operand<T>,
+) -> Option<Outcome<T>>
+    requires rounds { rounds op ≡ true }
+    requires a { a.fraction ≤ T.BITS }
+    requires b { b.fraction ≤ T.BITS }
+    requires c { c.fraction ≤ T.BITS }
+    ensures { IsOutcomeOfRow T.value T.SIGNED T.BITS
+        (exact_rounded rounding op (T.value a.bits) (T.value b.bits) (T.value c.bits) a.fraction b.fraction c.fraction) result }
+{
+    match op {
+        Op::Mul => Some(mul_round_of(a.bits, b.bits, a.fraction, rounding)),
+        Op::MulAdd => Some(mul_add_round_of(a.bits, b.bits, c.bits, b.fraction, rounding)),
+        Op::AddProd => Some(add_prod_round_of(
+            a.bits, b.bits, c.bits, a.fraction, b.fraction, c.fraction, rounding,
+        )),
+        Op::Div => rounded_quotient(a, b.bits, rounding),
+        Op::DivInt => rounded_quotient_by(a.bits, b.bits, rounding),
+        Op::Recip => rounded_reciprocal(a, rounding),
+        _ => None,
+    }
+}
+
+/// The outcome of the operation's row with the rounding that a line names, if it names one, where the row
+/// is defined.
+#[inline(always)]
+pub(crate) fn outcome_by<T: Word>(
+    rounding: Option<Rounding>,
+    policy: Policy,
+    op: Op,
+    a: Operand<T>,
+    b: Operand<T>,
+    c: Operand<T>,
+) -> Option<Outcome<T>>
+    requires offered { is_offered T.SIGNED policy op ≡ true }
+    requires a { a.fraction ≤ T.BITS }
+    requires b { b.fraction ≤ T.BITS }
+    requires c { c.fraction ≤ T.BITS }
+    ensures { IsOutcomeOfRow T.value T.SIGNED T.BITS
+        (exact_by rounding op (T.value a.bits) (T.value b.bits) (T.value c.bits) a.fraction b.fraction c.fraction) result }
+{
+    match rounding {
+        Some(rounding) if takes_rounding(op) => rounded_outcome_as(rounding, op, a, b, c),
+        _ => outcome_as(policy, op, a, b, c),
+    }
+}

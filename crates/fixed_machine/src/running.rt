@@ -1,0 +1,187 @@
+//! A whole script in a room.
+
+ghost use Rattle.std.specs.Prelude.{◌≡◌, ◌≤◌, ◌<◌, ◌*◌, ◌+◌, drop, length, Some, None, Err, IfOk, IfErr, IfSome};
+ghost use Rattle.fixed_text.specs.Words.{is_signed, width};
+ghost use Rattle.fixed_word.specs.Pieces.{pieces};
+ghost use Rattle.fixed_machine.specs.Meaning.{after, meaning, run_lines, run_of};
+ghost use Rattle.fixed_machine.specs.inside.Moves.{HasMoved, HaveMoved};
+ghost use Rattle.fixed_machine.specs.Rooms.{KeepsRoom, IsAnswerOfMeaning, IsAnswerOfRun, Suffices};
+ghost use Rattle.fixed_machine.specs.Step.{state_in};
+
+use crate::cause::{Cause, RunFault};
+use crate::quick::{LONGEST, quick_line};
+use crate::room::{Answers, Room};
+use fixed_script::header_of_piece;
+use fixed_text::{WordName, piece_end};
+use fixed_word::Word;
+use std::alloc::Global;
+
+/// The first line of the rest. Answers where it ends.
+fn answer_line(word: WordName, rest: &[u8], number: u64, room: &mut Room) -> Result<usize, Cause>
+    requires some { 0 < length rest.now }
+    requires word { room.old.word ≡ Some word }
+    requires space { length room.old.answers + 2 * length rest.now ≤ room.old.answer_room }
+    ensures ok { IfOk result (λ end. HasMoved word number rest.now end room.old room.new) }
+    ensures err { IfErr result (λ cause. IsAnswerOfRun (after room.old.answers (run_lines
+        (state_in word room.old.registers) number (pieces rest.now))) (Err cause) room.new) }
+    ensures kept { KeepsRoom room.old room.new }
+{
+    let end = piece_end(rest);
+    match room.step_piece(&rest[..end], number) {
+        Ok(answer) => {
+            room.push(answer);
+            Ok(end)
+        }
+        Err(cause) => Err(cause),
+    }
+}
+
+/// The first line of the rest, if it is read quickly and has no cause. Answers where it ends; else nothing
+/// has changed. Conditions: there are as many bytes as such a line may have, and so many registers.
+#[inline(always)]
+fn answer_quick_line<T: Word>(
+    word: WordName,
+    rest: &[u8],
+    count: u8,
+    number: u64,
+    room: &mut Room,
+) -> Option<usize>
+    requires signed { T.SIGNED ≡ is_signed word }
+    requires bits { T.BITS ≡ width word }
+    requires long { 64 ≤ length rest.now }
+    requires few { count ≤ 100 }
+    requires count { count ≤ length room.old.registers }
+    requires word { room.old.word ≡ Some word }
+    requires space { length room.old.answers + 2 * length rest.now ≤ room.old.answer_room }
+    ensures some { IfSome result (λ end. HasMoved word number rest.now end room.old room.new) }
+    ensures none { result ≡ None → room.new ≡ room.old }
+    ensures count { length room.new.registers ≡ length room.old.registers }
+    ensures kept { KeepsRoom room.old room.new }
+{
+    let (line, end) = match quick_line(rest, count) {
+        Some(found) => found,
+        None => return None,
+    };
+    match room.step_quick_line::<T>(word, line, number) {
+        Some(answer) => {
+            room.push(answer);
+            Some(end)
+        }
+        None => None,
+    }
+}
+
+/// The lines from a place on, as long as they are read quickly and have no cause. Answers where the next
+/// line begins, and its number.
+#[inline(always)]
+fn answer_quick_lines<T: Word>(
+    word: WordName,
+    lines: &[u8],
+    from: usize,
+    first: u64,
+    room: &mut Room,
+) -> (usize, u64)
+    requires signed { T.SIGNED ≡ is_signed word }
+    requires bits { T.BITS ≡ width word }
+    requires within { from ≤ length lines.now }
+    requires number { first ≤ from + 2 }
+    requires word { room.old.word ≡ Some word }
+    requires space { length room.old.answers + 2 * length (drop from lines.now) ≤ room.old.answer_room }
+    ensures moved { HaveMoved word lines.now from first result.0 result.1 room.old room.new }
+    ensures kept { KeepsRoom room.old room.new }
+{
+    let count = room.registers().min(100) as u8;
+    let mut at = from;
+    let mut number = first;
+    while lines.len() - at >= LONGEST {
+        match answer_quick_line::<T>(word, &lines[at..], count, number, room) {
+            Some(end) => at += end,
+            None => return (at, number),
+        }
+        number += 1;
+    }
+    (at, number)
+}
+
+/// The lines after the header, over the word of that name.
+fn answer_lines_as<T: Word>(word: WordName, lines: &[u8], room: &mut Room) -> Result<(), Cause>
+    requires signed { T.SIGNED ≡ is_signed word }
+    requires bits { T.BITS ≡ width word }
+    requires word { room.old.word ≡ Some word }
+    requires space { length room.old.answers + 2 * length lines.now ≤ room.old.answer_room }
+    ensures tells { IsAnswerOfRun (after room.old.answers
+        (run_lines (state_in word room.old.registers) 2 (pieces lines.now))) result room.new }
+    ensures kept { KeepsRoom room.old room.new }
+{
+    let mut at = 0;
+    let mut number = 2;
+    while at < lines.len() {
+        (at, number) = answer_quick_lines::<T>(word, lines, at, number, room);
+        if at < lines.len() {
+            match answer_line(word, &lines[at..], number, room) {
+                Ok(end) => at += end,
+                Err(cause) => return Err(cause),
+            }
+            number += 1;
+        }
+    }
+    Ok(())
+}
+
+/// The lines after the header.
+fn answer_lines(word: WordName, lines: &[u8], room: &mut Room) -> Result<(), Cause>
+    requires word { room.old.word ≡ Some word }
+    requires space { length room.old.answers + 2 * length lines.now ≤ room.old.answer_room }
+    ensures tells { IsAnswerOfRun (after room.old.answers
+        (run_lines (state_in word room.old.registers) 2 (pieces lines.now))) result room.new }
+    ensures kept { KeepsRoom room.old room.new }
+{
+    match word {
+        WordName::I8 => answer_lines_as::<i8>(word, lines, room),
+        WordName::I16 => answer_lines_as::<i16>(word, lines, room),
+        WordName::I32 => answer_lines_as::<i32>(word, lines, room),
+        WordName::I64 => answer_lines_as::<i64>(word, lines, room),
+        WordName::U8 => answer_lines_as::<u8>(word, lines, room),
+        WordName::U16 => answer_lines_as::<u16>(word, lines, room),
+        WordName::U32 => answer_lines_as::<u32>(word, lines, room),
+        WordName::U64 => answer_lines_as::<u64>(word, lines, room),
+    }
+}
+
+/// Runs a script in a room that suffices for it, from a fresh start, and asks for no memory. Ok with all
+/// answers in the room, or the first cause with the registers and answers of the lines before it in the
+/// room.
+pub fn run_in(script: &[u8], room: &mut Room) -> Result<(), Cause>
+    requires { Suffices script.now room.old }
+    ensures tells { IsAnswerOfRun (run_of script.now) result room.new }
+    ensures kept { KeepsRoom room.old room.new }
+{
+    room.clear();
+    if script.is_empty() {
+        return Err(Cause::Syntax(1));
+    }
+    let end = piece_end(script);
+    let header = match header_of_piece(&script[..end]) {
+        Some(header) => header,
+        None => return Err(Cause::Syntax(1)),
+    };
+    match room.declare(&header) {
+        Ok(()) => answer_lines(header.word(), &script[end..], room),
+        Err(cause) => Err(cause),
+    }
+}
+
+/// Runs a script: its answers, its first cause, or a report that memory ran out. On a fault nothing is
+/// handed out.
+pub fn run(alloc: Global, script: &[u8]) -> Result<Answers, RunFault>
+    ensures { IsAnswerOfMeaning (meaning script.now) result }
+{
+    let mut room = match Room::for_script(alloc, script) {
+        Ok(room) => room,
+        Err(_) => return Err(RunFault::Memory),
+    };
+    match run_in(script, &mut room) {
+        Ok(()) => Ok(room.into_answers()),
+        Err(cause) => Err(RunFault::Script(cause)),
+    }
+}

@@ -1,0 +1,403 @@
+//! One line of a script, over the registers.
+
+ghost use Rattle.std.specs.Prelude.{◌≡◌, ◌≤◌, ◌<◌, ◌^◌, nat_le, length, set, Some, None, true, false, IsTrue, unsigned_abs};
+ghost use Rattle.std.specs.List.{All};
+ghost use Rattle.fixed_script.specs.Capped.{checked_script_line, literal_value};
+ghost use Rattle.fixed_script.specs.Text.{may_round as rounds};
+ghost use Rattle.fixed_word.specs.Format.{fits};
+ghost use Rattle.fixed_machine.specs.Offered.{is_offered as offered};
+ghost use Rattle.fixed_machine.specs.Machine.{is_value, cell_at as cell_in, destination as destination_of, is_unoffered as unoffered, is_out_of_range as out_of_range, is_mismatched as mismatched, stored, integer};
+ghost use Rattle.fixed_text.specs.Words.{is_signed as signed};
+ghost use Rattle.fixed_machine.specs.inside.Stepping.{IsAnswerOfLine, IsApplied, HoldsOperands, script_line_of, values_of};
+ghost use Rattle.fixed_machine.specs.Step.{IsCell, IsStepOfLine, cell_of, cells_of, state_in};
+
+use crate::answer::Answer;
+use crate::cause::Cause;
+use crate::projected::answer_in_word;
+use crate::register::{OperandRegisters, Register, with_sign};
+use fixed_script::{Line, Literal, Op, Policy, Shape, shape_of, takes_rounding};
+use fixed_text::WordName;
+use fixed_word::{Rounding, Side, Word, outcome_of};
+
+/// Whether the operation may name that rounding.
+fn may_round(op: Op, rounding: Option<Rounding>) -> bool
+    ensures { result ≡ rounds op rounding }
+{
+    rounding.is_none() || takes_rounding(op)
+}
+
+/// Whether the operation takes the operands of the line, and its rounding.
+fn is_shaped(line: &Line) -> bool
+    ensures yes { result ≡ true → checked_script_line line.now ≡ Some (script_line_of line.now) }
+    ensures no { result ≡ false → checked_script_line line.now ≡ None }
+{
+    match line {
+        Line::Set { .. } => true,
+        Line::One { op, rounding, .. } => {
+            shape_of(*op) == Shape::Unary && may_round(*op, *rounding)
+        }
+        Line::Two { op, rounding, .. } => {
+            shape_of(*op) == Shape::Binary && may_round(*op, *rounding)
+        }
+        Line::Int { op, rounding, .. } => {
+            shape_of(*op) == Shape::ByInteger && may_round(*op, *rounding)
+        }
+        Line::Three { op, rounding, .. } => {
+            shape_of(*op) == Shape::Ternary && may_round(*op, *rounding)
+        }
+    }
+}
+
+#[inline(always)]
+fn is_signed(word: WordName) -> bool
+    ensures { result ≡ signed word }
+{
+    match word {
+        WordName::I8 | WordName::I16 | WordName::I32 | WordName::I64 => true,
+        WordName::U8 | WordName::U16 | WordName::U32 | WordName::U64 => false,
+    }
+}
+
+/// Whether the operation is offered under that policy on the word.
+#[inline(always)]
+#[tactic(auto, unfolding(crate::specs::Offered::is_offered))]
+pub(crate) fn is_offered(word: WordName, policy: Policy, op: Op) -> bool
+    ensures { result ≡ offered (signed word) policy op }
+{
+    match op {
+        Op::Abs | Op::Signum => is_signed(word),
+        Op::Rem | Op::RemInt | Op::RemEuclid => match policy {
+            Policy::Checked | Policy::Strict => true,
+            Policy::Saturating | Policy::Wrapping | Policy::Overflowing => false,
+        },
+        Op::NextPowerOfTwo => match policy {
+            Policy::Checked | Policy::Wrapping | Policy::Strict => !is_signed(word),
+            Policy::Saturating | Policy::Overflowing => false,
+        },
+        _ => true,
+    }
+}
+
+/// Whether the operation of the line is not offered under its policy on the word.
+#[tactic(auto, unfolding(crate::specs::Machine::is_unoffered))]
+fn is_unoffered(word: WordName, line: &Line) -> bool
+    ensures { result ≡ unoffered word (script_line_of line.now) }
+{
+    match line {
+        Line::Set { .. } => false,
+        Line::One { policy, op, .. }
+        | Line::Two { policy, op, .. }
+        | Line::Int { policy, op, .. }
+        | Line::Three { policy, op, .. } => !is_offered(word, *policy, *op),
+    }
+}
+
+#[inline(always)]
+fn fits_as<T: Word>(literal: Literal) -> bool
+    ensures { result ≡ fits T.SIGNED T.BITS (literal_value literal) }
+{
+    outcome_of::<T>(literal.below_zero, literal.magnitude).side == Side::Fits
+}
+
+/// Whether a literal is a value of the word.
+#[inline(always)]
+pub(crate) fn is_literal(word: WordName, literal: Literal) -> bool
+    ensures { result ≡ is_value word (literal_value literal) }
+{
+    match word {
+        WordName::I8 => fits_as::<i8>(literal),
+        WordName::I16 => fits_as::<i16>(literal),
+        WordName::I32 => fits_as::<i32>(literal),
+        WordName::I64 => fits_as::<i64>(literal),
+        WordName::U8 => fits_as::<u8>(literal),
+        WordName::U16 => fits_as::<u16>(literal),
+        WordName::U32 => fits_as::<u32>(literal),
+        WordName::U64 => fits_as::<u64>(literal),
+    }
+}
+
+/// Whether a register was not declared.
+fn is_missing(registers: &[Register], index: u128) -> bool
+    ensures { result ≡ nat_le (length (cells_of registers.now)) index }
+{
+    registers.len() as u128 <= index
+}
+
+#[tactic(auto, unfolding(crate::specs::Machine::is_out_of_range))]
+fn is_out_of_range(word: WordName, registers: &[Register], line: &Line) -> bool
+    ensures { result ≡ out_of_range (state_in word (cells_of registers.now)) (script_line_of line.now) }
+{
+    match line {
+        Line::Set { dest, literal } => is_missing(registers, *dest) || !is_literal(word, *literal),
+        Line::One { dest, a, .. } => is_missing(registers, *dest) || is_missing(registers, *a),
+        Line::Two { dest, a, b, .. } => {
+            is_missing(registers, *dest) || is_missing(registers, *a) || is_missing(registers, *b)
+        }
+        Line::Int {
+            dest,
+            a,
+            literal,
+            ..
+        } => {
+            is_missing(registers, *dest) || is_missing(registers, *a) || !is_literal(word, *literal)
+        }
+        Line::Three { dest, a, b, c, .. } => {
+            is_missing(registers, *dest)
+                || is_missing(registers, *a)
+                || is_missing(registers, *b)
+                || is_missing(registers, *c)
+        }
+    }
+}
+
+/// The register of that number.
+fn register_at(registers: &[Register], index: u128) -> Register
+    ensures { cell_of result ≡ cell_in (cells_of registers.now) index }
+{
+    if index < registers.len() as u128 {
+        registers[index as usize]
+    } else {
+        Register {
+            magnitude: 0,
+            fraction: 0,
+            below_zero: false,
+        }
+    }
+}
+
+fn fraction_at(registers: &[Register], index: u128) -> u32
+    ensures { result ≡ (cell_in (cells_of registers.now) index).fraction }
+{
+    register_at(registers, index).fraction
+}
+
+#[tactic(auto, unfolding(crate::specs::Machine::is_mismatched))]
+fn is_mismatched(word: WordName, registers: &[Register], line: &Line) -> bool
+    ensures { result ≡ mismatched (state_in word (cells_of registers.now)) (script_line_of line.now) }
+{
+    match line {
+        Line::Set { .. } => false,
+        Line::One { dest, a, .. } | Line::Int { dest, a, .. } => {
+            fraction_at(registers, *a) != fraction_at(registers, *dest)
+        }
+        Line::Two { dest, a, b, .. } => {
+            let fraction = fraction_at(registers, *dest);
+            fraction_at(registers, *a) != fraction || fraction_at(registers, *b) != fraction
+        }
+        Line::Three { dest, op, a, c, .. } => {
+            let fraction = fraction_at(registers, *dest);
+            match op {
+                Op::AddProd => fraction_at(registers, *a) != fraction,
+                _ => fraction_at(registers, *a) != fraction
+                    || fraction_at(registers, *c) != fraction,
+            }
+        }
+    }
+}
+
+/// An integer as an operand.
+fn integer_of(literal: Literal) -> Register
+    requires { literal.magnitude < 2 ^ 64 }
+    ensures { cell_of result ≡ integer (literal_value literal) }
+{
+    Register {
+        magnitude: literal.magnitude as u64,
+        fraction: 0,
+        below_zero: literal.below_zero,
+    }
+}
+
+/// The operands of a line.
+#[inline(always)]
+fn taken_by(word: WordName, registers: &[Register], line: &Line) -> OperandRegisters
+    requires { out_of_range (state_in word (cells_of registers.now)) (script_line_of line.now) ≡ false }
+    ensures { HoldsOperands (cells_of registers.now) (script_line_of line.now) result }
+{
+    let empty = Register {
+        magnitude: 0,
+        fraction: 0,
+        below_zero: false,
+    };
+    match line {
+        Line::Set { .. } => OperandRegisters {
+            a: empty,
+            b: empty,
+            c: empty,
+        },
+        Line::One { a, .. } => OperandRegisters {
+            a: register_at(registers, *a),
+            b: empty,
+            c: empty,
+        },
+        Line::Two { a, b, .. } => OperandRegisters {
+            a: register_at(registers, *a),
+            b: register_at(registers, *b),
+            c: empty,
+        },
+        Line::Int { a, literal, .. } => OperandRegisters {
+            a: register_at(registers, *a),
+            b: integer_of(*literal),
+            c: empty,
+        },
+        Line::Three { a, b, c, .. } => OperandRegisters {
+            a: register_at(registers, *a),
+            b: register_at(registers, *b),
+            c: register_at(registers, *c),
+        },
+    }
+}
+
+/// The number of a literal.
+fn whole_of(literal: Literal) -> i128
+    requires { literal.magnitude < 2 ^ 64 }
+    ensures { result ≡ literal_value literal }
+{
+    with_sign(literal.below_zero, literal.magnitude as u64)
+}
+
+/// The answer of a line of an operation whose first three tests fail.
+#[inline(always)]
+fn answer_of_operation(
+    word: WordName,
+    registers: &[Register],
+    line: &Line,
+    policy: Policy,
+    op: Op,
+    rounding: Option<Rounding>,
+    number: u64,
+) -> Result<Answer, Cause>
+    requires is { IsApplied (script_line_of line.now) policy op rounding }
+    requires offered { unoffered word (script_line_of line.now) ≡ false }
+    requires in_range { out_of_range
+        (state_in word (cells_of registers.now)) (script_line_of line.now) ≡ false }
+    requires one_fraction { mismatched
+        (state_in word (cells_of registers.now)) (script_line_of line.now) ≡ false }
+    requires cells { All (IsCell word) (cells_of registers.now) }
+    ensures { IsAnswerOfLine (state_in word (cells_of registers.now)) (script_line_of line.now) number result }
+{
+    let taken = taken_by(word, registers, line);
+    answer_in_word(word, policy, op, rounding, &taken, number)
+}
+
+/// The answer of a line whose first three tests fail.
+fn answer_past_tests(
+    word: WordName,
+    registers: &[Register],
+    line: &Line,
+    number: u64,
+) -> Result<Answer, Cause>
+    requires offered { unoffered word (script_line_of line.now) ≡ false }
+    requires in_range { out_of_range
+        (state_in word (cells_of registers.now)) (script_line_of line.now) ≡ false }
+    requires one_fraction { mismatched
+        (state_in word (cells_of registers.now)) (script_line_of line.now) ≡ false }
+    requires cells { All (IsCell word) (cells_of registers.now) }
+    ensures { IsAnswerOfLine (state_in word (cells_of registers.now)) (script_line_of line.now) number result }
+{
+    match line {
+        Line::Set { literal, .. } => Ok(Answer::Bits(whole_of(*literal))),
+        Line::One {
+            policy,
+            op,
+            rounding,
+            ..
+        } => answer_of_operation(word, registers, line, *policy, *op, *rounding, number),
+        Line::Two {
+            policy,
+            op,
+            rounding,
+            ..
+        } => answer_of_operation(word, registers, line, *policy, *op, *rounding, number),
+        Line::Int {
+            policy,
+            op,
+            rounding,
+            ..
+        } => answer_of_operation(word, registers, line, *policy, *op, *rounding, number),
+        Line::Three {
+            policy,
+            op,
+            rounding,
+            ..
+        } => answer_of_operation(word, registers, line, *policy, *op, *rounding, number),
+    }
+}
+
+/// The answer of a line, or its cause.
+fn answer_or_cause(
+    word: WordName,
+    registers: &[Register],
+    line: &Line,
+    number: u64,
+) -> Result<Answer, Cause>
+    requires { All (IsCell word) (cells_of registers.now) }
+    ensures { IsAnswerOfLine (state_in word (cells_of registers.now)) (script_line_of line.now) number result }
+{
+    if is_unoffered(word, line) {
+        return Err(Cause::Syntax(number));
+    }
+    if is_out_of_range(word, registers, line) {
+        return Err(Cause::OutOfRange(number));
+    }
+    if is_mismatched(word, registers, line) {
+        return Err(Cause::FractionMismatch(number));
+    }
+    answer_past_tests(word, registers, line, number)
+}
+
+fn destination(line: &Line) -> u128
+    ensures { result ≡ destination_of (script_line_of line.now) }
+{
+    match line {
+        Line::Set { dest, .. }
+        | Line::One { dest, .. }
+        | Line::Two { dest, .. }
+        | Line::Int { dest, .. }
+        | Line::Three { dest, .. } => *dest,
+    }
+}
+
+/// Stores a number in a register.
+#[inline(always)]
+pub(crate) fn store(registers: &mut [Register], dest: u128, x: i128)
+    requires there { dest < length registers.old }
+    requires size { unsigned_abs x < 2 ^ 64 }
+    ensures { cells_of registers.new ≡ set (cells_of registers.old) dest
+        (record { bits = x; fraction = (cell_in (cells_of registers.old) dest).fraction }) }
+{
+    let register = &mut registers[dest as usize];
+    register.below_zero = x < 0;
+    register.magnitude = x.unsigned_abs() as u64;
+}
+
+/// One line over the registers.
+pub(crate) fn step_registers(
+    word: WordName,
+    registers: &mut [Register],
+    line: &Line,
+    number: u64,
+) -> Result<Answer, Cause>
+    requires { All (IsCell word) (cells_of registers.old) }
+    ensures tells { IsStepOfLine (state_in word (cells_of registers.old))
+        (checked_script_line line.now) number result (cells_of registers.new) }
+    ensures kept { All (IsCell word) (cells_of registers.new) }
+{
+    if !is_shaped(line) {
+        return Err(Cause::Syntax(number));
+    }
+    let answer = match answer_or_cause(word, registers, line, number) {
+        Ok(answer) => answer,
+        Err(cause) => return Err(cause),
+    };
+    match answer {
+        Answer::Absent => Ok(answer),
+        Answer::Bits(x) => {
+            store(registers, destination(line), x);
+            Ok(answer)
+        }
+        Answer::Flagged(x, _) => {
+            store(registers, destination(line), x);
+            Ok(answer)
+        }
+    }
+}
