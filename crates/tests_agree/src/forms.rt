@@ -1,12 +1,13 @@
 //! The forms of one operation of each kind, where the number does not fit.
-#![tactic(auto, unfolding(fixed_calc::specs::Rows::exact, fixed_calc::specs::Offered::is_offered))]
+#![tactic(auto, unfolding(fixed_machine::specs::Rows::exact, fixed_machine::specs::Offered::is_offered))]
 
 use fixed_agree::forms::{
     Forms, Shifts, add_prod, add_signed, add_unsigned, binary, by_integer, mul_acc, mul_add, shl,
     shr, sub_signed, sub_unsigned, unary, unary_signed,
 };
-use fixed_calc::{Answer, Op};
+use fixed_machine::Answer;
 use fixed_num::{FixedI8, FixedU8};
+use fixed_script::Op;
 use std::process::Abort;
 
 /// The forms of a number that does not fit, by what is left of it and the nearest number that fits.

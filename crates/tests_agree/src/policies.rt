@@ -1,9 +1,10 @@
 //! Each function that `forms` does not call, once: those of strict, and those of unsigned words.
-#![tactic(auto, unfolding(fixed_calc::specs::Rows::exact, fixed_calc::specs::Offered::is_offered, fixed_kernel::specs::Rows::power_over))]
+#![tactic(auto, unfolding(fixed_machine::specs::Rows::exact, fixed_machine::specs::Offered::is_offered, fixed_kernel::specs::Rows::power_over))]
 
 use fixed_agree::{checked, overflowing, saturating, strict, wrapping};
-use fixed_calc::{Answer, Op};
+use fixed_machine::Answer;
 use fixed_num::{FixedI8, FixedU8};
+use fixed_script::Op;
 use std::process::Abort;
 
 /// Asserts that in each row the answer found is the one wanted.
