@@ -271,7 +271,7 @@ fn an_unknown_clause() {
 #[test]
 fn a_condition_that_nothing_sees() {
     let source = "pub fn f<T: Word>(a: T) -> T
-    requires { InRange T.SIGNED T.BITS (exact_neg (T.value a)) }
+    requires { InRange T.SIGNED T.BITS (neg_ℤ (T.value a)) }
 {
     exact_number(a)
 }
@@ -302,7 +302,7 @@ fn forms_of_clauses() {
         (asserting.as_str(), test.as_str()),
         ("assert", "G <= T::BITS")
     );
-    let fits = "InRange T.SIGNED T.BITS (exact_neg (T.value a))";
+    let fits = "InRange T.SIGNED T.BITS (neg_ℤ (T.value a))";
     assert_eq!(condition(fits).unwrap()[0], "debug_assert");
     let strict = KNOWN.replace("debug_assert", "assert");
     assert_eq!(condition_of(fits, &strict, ";").unwrap()[0], "assert");

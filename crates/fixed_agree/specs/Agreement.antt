@@ -2,7 +2,8 @@
 use Rattle.std.specs.Prelude.{◌≡◌, ℕ, ℤ, pos, Bool, true, false, Option, Some, None}
 use Rattle.fixed_machine.specs.Types.{Policy, Op}
 use Rattle.fixed_machine.specs.declared.answer.Answer.{Answer}
-use Rattle.fixed_script.specs.Text.{Operands, OneRegister, TwoRegisters, RegisterAndInt, Apply, shape, shape_of}
+use Rattle.fixed_script.specs.Names.{shape}
+use Rattle.fixed_script.specs.Text.{Operands, OneRegister, TwoRegisters, RegisterAndInt, Apply, shape_of}
 use Rattle.fixed_machine.specs.Machine.{State, Cell, OperandValues, operand_values, empty_cell, integer, answer}
 use Rattle.fixed_text.specs.Words.{is_signed, width}
 use Rattle.fixed_machine.specs.Offered.{is_offered}

@@ -1,12 +1,12 @@
 //! Four forms of one operation on the same operands, and how their answers agree.
 #![tactic(auto, unfolding(fixed_machine::specs::Offered::is_offered))]
 
-ghost use Rattle.std.specs.Prelude.{◌≡◌, ◌≤◌, ◌%◌, ◌^◌, ◌*ℤ◌, pos, IsSome, None, Some, if◌then◌else◌, is_some, option_map, true};
+ghost use Rattle.std.specs.Prelude.{◌≡◌, ◌≤◌, ◌%◌, ◌^◌, ◌*ℤ◌, pos, IsSome, None, Some, if◌then◌else◌, is_some, option_map, true, ◌+ℤ◌, ◌-ℤ◌};
 ghost use Rattle.fixed_machine.specs.Machine.{row_of};
 ghost use Rattle.fixed_machine.specs.Offered.{is_offered};
 ghost use Rattle.fixed_agree.specs.Agreement.{IsBinary, IsByInteger, IsOfferedOnBoth, IsUnary, one_operand, three_operands, two_operands, with_integer};
 ghost use Rattle.fixed_agree.specs.Forms.{FormsAgree, ShiftsAgree};
-ghost use Rattle.fixed_kernel.specs.Rows.{exact_add, exact_add_prod, exact_sub};
+ghost use Rattle.fixed_kernel.specs.Rows.{exact_add_prod};
 ghost use Rattle.fixed_word.specs.Format.{wrap};
 ghost use Rattle.fixed_word.specs.Quotient.{floor_quotient};
 
@@ -183,7 +183,7 @@ pub fn mul_acc<T: Word, const F: u32, const A: u32, const B: u32>(
 /// The forms of the sum of an unsigned number and a signed one.
 pub fn add_signed<T: UnsignedWord, const F: u32>(a: Fixed<T, F>, b: Fixed<T::Signed, F>) -> Forms
     ensures { FormsAgree T.SIGNED T.BITS
-        (Some (exact_add (T.value a.bits) (T.Signed.value b.bits))) result }
+        (Some (T.value a.bits +ℤ T.Signed.value b.bits)) result }
 {
     Forms {
         checked: bits_or_absent(a.checked_add_signed(b)),
@@ -196,7 +196,7 @@ pub fn add_signed<T: UnsignedWord, const F: u32>(a: Fixed<T, F>, b: Fixed<T::Sig
 /// The forms of an unsigned number minus a signed one.
 pub fn sub_signed<T: UnsignedWord, const F: u32>(a: Fixed<T, F>, b: Fixed<T::Signed, F>) -> Forms
     ensures { FormsAgree T.SIGNED T.BITS
-        (Some (exact_sub (T.value a.bits) (T.Signed.value b.bits))) result }
+        (Some (T.value a.bits -ℤ T.Signed.value b.bits)) result }
 {
     Forms {
         checked: bits_or_absent(a.checked_sub_signed(b)),
@@ -209,7 +209,7 @@ pub fn sub_signed<T: UnsignedWord, const F: u32>(a: Fixed<T, F>, b: Fixed<T::Sig
 /// The forms of the sum of a signed number and an unsigned one.
 pub fn add_unsigned<T: SignedWord, const F: u32>(a: Fixed<T, F>, b: Fixed<T::Unsigned, F>) -> Forms
     ensures { FormsAgree T.SIGNED T.BITS
-        (Some (exact_add (T.value a.bits) (T.Unsigned.value b.bits))) result }
+        (Some (T.value a.bits +ℤ T.Unsigned.value b.bits)) result }
 {
     Forms {
         checked: bits_or_absent(a.checked_add_unsigned(b)),
@@ -222,7 +222,7 @@ pub fn add_unsigned<T: SignedWord, const F: u32>(a: Fixed<T, F>, b: Fixed<T::Uns
 /// The forms of a signed number minus an unsigned one.
 pub fn sub_unsigned<T: SignedWord, const F: u32>(a: Fixed<T, F>, b: Fixed<T::Unsigned, F>) -> Forms
     ensures { FormsAgree T.SIGNED T.BITS
-        (Some (exact_sub (T.value a.bits) (T.Unsigned.value b.bits))) result }
+        (Some (T.value a.bits -ℤ T.Unsigned.value b.bits)) result }
 {
     Forms {
         checked: bits_or_absent(a.checked_sub_unsigned(b)),

@@ -1,5 +1,5 @@
 -- Counts of the digits of a number, on its list.
-use Rattle.std.proofs.Common.{◌≡◌, ◌+◌, ◌-◌, ◌*◌, ◌/◌, ◌%◌, ◌^◌, ◌<◌, ◌≤◌, ℕ, zero, suc, cond, List, [], ◌∷◌, length, get_or, min, reverse, refl, ap, sym, ◌∙◌, arith, inl, inr}
+use Rattle.std.proofs.Common.{◌≡◌, ◌==◌, ◌+◌, ◌-◌, ◌*◌, ◌/◌, ◌%◌, ◌^◌, ◌<◌, ◌≤◌, ℕ, zero, suc, cond, List, [], ◌∷◌, length, get_or, min, reverse, refl, ap, sym, ◌∙◌, arith, inl, inr}
 use Rattle.std.proofs.lemmas.Bool.{cases_lt}
 use Rattle.std.proofs.lemmas.List.Sums.{sum_by-cons}
 use Rattle.std.proofs.lemmas.List.{get_or-reverse}
@@ -10,30 +10,30 @@ use Rattle.std.proofs.Math.Nat.{pow-suc, pow-le-pow_right}
 use Rattle.std.specs.Int.{bit_at}
 use lib.Count.{ones, ones_step, count_leading_zeros, count_trailing_zeros, under, leading_of_zero}
 use Rattle.std.specs.List.{count_by, prefix_len, suffix_len}
-use Rattle.fixed_bits.specs.Digits.{is_one, is_zero, lowest_digits}
+use Rattle.fixed_bits.specs.Digits.{lowest_digits}
 use Rattle.fixed_bits.proofs.Lists.{length_lowest, digit_at}
 
-one_as_test : (x : ℕ) → x % 2 ≡ cond (is_one (x % 2)) 1 0
+one_as_test : (x : ℕ) → x % 2 ≡ cond (x % 2 == 1) 1 0
 one_as_test x = grind arith
 
 half_below : (k x p : ℕ) → p ≡ 2 ^ k → x < 2 ^ suc k → x / 2 < 2 ^ k
 half_below k x p e h = let t = pow-suc 2 k in omega arith
 
-pub ones_list : (n p : ℕ) → p < 2 ^ n → ones p ≡ count_by is_one (lowest_digits 2 n p)
+pub ones_list : (n p : ℕ) → p < 2 ^ n → ones p ≡ count_by (λ d. d == 1) (lowest_digits 2 n p)
 unfolding lowest_digits ones
 ones_list zero p h = let e : p ≡ 0 = omega arith in rw e refl
-ones_list (suc n) p h = ones_step p ∙ ap (λ (x : ℕ). x + ones (p / 2)) (one_as_test p) ∙ ap (λ (x : ℕ). cond (is_one (p % 2)) 1 0 + x) (ones_list n (p / 2) (half_below n p (2 ^ n) refl h)) ∙ sym (sum_by-cons (λ x. cond (is_one x) 1 0) (p % 2) (lowest_digits 2 n (p / 2)))
+ones_list (suc n) p h = ones_step p ∙ ap (λ (x : ℕ). x + ones (p / 2)) (one_as_test p) ∙ ap (λ (x : ℕ). cond (p % 2 == 1) 1 0 + x) (ones_list n (p / 2) (half_below n p (2 ^ n) refl h)) ∙ sym (sum_by-cons (λ x. cond (x == 1) 1 0) (p % 2) (lowest_digits 2 n (p / 2)))
 
 -- ---- zeros at the low end
 
-under_is : (d t : ℕ) → d < 2 → under d t ≡ cond (is_zero d) (1 + t) 0
+under_is : (d t : ℕ) → d < 2 → under d t ≡ cond (d == 0) (1 + t) 0
 under_is zero t h = omega arith
 under_is (suc d) t h = grind arith
 
-trailing_is : (n p : ℕ) → count_trailing_zeros n p ≡ prefix_len is_zero (lowest_digits 2 n p)
+trailing_is : (n p : ℕ) → count_trailing_zeros n p ≡ prefix_len (λ d. d == 0) (lowest_digits 2 n p)
 unfolding lowest_digits count_trailing_zeros
 trailing_is zero p = refl
-trailing_is (suc n) p = under_is (p % 2) (count_trailing_zeros n (p / 2)) (omega arith) ∙ ap (λ (t : ℕ). cond (is_zero (p % 2)) (1 + t) 0) (trailing_is n (p / 2))
+trailing_is (suc n) p = under_is (p % 2) (count_trailing_zeros n (p / 2)) (omega arith) ∙ ap (λ (t : ℕ). cond (p % 2 == 0) (1 + t) 0) (trailing_is n (p / 2))
 
 trailing_min : (n m p : ℕ) → n ≤ m → min (count_trailing_zeros m p) n ≡ count_trailing_zeros n p
 unfolding count_trailing_zeros
@@ -45,12 +45,12 @@ trailing_min (suc n) (suc m) p h = step (p % 2) (count_trailing_zeros m (p / 2))
     step zero a b n e = omega arith
     step (suc d) a b n e = omega arith
 
-pub trailing_list : (n p : ℕ) → n ≤ 64 → min (count_trailing_zeros 64 p) n ≡ prefix_len is_zero (lowest_digits 2 n p)
+pub trailing_list : (n p : ℕ) → n ≤ 64 → min (count_trailing_zeros 64 p) n ≡ prefix_len (λ d. d == 0) (lowest_digits 2 n p)
 trailing_list n p h = trailing_min n 64 p h ∙ trailing_is n p
 
 -- ---- zeros at the high end
 
-prefix_is : (xs : List ℕ) (k : ℕ) → k ≤ length xs → ((i : ℕ) → i < k → get_or xs i 0 ≡ 0) → (k < length xs → get_or xs k 0 ≡ 1) → prefix_len is_zero xs ≡ k
+prefix_is : (xs : List ℕ) (k : ℕ) → k ≤ length xs → ((i : ℕ) → i < k → get_or xs i 0 ≡ 0) → (k < length xs → get_or xs k 0 ≡ 1) → prefix_len (λ d. d == 0) xs ≡ k
 prefix_is [] zero l z o = refl
 prefix_is [] (suc k) l z o = absurd (omega arith)
 prefix_is (x ∷ xs) zero l z o = let e : x ≡ 1 = o (omega arith) in rw e refl
@@ -68,7 +68,7 @@ top_digit p j l u = top p (2 ^ j) (2 ^ suc j) (pow-suc 2 j) (pow_pos j) l u
     top : (p q r : ℕ) → r ≡ q * 2 → 0 < q → q ≤ p → p < r → p / q % 2 ≡ 1
     top p q r e z l u = let d : p / q ≡ 1 = quotient_one p q z l (omega arith) in rw d refl
 
-leading_is : (n p : ℕ) → p < 2 ^ n → suffix_len is_zero (lowest_digits 2 n p) ≡ count_leading_zeros n p
+leading_is : (n p : ℕ) → p < 2 ^ n → suffix_len (λ d. d == 0) (lowest_digits 2 n p) ≡ count_leading_zeros n p
 leading_is n zero h =
     let c = length_lowest 2 n 0 in
     prefix_is (reverse (lowest_digits 2 n 0)) (count_leading_zeros n 0)
@@ -113,7 +113,7 @@ leading_more n m (suc p) h l =
       ]
     ]
 
-pub leading_list : (n p : ℕ) → n ≤ 64 → p < 2 ^ n → count_leading_zeros 64 p - (64 - n) ≡ suffix_len is_zero (lowest_digits 2 n p)
+pub leading_list : (n p : ℕ) → n ≤ 64 → p < 2 ^ n → count_leading_zeros 64 p - (64 - n) ≡ suffix_len (λ d. d == 0) (lowest_digits 2 n p)
 leading_list n p h l = leading_more n 64 p h l ∙ sym (leading_is n p l)
 
 -- there are enough zeros to take away

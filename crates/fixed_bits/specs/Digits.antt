@@ -1,5 +1,5 @@
 -- Words as lists of digits, the least first: of n bits, or of n / 8 bytes.
-use Rattle.std.specs.Prelude.{◌≡◌, ◌+◌, ◌-◌, ◌*◌, ◌/◌, ◌%◌, ◌^◌, ◌<◌, ◌==◌, ℕ, ℤ, zero, suc, pos, Bool, List, [], ◌∷◌, length, map}
+use Rattle.std.specs.Prelude.{◌≡◌, ◌+◌, ◌-◌, ◌*◌, ◌/◌, ◌%◌, ◌^◌, ◌<◌, ℕ, ℤ, zero, suc, pos, List, [], ◌∷◌, length, map}
 use Rattle.std.specs.List.{All, slice_index}
 use Rattle.fixed_word.specs.Format.{Congruent, modulo}
 
@@ -45,10 +45,3 @@ differ x y = (x + y) % 2
 pub record IsRotated (by : ℕ) (xs ys : List ℕ) : Type 0 where
   pub size : length ys ≡ length xs
   pub places : (i : ℕ) → i < length xs → slice_index ys ((i + by) % length xs) ≡ slice_index xs i
-
--- whether a digit is 0, or 1
-abbrev pub is_zero : ℕ → Bool
-is_zero d = d == 0
-
-abbrev pub is_one : ℕ → Bool
-is_one d = d == 1

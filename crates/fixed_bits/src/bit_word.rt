@@ -1,10 +1,10 @@
 //! The calls on the bits and bytes of a word.
 
-ghost use Rattle.std.specs.Prelude.{◌≡◌, ◌^◌, ◌<◌, ◌*ℤ◌, ℕ, List, pos, reverse, min, max, count_by};
+ghost use Rattle.std.specs.Prelude.{◌≡◌, ◌==◌, ◌^◌, ◌<◌, ◌*ℤ◌, ℕ, List, pos, reverse, min, max, count_by};
 ghost use Rattle.std.specs.List.{prefix_len, suffix_len};
 ghost use Rattle.fixed_word.specs.Format.{InRange, wrap};
 ghost use Rattle.fixed_word.specs.Quotient.{floor_quotient};
-ghost use Rattle.fixed_bits.specs.Digits.{IsRotated, bit_list, byte_list, complement, differ, is_one, is_zero, zip_with};
+ghost use Rattle.fixed_bits.specs.Digits.{IsRotated, bit_list, byte_list, complement, differ, zip_with};
 
 use crate::pattern::{pattern_of, rotated, word_of};
 use fixed_word::{RawWord, Valued, Word};
@@ -93,21 +93,21 @@ pub trait BitWord: Word {
 
     /// How many bits are 1.
     fn count_ones(self) -> u32
-        ensures { result ≡ count_by is_one (bit_list Self.BITS (Self.value self)) }
+        ensures { result ≡ count_by (λ d. d == 1) (bit_list Self.BITS (Self.value self)) }
     {
         pattern_of(self).count_ones()
     }
 
     /// How many of the highest bits are 0, before the first that is 1.
     fn leading_zeros(self) -> u32
-        ensures { result ≡ suffix_len is_zero (bit_list Self.BITS (Self.value self)) }
+        ensures { result ≡ suffix_len (λ d. d == 0) (bit_list Self.BITS (Self.value self)) }
     {
         pattern_of(self).leading_zeros() - (64 - Self::BITS)
     }
 
     /// How many of the lowest bits are 0, before the first that is 1.
     fn trailing_zeros(self) -> u32
-        ensures { result ≡ prefix_len is_zero (bit_list Self.BITS (Self.value self)) }
+        ensures { result ≡ prefix_len (λ d. d == 0) (bit_list Self.BITS (Self.value self)) }
     {
         pattern_of(self).trailing_zeros().min(Self::BITS)
     }

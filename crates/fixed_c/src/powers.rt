@@ -2,7 +2,8 @@
 #![tactic(auto, unfolding(crate::specs::Answers::CallAnswers, crate::specs::Answers::at_fraction, crate::specs::Answers::row_or))]
 
 ghost use Rattle.std.specs.Prelude.{◌≡◌, Ok};
-ghost use Rattle.fixed_kernel.specs.Rows.{by_sign, exact_next_power_of_two, exact_sqrt};
+ghost use Rattle.fixed_kernel.specs.Root.{root_of};
+ghost use Rattle.fixed_kernel.specs.Rows.{by_sign, exact_next_power_of_two};
 ghost use Rattle.fixed_c.specs.declared.answer.Code.TheVariants.{NegativeRoot};
 ghost use Rattle.fixed_c.specs.Answers.{CallAnswers, at_fraction, row_or};
 
@@ -14,7 +15,7 @@ use fixed_word::{RawWord, UnsignedWord, Word};
 #[inline]
 pub(crate) fn sqrt<T: Word>(a: T, frac: u32, bits: &mut T, side: &mut i32) -> i32
     ensures { CallAnswers T.value T.SIGNED T.BITS
-        (at_fraction T.BITS frac (row_or NegativeRoot (by_sign (T.value a) (exact_sqrt (T.value a) frac))))
+        (at_fraction T.BITS frac (row_or NegativeRoot (by_sign (T.value a) (root_of (T.value a) frac))))
         (bits.old, side.old) (bits.new, side.new) result }
 {
     if frac > T::BITS {

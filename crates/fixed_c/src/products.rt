@@ -1,9 +1,9 @@
 //! Products, rounded down.
 #![tactic(auto, unfolding(crate::specs::Answers::CallAnswers, crate::specs::Answers::at_fraction))]
 
-ghost use Rattle.std.specs.Prelude.{◌≡◌, ◌≤◌, Ok};
+ghost use Rattle.std.specs.Prelude.{◌≡◌, ◌≤◌, Ok, ◌*ℤ◌};
 ghost use Rattle.fixed_word.specs.Standing.{StandsFor};
-ghost use Rattle.fixed_kernel.specs.Rows.{exact_add_prod, exact_mul, exact_mul_add, exact_mul_int};
+ghost use Rattle.fixed_kernel.specs.Rows.{exact_add_prod, exact_mul, exact_mul_add};
 ghost use Rattle.fixed_c.specs.Answers.{CallAnswers, at_fraction};
 
 use crate::answer::{Code, leave};
@@ -27,7 +27,7 @@ pub(crate) fn mul<T: Word>(a: T, b: T, frac: u32, bits: &mut T, side: &mut i32) 
 #[inline]
 pub(crate) fn mul_int<T: Word>(a: T, k: T, bits: &mut T, side: &mut i32) -> i32
     ensures { CallAnswers T.value T.SIGNED T.BITS
-        (Ok (exact_mul_int (T.value a) (T.value k))) (bits.old, side.old) (bits.new, side.new) result }
+        (Ok (T.value a *ℤ T.value k)) (bits.old, side.old) (bits.new, side.new) result }
 {
     leave(mul_int_of(a, k), bits, side)
 }

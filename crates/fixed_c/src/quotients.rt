@@ -2,7 +2,8 @@
 #![tactic(auto, unfolding(crate::specs::Answers::CallAnswers, crate::specs::Answers::at_fraction, crate::specs::Answers::row_or))]
 
 ghost use Rattle.std.specs.Prelude.{◌≡◌};
-ghost use Rattle.fixed_kernel.specs.Rows.{by_divisor, exact_div, exact_div_euclid, exact_div_euclid_int, exact_div_int, exact_recip};
+ghost use Rattle.fixed_word.specs.Quotient.{truncated_quotient};
+ghost use Rattle.fixed_kernel.specs.Rows.{by_divisor, exact_div, exact_div_euclid, exact_recip, units};
 ghost use Rattle.fixed_c.specs.declared.answer.Code.TheVariants.{ZeroDivisor};
 ghost use Rattle.fixed_c.specs.Answers.{CallAnswers, at_fraction, row_or};
 
@@ -30,7 +31,7 @@ pub(crate) fn div<T: Word>(a: T, b: T, frac: u32, bits: &mut T, side: &mut i32) 
 #[inline]
 pub(crate) fn div_int<T: Word>(a: T, k: T, bits: &mut T, side: &mut i32) -> i32
     ensures { CallAnswers T.value T.SIGNED T.BITS
-        (row_or ZeroDivisor (by_divisor (T.value k) (exact_div_int (T.value a) (T.value k))))
+        (row_or ZeroDivisor (by_divisor (T.value k) (truncated_quotient (T.value a) (T.value k))))
         (bits.old, side.old) (bits.new, side.new) result }
 {
     if k == T::ZERO {
@@ -75,7 +76,7 @@ pub(crate) fn div_euclid<T: Word>(a: T, b: T, frac: u32, bits: &mut T, side: &mu
 #[inline]
 pub(crate) fn div_euclid_int<T: Word>(a: T, k: T, frac: u32, bits: &mut T, side: &mut i32) -> i32
     ensures { CallAnswers T.value T.SIGNED T.BITS
-        (at_fraction T.BITS frac (row_or ZeroDivisor (by_divisor (T.value k) (exact_div_euclid_int (T.value a) (T.value k) frac))))
+        (at_fraction T.BITS frac (row_or ZeroDivisor (by_divisor (T.value k) (exact_div_euclid (T.value a) (units (T.value k) frac) frac))))
         (bits.old, side.old) (bits.new, side.new) result }
 {
     if frac > T::BITS {

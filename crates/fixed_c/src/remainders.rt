@@ -2,7 +2,8 @@
 #![tactic(auto, unfolding(crate::specs::Answers::CallAnswers, crate::specs::Answers::at_fraction, crate::specs::Answers::row_or))]
 
 ghost use Rattle.std.specs.Prelude.{◌≡◌};
-ghost use Rattle.fixed_kernel.specs.Rows.{by_divisor, exact_next_multiple_of, exact_rem, exact_rem_euclid, exact_rem_euclid_int, exact_rem_int};
+ghost use Rattle.fixed_word.specs.Quotient.{euclidean_remainder};
+ghost use Rattle.fixed_kernel.specs.Rows.{by_divisor, exact_next_multiple_of, exact_rem, units};
 ghost use Rattle.fixed_c.specs.declared.answer.Code.TheVariants.{ZeroDivisor};
 ghost use Rattle.fixed_c.specs.Answers.{CallAnswers, at_fraction, row_or};
 
@@ -27,7 +28,7 @@ pub(crate) fn rem<T: Word>(a: T, b: T, bits: &mut T, side: &mut i32) -> i32
 #[inline]
 pub(crate) fn rem_int<T: Word>(a: T, k: T, frac: u32, bits: &mut T, side: &mut i32) -> i32
     ensures { CallAnswers T.value T.SIGNED T.BITS
-        (at_fraction T.BITS frac (row_or ZeroDivisor (by_divisor (T.value k) (exact_rem_int (T.value a) (T.value k) frac))))
+        (at_fraction T.BITS frac (row_or ZeroDivisor (by_divisor (T.value k) (exact_rem (T.value a) (units (T.value k) frac)))))
         (bits.old, side.old) (bits.new, side.new) result }
 {
     if frac > T::BITS {
@@ -43,7 +44,7 @@ pub(crate) fn rem_int<T: Word>(a: T, k: T, frac: u32, bits: &mut T, side: &mut i
 #[inline]
 pub(crate) fn rem_euclid<T: Word>(a: T, b: T, bits: &mut T, side: &mut i32) -> i32
     ensures { CallAnswers T.value T.SIGNED T.BITS
-        (row_or ZeroDivisor (by_divisor (T.value b) (exact_rem_euclid (T.value a) (T.value b))))
+        (row_or ZeroDivisor (by_divisor (T.value b) (euclidean_remainder (T.value a) (T.value b))))
         (bits.old, side.old) (bits.new, side.new) result }
 {
     if b == T::ZERO {
@@ -56,7 +57,7 @@ pub(crate) fn rem_euclid<T: Word>(a: T, b: T, bits: &mut T, side: &mut i32) -> i
 #[inline]
 pub(crate) fn rem_euclid_int<T: Word>(a: T, k: T, frac: u32, bits: &mut T, side: &mut i32) -> i32
     ensures { CallAnswers T.value T.SIGNED T.BITS
-        (at_fraction T.BITS frac (row_or ZeroDivisor (by_divisor (T.value k) (exact_rem_euclid_int (T.value a) (T.value k) frac))))
+        (at_fraction T.BITS frac (row_or ZeroDivisor (by_divisor (T.value k) (euclidean_remainder (T.value a) (units (T.value k) frac)))))
         (bits.old, side.old) (bits.new, side.new) result }
 {
     if frac > T::BITS {

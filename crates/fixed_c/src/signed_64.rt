@@ -1,7 +1,9 @@
 //! The calls of `i64`.
 
-ghost use Rattle.std.specs.Prelude.{◌≡◌, Ok, true};
-ghost use Rattle.fixed_kernel.specs.Rows.{by_divisor, by_sign, exact_abs, exact_add, exact_add_prod, exact_dist, exact_div, exact_div_euclid, exact_div_euclid_int, exact_div_int, exact_mul, exact_mul_add, exact_mul_int, exact_neg, exact_next_multiple_of, exact_recip, exact_rem, exact_rem_euclid, exact_rem_euclid_int, exact_rem_int, exact_signum, exact_sqrt, exact_sub};
+ghost use Rattle.std.specs.Prelude.{◌≡◌, Ok, true, neg_ℤ, ◌*ℤ◌, ◌+ℤ◌, ◌-ℤ◌};
+ghost use Rattle.fixed_word.specs.Quotient.{euclidean_remainder, truncated_quotient};
+ghost use Rattle.fixed_kernel.specs.Root.{root_of};
+ghost use Rattle.fixed_kernel.specs.Rows.{by_divisor, by_sign, exact_abs, exact_add_prod, exact_dist, exact_div, exact_div_euclid, exact_mul, exact_mul_add, exact_next_multiple_of, exact_recip, exact_rem, exact_signum, units};
 ghost use Rattle.fixed_c.specs.declared.answer.Code.TheVariants.{ZeroDivisor, NegativeRoot};
 ghost use Rattle.fixed_c.specs.Answers.{at_fraction, row_or};
 ghost use Rattle.fixed_c.specs.Filters.{filter_of, fractions, output_in, past_after};
@@ -18,7 +20,7 @@ use fixed_filter::Shape;
 /// `-a`
 #[unsafe(no_mangle)]
 pub extern "C" fn fixed_i64_neg(a: i64, answer: &mut AnswerI64) -> i32
-    ensures { AnswersI64 (Ok (exact_neg a)) answer.old answer.new result }
+    ensures { AnswersI64 (Ok (neg_ℤ a)) answer.old answer.new result }
 {
     sums::neg(a, &mut answer.bits, &mut answer.side)
 }
@@ -26,7 +28,7 @@ pub extern "C" fn fixed_i64_neg(a: i64, answer: &mut AnswerI64) -> i32
 /// `a + b`
 #[unsafe(no_mangle)]
 pub extern "C" fn fixed_i64_add(a: i64, b: i64, answer: &mut AnswerI64) -> i32
-    ensures { AnswersI64 (Ok (exact_add a b)) answer.old answer.new result }
+    ensures { AnswersI64 (Ok (a +ℤ b)) answer.old answer.new result }
 {
     sums::add(a, b, &mut answer.bits, &mut answer.side)
 }
@@ -34,7 +36,7 @@ pub extern "C" fn fixed_i64_add(a: i64, b: i64, answer: &mut AnswerI64) -> i32
 /// `a - b`
 #[unsafe(no_mangle)]
 pub extern "C" fn fixed_i64_sub(a: i64, b: i64, answer: &mut AnswerI64) -> i32
-    ensures { AnswersI64 (Ok (exact_sub a b)) answer.old answer.new result }
+    ensures { AnswersI64 (Ok (a -ℤ b)) answer.old answer.new result }
 {
     sums::sub(a, b, &mut answer.bits, &mut answer.side)
 }
@@ -74,7 +76,7 @@ pub extern "C" fn fixed_i64_mul(a: i64, b: i64, frac: u32, answer: &mut AnswerI6
 /// `a k`, for an integer `k`.
 #[unsafe(no_mangle)]
 pub extern "C" fn fixed_i64_mul_int(a: i64, k: i64, answer: &mut AnswerI64) -> i32
-    ensures { AnswersI64 (Ok (exact_mul_int a k)) answer.old answer.new result }
+    ensures { AnswersI64 (Ok (a *ℤ k)) answer.old answer.new result }
 {
     products::mul_int(a, k, &mut answer.bits, &mut answer.side)
 }
@@ -137,7 +139,7 @@ pub extern "C" fn fixed_i64_div(a: i64, b: i64, frac: u32, answer: &mut AnswerI6
 /// `a / k`, rounded toward zero, for an integer `k`.
 #[unsafe(no_mangle)]
 pub extern "C" fn fixed_i64_div_int(a: i64, k: i64, answer: &mut AnswerI64) -> i32
-    ensures { AnswersI64 (row_or ZeroDivisor (by_divisor k (exact_div_int a k))) answer.old answer.new result }
+    ensures { AnswersI64 (row_or ZeroDivisor (by_divisor k (truncated_quotient a k))) answer.old answer.new result }
 {
     quotients::div_int(a, k, &mut answer.bits, &mut answer.side)
 }
@@ -166,7 +168,7 @@ pub extern "C" fn fixed_i64_div_euclid(a: i64, b: i64, frac: u32, answer: &mut A
 #[unsafe(no_mangle)]
 pub extern "C" fn fixed_i64_div_euclid_int(a: i64, k: i64, frac: u32, answer: &mut AnswerI64) -> i32
     ensures { AnswersI64
-        (at_fraction 64 frac (row_or ZeroDivisor (by_divisor k (exact_div_euclid_int a k frac))))
+        (at_fraction 64 frac (row_or ZeroDivisor (by_divisor k (exact_div_euclid a (units k frac) frac))))
         answer.old answer.new result }
 {
     quotients::div_euclid_int(a, k, frac, &mut answer.bits, &mut answer.side)
@@ -184,7 +186,7 @@ pub extern "C" fn fixed_i64_rem(a: i64, b: i64, answer: &mut AnswerI64) -> i32
 #[unsafe(no_mangle)]
 pub extern "C" fn fixed_i64_rem_int(a: i64, k: i64, frac: u32, answer: &mut AnswerI64) -> i32
     ensures { AnswersI64
-        (at_fraction 64 frac (row_or ZeroDivisor (by_divisor k (exact_rem_int a k frac))))
+        (at_fraction 64 frac (row_or ZeroDivisor (by_divisor k (exact_rem a (units k frac)))))
         answer.old answer.new result }
 {
     remainders::rem_int(a, k, frac, &mut answer.bits, &mut answer.side)
@@ -194,7 +196,7 @@ pub extern "C" fn fixed_i64_rem_int(a: i64, k: i64, frac: u32, answer: &mut Answ
 #[unsafe(no_mangle)]
 pub extern "C" fn fixed_i64_rem_euclid(a: i64, b: i64, answer: &mut AnswerI64) -> i32
     ensures { AnswersI64
-        (row_or ZeroDivisor (by_divisor b (exact_rem_euclid a b)))
+        (row_or ZeroDivisor (by_divisor b (euclidean_remainder a b)))
         answer.old answer.new result }
 {
     remainders::rem_euclid(a, b, &mut answer.bits, &mut answer.side)
@@ -204,7 +206,7 @@ pub extern "C" fn fixed_i64_rem_euclid(a: i64, b: i64, answer: &mut AnswerI64) -
 #[unsafe(no_mangle)]
 pub extern "C" fn fixed_i64_rem_euclid_int(a: i64, k: i64, frac: u32, answer: &mut AnswerI64) -> i32
     ensures { AnswersI64
-        (at_fraction 64 frac (row_or ZeroDivisor (by_divisor k (exact_rem_euclid_int a k frac))))
+        (at_fraction 64 frac (row_or ZeroDivisor (by_divisor k (euclidean_remainder a (units k frac)))))
         answer.old answer.new result }
 {
     remainders::rem_euclid_int(a, k, frac, &mut answer.bits, &mut answer.side)
@@ -225,7 +227,7 @@ pub extern "C" fn fixed_i64_next_multiple_of(a: i64, b: i64, answer: &mut Answer
 #[unsafe(no_mangle)]
 pub extern "C" fn fixed_i64_sqrt(a: i64, frac: u32, answer: &mut AnswerI64) -> i32
     ensures { AnswersI64
-        (at_fraction 64 frac (row_or NegativeRoot (by_sign a (exact_sqrt a frac))))
+        (at_fraction 64 frac (row_or NegativeRoot (by_sign a (root_of a frac))))
         answer.old answer.new result }
 {
     powers::sqrt(a, frac, &mut answer.bits, &mut answer.side)

@@ -1,8 +1,8 @@
 //! Sums, differences, magnitudes and signs.
 #![tactic(auto, unfolding(crate::specs::Answers::CallAnswers, crate::specs::Answers::at_fraction))]
 
-ghost use Rattle.std.specs.Prelude.{◌≡◌, Ok};
-ghost use Rattle.fixed_kernel.specs.Rows.{exact_abs, exact_add, exact_dist, exact_neg, exact_signum, exact_sub};
+ghost use Rattle.std.specs.Prelude.{◌≡◌, Ok, neg_ℤ, ◌+ℤ◌, ◌-ℤ◌};
+ghost use Rattle.fixed_kernel.specs.Rows.{exact_abs, exact_dist, exact_signum};
 ghost use Rattle.fixed_c.specs.Answers.{CallAnswers, at_fraction};
 
 use crate::answer::{Code, leave};
@@ -13,7 +13,7 @@ use fixed_word::{SignedWord, Word};
 #[inline]
 pub(crate) fn neg<T: Word>(a: T, bits: &mut T, side: &mut i32) -> i32
     ensures { CallAnswers T.value T.SIGNED T.BITS
-        (Ok (exact_neg (T.value a))) (bits.old, side.old) (bits.new, side.new) result }
+        (Ok (neg_ℤ (T.value a))) (bits.old, side.old) (bits.new, side.new) result }
 {
     leave(neg_of(a), bits, side)
 }
@@ -22,7 +22,7 @@ pub(crate) fn neg<T: Word>(a: T, bits: &mut T, side: &mut i32) -> i32
 #[inline]
 pub(crate) fn add<T: Word>(a: T, b: T, bits: &mut T, side: &mut i32) -> i32
     ensures { CallAnswers T.value T.SIGNED T.BITS
-        (Ok (exact_add (T.value a) (T.value b))) (bits.old, side.old) (bits.new, side.new) result }
+        (Ok (T.value a +ℤ T.value b)) (bits.old, side.old) (bits.new, side.new) result }
 {
     leave(add_of(a, b), bits, side)
 }
@@ -31,7 +31,7 @@ pub(crate) fn add<T: Word>(a: T, b: T, bits: &mut T, side: &mut i32) -> i32
 #[inline]
 pub(crate) fn sub<T: Word>(a: T, b: T, bits: &mut T, side: &mut i32) -> i32
     ensures { CallAnswers T.value T.SIGNED T.BITS
-        (Ok (exact_sub (T.value a) (T.value b))) (bits.old, side.old) (bits.new, side.new) result }
+        (Ok (T.value a -ℤ T.value b)) (bits.old, side.old) (bits.new, side.new) result }
 {
     leave(sub_of(a, b), bits, side)
 }

@@ -1,7 +1,9 @@
 //! The calls of `u32`.
 
-ghost use Rattle.std.specs.Prelude.{◌≡◌, Ok, false, pos};
-ghost use Rattle.fixed_kernel.specs.Rows.{by_divisor, by_sign, exact_add, exact_add_prod, exact_dist, exact_div, exact_div_euclid, exact_div_euclid_int, exact_div_int, exact_mul, exact_mul_add, exact_mul_int, exact_neg, exact_next_multiple_of, exact_next_power_of_two, exact_recip, exact_rem, exact_rem_euclid, exact_rem_euclid_int, exact_rem_int, exact_sqrt, exact_sub};
+ghost use Rattle.std.specs.Prelude.{◌≡◌, Ok, false, pos, neg_ℤ, ◌*ℤ◌, ◌+ℤ◌, ◌-ℤ◌};
+ghost use Rattle.fixed_word.specs.Quotient.{euclidean_remainder, truncated_quotient};
+ghost use Rattle.fixed_kernel.specs.Root.{root_of};
+ghost use Rattle.fixed_kernel.specs.Rows.{by_divisor, by_sign, exact_add_prod, exact_dist, exact_div, exact_div_euclid, exact_mul, exact_mul_add, exact_next_multiple_of, exact_next_power_of_two, exact_recip, exact_rem, units};
 ghost use Rattle.fixed_c.specs.declared.answer.Code.TheVariants.{ZeroDivisor, NegativeRoot};
 ghost use Rattle.fixed_c.specs.Answers.{at_fraction, row_or};
 ghost use Rattle.fixed_c.specs.Filters.{filter_of, fractions, output_in, past_after};
@@ -18,7 +20,7 @@ use fixed_filter::Shape;
 /// `-a`
 #[unsafe(no_mangle)]
 pub extern "C" fn fixed_u32_neg(a: u32, answer: &mut AnswerU32) -> i32
-    ensures { AnswersU32 (Ok (exact_neg (pos a))) answer.old answer.new result }
+    ensures { AnswersU32 (Ok (neg_ℤ (pos a))) answer.old answer.new result }
 {
     sums::neg(a, &mut answer.bits, &mut answer.side)
 }
@@ -26,7 +28,7 @@ pub extern "C" fn fixed_u32_neg(a: u32, answer: &mut AnswerU32) -> i32
 /// `a + b`
 #[unsafe(no_mangle)]
 pub extern "C" fn fixed_u32_add(a: u32, b: u32, answer: &mut AnswerU32) -> i32
-    ensures { AnswersU32 (Ok (exact_add (pos a) (pos b))) answer.old answer.new result }
+    ensures { AnswersU32 (Ok (pos a +ℤ pos b)) answer.old answer.new result }
 {
     sums::add(a, b, &mut answer.bits, &mut answer.side)
 }
@@ -34,7 +36,7 @@ pub extern "C" fn fixed_u32_add(a: u32, b: u32, answer: &mut AnswerU32) -> i32
 /// `a - b`
 #[unsafe(no_mangle)]
 pub extern "C" fn fixed_u32_sub(a: u32, b: u32, answer: &mut AnswerU32) -> i32
-    ensures { AnswersU32 (Ok (exact_sub (pos a) (pos b))) answer.old answer.new result }
+    ensures { AnswersU32 (Ok (pos a -ℤ pos b)) answer.old answer.new result }
 {
     sums::sub(a, b, &mut answer.bits, &mut answer.side)
 }
@@ -58,7 +60,7 @@ pub extern "C" fn fixed_u32_mul(a: u32, b: u32, frac: u32, answer: &mut AnswerU3
 /// `a k`, for an integer `k`.
 #[unsafe(no_mangle)]
 pub extern "C" fn fixed_u32_mul_int(a: u32, k: u32, answer: &mut AnswerU32) -> i32
-    ensures { AnswersU32 (Ok (exact_mul_int (pos a) (pos k))) answer.old answer.new result }
+    ensures { AnswersU32 (Ok (pos a *ℤ pos k)) answer.old answer.new result }
 {
     products::mul_int(a, k, &mut answer.bits, &mut answer.side)
 }
@@ -122,7 +124,7 @@ pub extern "C" fn fixed_u32_div(a: u32, b: u32, frac: u32, answer: &mut AnswerU3
 #[unsafe(no_mangle)]
 pub extern "C" fn fixed_u32_div_int(a: u32, k: u32, answer: &mut AnswerU32) -> i32
     ensures { AnswersU32
-        (row_or ZeroDivisor (by_divisor (pos k) (exact_div_int (pos a) (pos k))))
+        (row_or ZeroDivisor (by_divisor (pos k) (truncated_quotient (pos a) (pos k))))
         answer.old answer.new result }
 {
     quotients::div_int(a, k, &mut answer.bits, &mut answer.side)
@@ -152,7 +154,7 @@ pub extern "C" fn fixed_u32_div_euclid(a: u32, b: u32, frac: u32, answer: &mut A
 #[unsafe(no_mangle)]
 pub extern "C" fn fixed_u32_div_euclid_int(a: u32, k: u32, frac: u32, answer: &mut AnswerU32) -> i32
     ensures { AnswersU32
-        (at_fraction 32 frac (row_or ZeroDivisor (by_divisor (pos k) (exact_div_euclid_int (pos a) (pos k) frac))))
+        (at_fraction 32 frac (row_or ZeroDivisor (by_divisor (pos k) (exact_div_euclid (pos a) (units (pos k) frac) frac))))
         answer.old answer.new result }
 {
     quotients::div_euclid_int(a, k, frac, &mut answer.bits, &mut answer.side)
@@ -172,7 +174,7 @@ pub extern "C" fn fixed_u32_rem(a: u32, b: u32, answer: &mut AnswerU32) -> i32
 #[unsafe(no_mangle)]
 pub extern "C" fn fixed_u32_rem_int(a: u32, k: u32, frac: u32, answer: &mut AnswerU32) -> i32
     ensures { AnswersU32
-        (at_fraction 32 frac (row_or ZeroDivisor (by_divisor (pos k) (exact_rem_int (pos a) (pos k) frac))))
+        (at_fraction 32 frac (row_or ZeroDivisor (by_divisor (pos k) (exact_rem (pos a) (units (pos k) frac)))))
         answer.old answer.new result }
 {
     remainders::rem_int(a, k, frac, &mut answer.bits, &mut answer.side)
@@ -182,7 +184,7 @@ pub extern "C" fn fixed_u32_rem_int(a: u32, k: u32, frac: u32, answer: &mut Answ
 #[unsafe(no_mangle)]
 pub extern "C" fn fixed_u32_rem_euclid(a: u32, b: u32, answer: &mut AnswerU32) -> i32
     ensures { AnswersU32
-        (row_or ZeroDivisor (by_divisor (pos b) (exact_rem_euclid (pos a) (pos b))))
+        (row_or ZeroDivisor (by_divisor (pos b) (euclidean_remainder (pos a) (pos b))))
         answer.old answer.new result }
 {
     remainders::rem_euclid(a, b, &mut answer.bits, &mut answer.side)
@@ -192,7 +194,7 @@ pub extern "C" fn fixed_u32_rem_euclid(a: u32, b: u32, answer: &mut AnswerU32) -
 #[unsafe(no_mangle)]
 pub extern "C" fn fixed_u32_rem_euclid_int(a: u32, k: u32, frac: u32, answer: &mut AnswerU32) -> i32
     ensures { AnswersU32
-        (at_fraction 32 frac (row_or ZeroDivisor (by_divisor (pos k) (exact_rem_euclid_int (pos a) (pos k) frac))))
+        (at_fraction 32 frac (row_or ZeroDivisor (by_divisor (pos k) (euclidean_remainder (pos a) (units (pos k) frac)))))
         answer.old answer.new result }
 {
     remainders::rem_euclid_int(a, k, frac, &mut answer.bits, &mut answer.side)
@@ -213,7 +215,7 @@ pub extern "C" fn fixed_u32_next_multiple_of(a: u32, b: u32, answer: &mut Answer
 #[unsafe(no_mangle)]
 pub extern "C" fn fixed_u32_sqrt(a: u32, frac: u32, answer: &mut AnswerU32) -> i32
     ensures { AnswersU32
-        (at_fraction 32 frac (row_or NegativeRoot (by_sign (pos a) (exact_sqrt (pos a) frac))))
+        (at_fraction 32 frac (row_or NegativeRoot (by_sign (pos a) (root_of (pos a) frac))))
         answer.old answer.new result }
 {
     powers::sqrt(a, frac, &mut answer.bits, &mut answer.side)

@@ -17,8 +17,8 @@ use Rattle.fixed_script.specs.declared.line.Shape.{Shape}
 use Rattle.fixed_script.specs.declared.line.Shape.TheVariants.{Unary, Binary, ByInteger, Ternary}
 use Rattle.fixed_script.specs.declared.line.Line.{Line}
 use Rattle.fixed_script.specs.declared.line.Line.TheVariants.{Set, One, Two, Int, Three}
-use Rattle.fixed_script.specs.Names.{policy_name, op_name, rounding_name}
-use Rattle.fixed_script.specs.Text.{ScriptHeader, ScriptLine, SetTo, Apply, Operands, OneRegister, TwoRegisters, RegisterAndInt, ThreeRegisters, IsLine, shape, may_round, register_text, operand_tokens, header_text, line_text}
+use Rattle.fixed_script.specs.Names.{policy_name, op_name, rounding_name, shape, default_rounding}
+use Rattle.fixed_script.specs.Text.{ScriptHeader, ScriptLine, SetTo, Apply, Operands, OneRegister, TwoRegisters, RegisterAndInt, ThreeRegisters, IsLine, may_round, register_text, operand_tokens, header_text, line_text}
 use Rattle.fixed_script.specs.Capped.{capped, checked_script_line, literal_value, of_shape}
 use Rattle.fixed_script.specs.Lines.{line_of, line_of_piece, header_of_piece}
 use Rattle.fixed_script.proofs.TextsRead.{reads_lines}
@@ -29,7 +29,7 @@ use Rattle.fixed_machine.specs.Rows.{exact, exact_rounded}
 use Rattle.fixed_machine.specs.Projection.{project}
 use Rattle.fixed_machine.specs.Meaning.{Run, by_cause, step_then, run_lines, run_from, run_pieces, run_of, start, fractions_of, has_wide, stopped, meaning_with}
 use Rattle.fixed_machine.specs.declared.cause.Cause.TheVariants.{Syntax, OutOfRange, FractionMismatch}
-use Rattle.fixed_calc.specs.Spelled.{default_rounding, spelled_line, Spelling, Written, NoForm, in_front, spell_then, spelled_lines, spelled_from, spelled_pieces, spelled, KeepsMeaning}
+use Rattle.fixed_calc.specs.Spelled.{spelled_line, Spelling, Written, NoForm, in_front, spell_then, spelled_lines, spelled_from, spelled_pieces, spelled, KeepsMeaning}
 use Rattle.fixed_calc.specs.inside.Spelling.{added_to, with_end}
 use Rattle.fixed_machine.specs.inside.Stepping.{script_line_of}
 use Rattle.fixed_calc.proofs.Before.{join_last}

@@ -1,11 +1,8 @@
 -- A script in which each line that may name a rounding does.
 use Rattle.std.specs.Prelude.{◌≡◌, ◌+◌, ◌++◌, ℕ, List, [], ◌∷◌, Option, Some, None, Result, Ok, Err}
 use Rattle.std.specs.Bool.{⊤}
-use Rattle.fixed_word.specs.declared.rounding.Rounding.{Rounding}
-use Rattle.fixed_word.specs.declared.rounding.Rounding.TheVariants.{Down, Zero}
 use Rattle.fixed_word.specs.Pieces.{pieces}
-use Rattle.fixed_script.specs.declared.names.Op.{Op}
-use Rattle.fixed_script.specs.declared.names.Op.TheVariants.{Mul, Div, Recip, MulAdd, AddProd, DivInt}
+use Rattle.fixed_script.specs.Names.{default_rounding}
 use Rattle.fixed_script.specs.Text.{ScriptHeader, ScriptLine, SetTo, Apply, header_text, line_text}
 use Rattle.fixed_script.specs.Lines.{header_of_piece, line_of_piece}
 use Rattle.fixed_machine.specs.Answers.{ended}
@@ -13,16 +10,7 @@ use Rattle.fixed_machine.specs.Meaning.{meaning}
 use Rattle.fixed_calc.specs.declared.spelled.ExplicitFault.{ExplicitFault}
 use Rattle.fixed_calc.specs.declared.spelled.ExplicitFault.TheVariants.{Syntax, Memory}
 
--- the rounding of an operation whose line names none
-abbrev pub default_rounding : Op → Option Rounding
-default_rounding Mul = Some Down
-default_rounding MulAdd = Some Down
-default_rounding AddProd = Some Down
-default_rounding Div = Some Zero
-default_rounding Recip = Some Zero
-default_rounding DivInt = Some Zero
-default_rounding _ = None
-
+-- the line, with the rounding that it has
 abbrev pub spelled_line : ScriptLine → ScriptLine
 spelled_line (SetTo dest k) = SetTo dest k
 spelled_line (Apply dest policy op xs None) = Apply dest policy op xs (default_rounding op)

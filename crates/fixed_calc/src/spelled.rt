@@ -2,8 +2,8 @@
 
 ghost use Rattle.std.specs.Prelude.{◌≡◌, ◌<◌, ◌∷◌, ◌++◌, [], length, IfErr, IfOk, OnOk};
 ghost use Rattle.fixed_word.specs.Pieces.{pieces};
-ghost use Rattle.fixed_script.specs.Names.{rounding_name};
-ghost use Rattle.fixed_calc.specs.Spelled.{IsAnswerOfSpelling, default_rounding, in_front, spelled, spelled_lines};
+ghost use Rattle.fixed_script.specs.Names.{rounding_name, default_rounding};
+ghost use Rattle.fixed_calc.specs.Spelled.{IsAnswerOfSpelling, in_front, spelled, spelled_lines};
 ghost use Rattle.fixed_calc.specs.inside.Spelling.{SpellsAll, HasSpelled, StopsSpelling, added_to, with_end};
 ghost use Rattle.fixed_machine.specs.inside.Stepping.{script_line_of};
 

@@ -9,7 +9,7 @@ use Rattle.fixed_word.specs.Format.{InRange}
 use Rattle.fixed_word.specs.Quotient.{floor_quotient, euclidean_quotient, euclidean_remainder, IsEuclidean}
 use Rattle.fixed_word.proofs.Sides.{lowest_sign, highest_sign}
 use Rattle.fixed_word.proofs.QuotientLaws.{euclidean_is, euclid_unique}
-use Rattle.fixed_kernel.specs.Rows.{by_divisor, by_sign, exact_mul, exact_rem, exact_rem_euclid, exact_next_multiple_of}
+use Rattle.fixed_kernel.specs.Rows.{by_divisor, by_sign, exact_mul, exact_rem, exact_next_multiple_of}
 use Rattle.fixed_kernel.specs.RowLaws.{IsFromZero, IsNextMultiple, IsOffZero}
 
 -- ---- remainders
@@ -51,7 +51,7 @@ below_magnitude false n b r w z h =
     let p = pow_pos n in
     (omega (arith, ints), omega (arith, ints))
 
-pub rem_euclid_fits : (s : Bool) (n : ℕ) (a b : ℤ) → InRange s n b → b ≢ pos 0 → InRange s n (exact_rem_euclid a b)
+pub rem_euclid_fits : (s : Bool) (n : ℕ) (a b : ℤ) → InRange s n b → b ≢ pos 0 → InRange s n (euclidean_remainder a b)
 rem_euclid_fits s n a b w h =
     let e = euclidean_is a b h in
     below_magnitude s n b (euclidean_remainder a b) w e.from_zero e.small

@@ -1,18 +1,18 @@
 -- Which exact numbers fit: on unsigned words, and on signed words at all operands but the named ones.
 use Rattle.std.proofs.Common.{◌≡◌, ◌≢◌, ◌⊎◌, ◌+◌, ◌-◌, ◌*◌, ◌/◌, ◌^◌, ◌<◌, ◌≤◌, ◌≤ℤ◌, ◌<ℤ◌, ◌*ℤ◌, ℕ, ℤ, zero, suc, Bool, true, false, pos, negsuc, neg_ℤ, refl, ap, sym, subst, ◌∙◌, arith, inl, inr}
-use Rattle.std.specs.Prelude.{◌↔◌, unsigned_abs}
+use Rattle.std.specs.Prelude.{◌↔◌, unsigned_abs, neg_ℤ}
 use Rattle.std.proofs.lemmas.Int.{ints}
 use Rattle.std.proofs.lemmas.Nat.{div-add-mod', mul-le, pow_pos}
 use Rattle.std.proofs.lemmas.Bool.{cases_lt}
 use Rattle.std.proofs.Math.Nat.{pow-le-pow_right}
 use Rattle.fixed_word.specs.Format.{IsWidth, lowest, highest, InRange}
-use Rattle.fixed_word.specs.Quotient.{euclidean_quotient}
+use Rattle.fixed_word.specs.Quotient.{euclidean_quotient, euclidean_remainder, truncated_quotient}
 use Rattle.fixed_word.proofs.Wraps.{double, width_pos}
 use Rattle.fixed_word.proofs.Nearest.{cases_int}
 use Rattle.fixed_word.proofs.Sides.{lowest_sign, highest_sign}
 use Rattle.fixed_root.specs.Root.{IsRoot, root_of}
 use Rattle.fixed_root.proofs.RootLaws.{root_of_is}
-use Rattle.fixed_kernel.specs.Rows.{exact_abs, exact_dist, exact_div_euclid_int, exact_div_int, exact_neg, exact_rem_euclid_int, exact_signum, exact_sqrt}
+use Rattle.fixed_kernel.specs.Rows.{exact_abs, exact_dist, exact_div_euclid, exact_signum, units}
 use Rattle.fixed_kernel.specs.RowLaws.{Misses}
 
 -- ---- in and out of the range
@@ -62,7 +62,7 @@ root_squares a f = squares (root_of (pos a) f) (root_of_is (pos a) f (omega (ari
         (q, (refl, (omega (arith, ints), omega (arith, ints))))
     squares (negsuc q) h = let z = h.from_zero in absurd (omega (arith, ints))
 
-pub sqrt_unsigned : (n f : ℕ) (a : ℤ) → f ≤ n → InRange false n a → InRange false n (exact_sqrt a f)
+pub sqrt_unsigned : (n f : ℕ) (a : ℤ) → f ≤ n → InRange false n a → InRange false n (root_of a f)
 sqrt_unsigned n f (pos a) l w =
     let h = w.1 in
     let r = root_squares a f in
@@ -92,7 +92,7 @@ over_at_most a m h =
     let p = mul-le (a / m) 1 (a / m) m l h in
     omega arith
 
-pub div_int_unsigned : (n : ℕ) (a k : ℤ) → InRange false n a → InRange false n k → k ≢ pos 0 → InRange false n (exact_div_int a k)
+pub div_int_unsigned : (n : ℕ) (a k : ℤ) → InRange false n a → InRange false n k → k ≢ pos 0 → InRange false n (truncated_quotient a k)
 div_int_unsigned n (pos a) (pos zero) v w h = absurd (h refl)
 div_int_unsigned n (pos a) (pos (suc k)) v w h =
     let u = v.1 in
@@ -115,7 +115,7 @@ units_at_most a k p h g =
     let u = mul-le (a / (k * p)) p (a / (k * p)) (k * p) t (omega arith) in
     omega arith
 
-pub div_euclid_int_unsigned : (n f : ℕ) (a k : ℤ) → InRange false n a → InRange false n k → k ≢ pos 0 → InRange false n (exact_div_euclid_int a k f)
+pub div_euclid_int_unsigned : (n f : ℕ) (a k : ℤ) → InRange false n a → InRange false n k → k ≢ pos 0 → InRange false n (exact_div_euclid a (units k f) f)
 div_euclid_int_unsigned n f (pos a) (pos zero) v w h = absurd (h refl)
 div_euclid_int_unsigned n f (pos a) (pos (suc k)) v w h =
     let u = v.1 in
@@ -129,7 +129,7 @@ div_euclid_int_unsigned n f (pos a) (pos (suc k)) v w h =
 div_euclid_int_unsigned n f (negsuc a) k v w h = let z = v.0 in absurd (omega (arith, ints))
 div_euclid_int_unsigned n f (pos a) (negsuc k) v w h = let z = w.0 in absurd (omega (arith, ints))
 
-pub rem_euclid_int_unsigned : (n f : ℕ) (a k : ℤ) → InRange false n a → InRange false n (exact_rem_euclid_int a k f)
+pub rem_euclid_int_unsigned : (n f : ℕ) (a k : ℤ) → InRange false n a → InRange false n (euclidean_remainder a (units k f))
 rem_euclid_int_unsigned n f (pos a) k v =
     let u = v.1 in
     let d = div-add-mod' a (unsigned_abs (k *ℤ pos (2 ^ f))) in
@@ -138,16 +138,16 @@ rem_euclid_int_unsigned n f (negsuc a) k v = let z = v.0 in absurd (omega (arith
 
 -- ---- signed words
 
-pub neg_signed : (n : ℕ) (a : ℤ) → InRange true n a → Misses true n (exact_neg a) ↔ (a ≡ lowest true n)
+pub neg_signed : (n : ℕ) (a : ℤ) → InRange true n a → Misses true n (neg_ℤ a) ↔ (a ≡ lowest true n)
 neg_signed n a w =
     let l = w.0 in
     let u = w.1 in
     let p = pow_pos (n - 1) in (
       (λ m. elim (cases_int (lowest true n) a) [
-        | inl more ↦ absurd (in_and_out true n (exact_neg a) (omega (arith, ints), omega (arith, ints)) m)
+        | inl more ↦ absurd (in_and_out true n (neg_ℤ a) (omega (arith, ints), omega (arith, ints)) m)
         | inr less ↦ omega (arith, ints)
       ]),
-      (λ e. above true n (exact_neg a) (omega (arith, ints))),
+      (λ e. above true n (neg_ℤ a) (omega (arith, ints))),
     )
 
 pub abs_signed : (n : ℕ) (a : ℤ) → InRange true n a → Misses true n (exact_abs a) ↔ (a ≡ lowest true n)
@@ -170,7 +170,7 @@ over_less a m h g =
     let p = mul-le (a / m) 2 (a / m) m l g in
     omega arith
 
-pub div_int_signed : (n : ℕ) (a k : ℤ) → InRange true n a → k ≢ pos 0 → Misses true n (exact_div_int a k) ↔ ((a ≡ lowest true n) × (k ≡ negsuc 0))
+pub div_int_signed : (n : ℕ) (a k : ℤ) → InRange true n a → k ≢ pos 0 → Misses true n (truncated_quotient a k) ↔ ((a ≡ lowest true n) × (k ≡ negsuc 0))
 div_int_signed n a (pos zero) w h = absurd (h refl)
 div_int_signed n (pos a) (pos (suc k)) w h =
     let u = w.1 in
@@ -314,7 +314,7 @@ short_of n a w l =
         let k : h * h ≡ t * p = rw (e) (rw d (rw e (omega arith))) in
         omega arith
 
-pub sqrt_signed : (n f : ℕ) (a : ℤ) → IsWidth n → f ≤ n → InRange true n a → pos 0 ≤ℤ a → Misses true n (exact_sqrt a f) ↔ ((f ≡ n) × (pos (2 ^ (n - 2)) ≤ℤ a))
+pub sqrt_signed : (n f : ℕ) (a : ℤ) → IsWidth n → f ≤ n → InRange true n a → pos 0 ≤ℤ a → Misses true n (root_of a f) ↔ ((f ≡ n) × (pos (2 ^ (n - 2)) ≤ℤ a))
 sqrt_signed n f (negsuc a) w l v z = absurd (omega (arith, ints))
 sqrt_signed n f (pos a) w l v z =
     let h = v.1 in

@@ -22,6 +22,3 @@ rounded_add_prod_at c a b (negsuc t) r = (a *ℤ b) *ℤ pos (2 ^ suc t) +ℤ c
 
 abbrev pub rounded_add_prod : ℤ → ℤ → ℤ → ℕ → ℕ → ℕ → Rounding → ℤ
 rounded_add_prod c a b f g h r = rounded_add_prod_at c a b (pos (g + h) -ℤ pos f) r
-
-abbrev pub rounded_div_int : ℤ → ℤ → Rounding → ℤ
-rounded_div_int a k r = rounded a k r

@@ -1,7 +1,8 @@
 -- The exact number of each operation: a whole number of units of the result, without a bound.
 -- a, b, c and m are the operands' bits, k an integer, f the fraction of the operation's numbers, and g and h those of
 -- factors with a fraction of their own.
--- A row is that number, or nothing where the operation has none.
+-- A row is that number, or nothing where the operation has none. A number that is one sum, product, quotient, remainder
+-- or root of the operands is written so where it is used, and has no name here.
 use Rattle.std.specs.Prelude.{◌^◌, ◌+◌, ◌*◌, ◌+ℤ◌, ◌-ℤ◌, ◌*ℤ◌, ℕ, ℤ, pos, neg_ℤ, negsuc, zero, suc, unsigned_abs, nat_le, Option, Some, None, if◌then◌else◌}
 use Rattle.fixed_word.specs.Quotient.{floor_quotient, truncated_quotient, euclidean_quotient, euclidean_remainder}
 use Rattle.fixed_root.specs.Root.{root_of}
@@ -21,21 +22,12 @@ by_sign (negsuc n) x = None
 abbrev pub units : ℤ → ℕ → ℤ
 units k f = k *ℤ pos (2 ^ f)
 
--- ---- sums
-abbrev pub exact_neg : ℤ → ℤ
-exact_neg a = neg_ℤ a
-
-abbrev pub exact_add : ℤ → ℤ → ℤ
-exact_add a b = a +ℤ b
-
-abbrev pub exact_sub : ℤ → ℤ → ℤ
-exact_sub a b = a -ℤ b
-
-abbrev pub exact_dist : ℤ → ℤ → ℤ
-exact_dist a b = pos (unsigned_abs (a -ℤ b))
-
+-- ---- magnitudes and signs
 abbrev pub exact_abs : ℤ → ℤ
 exact_abs a = pos (unsigned_abs a)
+
+abbrev pub exact_dist : ℤ → ℤ → ℤ
+exact_dist a b = exact_abs (a -ℤ b)
 
 abbrev pub exact_signum : ℤ → ℕ → ℤ
 exact_signum (pos zero) f = pos 0
@@ -45,9 +37,6 @@ exact_signum (negsuc a) f = neg_ℤ (pos (2 ^ f))
 -- ---- products, rounded down
 abbrev pub exact_mul : ℤ → ℤ → ℕ → ℤ
 exact_mul a b f = floor_quotient (a *ℤ b) (2 ^ f)
-
-abbrev pub exact_mul_int : ℤ → ℤ → ℤ
-exact_mul_int a k = a *ℤ k
 
 -- g is the fraction of m
 abbrev pub exact_mul_add : ℤ → ℤ → ℤ → ℕ → ℤ
@@ -64,43 +53,26 @@ exact_add_prod c a b f g h = exact_add_prod_at c a b (pos (g + h) -ℤ pos f)
 
 -- ---- quotients, rounded toward zero
 abbrev pub exact_div : ℤ → ℤ → ℕ → ℤ
-exact_div a b f = truncated_quotient (a *ℤ pos (2 ^ f)) b
-
-abbrev pub exact_div_int : ℤ → ℤ → ℤ
-exact_div_int a k = truncated_quotient a k
+exact_div a b f = truncated_quotient (units a f) b
 
 abbrev pub exact_recip : ℤ → ℕ → ℤ
 exact_recip a f = truncated_quotient (pos (2 ^ (2 * f))) a
 
--- ---- Euclidean quotients, as whole numbers
+-- ---- Euclid's quotients, which are whole numbers
 abbrev pub exact_div_euclid : ℤ → ℤ → ℕ → ℤ
-exact_div_euclid a b f = euclidean_quotient a b *ℤ pos (2 ^ f)
+exact_div_euclid a b f = units (euclidean_quotient a b) f
 
-abbrev pub exact_div_euclid_int : ℤ → ℤ → ℕ → ℤ
-exact_div_euclid_int a k f = exact_div_euclid a (units k f) f
-
--- ---- remainders
+-- ---- remainders of the quotients toward zero
 abbrev pub exact_rem : ℤ → ℤ → ℤ
 exact_rem a b = a -ℤ b *ℤ truncated_quotient a b
 
-abbrev pub exact_rem_int : ℤ → ℤ → ℕ → ℤ
-exact_rem_int a k f = exact_rem a (units k f)
-
-abbrev pub exact_rem_euclid : ℤ → ℤ → ℤ
-exact_rem_euclid a b = euclidean_remainder a b
-
-abbrev pub exact_rem_euclid_int : ℤ → ℤ → ℕ → ℤ
-exact_rem_euclid_int a k f = exact_rem_euclid a (units k f)
-
+-- ---- multiples
 -- from a up to a multiple of b above 0, or down to one of b below 0
 abbrev pub exact_next_multiple_of : ℤ → ℤ → ℤ
 exact_next_multiple_of a (pos b) = a +ℤ euclidean_remainder (neg_ℤ a) (pos b)
 exact_next_multiple_of a (negsuc b) = a -ℤ euclidean_remainder a (negsuc b)
 
--- ---- roots and powers
-abbrev pub exact_sqrt : ℤ → ℕ → ℤ
-exact_sqrt a f = root_of a f
-
+-- ---- powers
 -- the least power of two that is at least n
 unfoldable pub power_over : ℕ → ℕ
 power_over zero = 1

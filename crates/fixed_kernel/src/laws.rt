@@ -4,15 +4,16 @@
 //! A number of the format is a whole number in the range of its word; n is the width and f the
 //! fraction.
 
-ghost use Rattle.std.specs.Prelude.{◌≡◌, ◌≢◌, ◌↔◌, ◌⊎◌, ◌-◌, ◌^◌, ◌≤◌, ◌≤ℤ◌, ◌<ℤ◌, ◌+ℤ◌, ◌*ℤ◌, ℕ, ℤ, Bool, true, false, pos, negsuc, unsigned_abs};
+ghost use Rattle.std.specs.Prelude.{◌≡◌, ◌≢◌, ◌↔◌, ◌⊎◌, ◌-◌, ◌^◌, ◌≤◌, ◌≤ℤ◌, ◌<ℤ◌, ◌+ℤ◌, ◌*ℤ◌, ℕ, ℤ, Bool, true, false, pos, negsuc, unsigned_abs, neg_ℤ};
 ghost use Rattle.fixed_word.specs.Format.{InRange, IsWidth, lowest};
-ghost use Rattle.fixed_word.specs.Quotient.{euclidean_quotient, truncated_quotient};
+ghost use Rattle.fixed_word.specs.Quotient.{euclidean_quotient, euclidean_remainder, truncated_quotient};
 ghost use Rattle.fixed_word.specs.declared.rounding.Rounding.{Rounding};
 ghost use Rattle.fixed_word.specs.declared.rounding.Rounding.TheVariants.{Down, Zero};
+ghost use Rattle.fixed_root.specs.Root.{root_of};
 ghost use Rattle.fixed_kernel.specs.RowLaws.{IsFromZero, IsNextMultiple, IsNextPower, IsOffZero, Misses};
 ghost use Rattle.fixed_kernel.specs.Rounded.{IsRounded, rounded};
-ghost use Rattle.fixed_kernel.specs.RoundedRows.{rounded_add_prod, rounded_div, rounded_div_int, rounded_mul, rounded_mul_add, rounded_recip};
-ghost use Rattle.fixed_kernel.specs.Rows.{by_divisor, by_sign, exact_abs, exact_add_prod, exact_dist, exact_div, exact_div_euclid, exact_div_euclid_int, exact_div_int, exact_mul, exact_mul_add, exact_neg, exact_next_multiple_of, exact_next_power_of_two, exact_recip, exact_rem, exact_rem_euclid, exact_rem_euclid_int, exact_rem_int, exact_signum, exact_sqrt};
+ghost use Rattle.fixed_kernel.specs.RoundedRows.{rounded_add_prod, rounded_div, rounded_mul, rounded_mul_add, rounded_recip};
+ghost use Rattle.fixed_kernel.specs.Rows.{by_divisor, by_sign, exact_abs, exact_add_prod, exact_dist, exact_div, exact_div_euclid, exact_mul, exact_mul_add, exact_next_multiple_of, exact_next_power_of_two, exact_recip, exact_rem, exact_signum, units};
 
 /// `rem`, `rem_int` and `rem_euclid` fit on every word, though the integer of `rem_int` may be far outside
 /// the range as a number of units; a Euclidean remainder is at least 0 and below the magnitude of its
@@ -21,40 +22,40 @@ pub fn remainder_law()
     ensures rem { (s : Bool) (n : ℕ) (a b : ℤ) → InRange s n a → b ≢ pos 0
         → InRange s n (exact_rem a b) }
     ensures rem_int { (s : Bool) (n f : ℕ) (a k : ℤ) → InRange s n a → k ≢ pos 0
-        → InRange s n (exact_rem_int a k f) }
+        → InRange s n (exact_rem a (units k f)) }
     ensures rem_euclid { (s : Bool) (n : ℕ) (a b : ℤ) → InRange s n b → b ≢ pos 0
-        → InRange s n (exact_rem_euclid a b) }
-    ensures from_zero { (a b : ℤ) → b ≢ pos 0 → pos 0 ≤ℤ exact_rem_euclid a b }
-    ensures small { (a b : ℤ) → b ≢ pos 0 → exact_rem_euclid a b <ℤ pos (unsigned_abs b) }
+        → InRange s n (euclidean_remainder a b) }
+    ensures from_zero { (a b : ℤ) → b ≢ pos 0 → pos 0 ≤ℤ euclidean_remainder a b }
+    ensures small { (a b : ℤ) → b ≢ pos 0 → euclidean_remainder a b <ℤ pos (unsigned_abs b) }
 {}
 
 /// On unsigned words distances, roots, and quotients and remainders by an integer fit.
 pub fn unsigned_law()
     ensures sqrt { (n f : ℕ) (a : ℤ)
-        → f ≤ n → InRange false n a → InRange false n (exact_sqrt a f) }
+        → f ≤ n → InRange false n a → InRange false n (root_of a f) }
     ensures dist { (n : ℕ) (a b : ℤ) → InRange false n a → InRange false n b
         → InRange false n (exact_dist a b) }
     ensures div_int { (n : ℕ) (a k : ℤ) → InRange false n a → InRange false n k → k ≢ pos 0
-        → InRange false n (exact_div_int a k) }
+        → InRange false n (truncated_quotient a k) }
     ensures div_euclid_int { (n f : ℕ) (a k : ℤ) → InRange false n a → InRange false n k
-        → k ≢ pos 0 → InRange false n (exact_div_euclid_int a k f) }
+        → k ≢ pos 0 → InRange false n (exact_div_euclid a (units k f) f) }
     ensures rem_euclid_int { (n f : ℕ) (a k : ℤ) → InRange false n a → k ≢ pos 0
-        → InRange false n (exact_rem_euclid_int a k f) }
+        → InRange false n (euclidean_remainder a (units k f)) }
 {}
 
 /// On signed words these fail to fit at the named operands alone.
 pub fn signed_law()
     ensures neg { (n : ℕ) (a : ℤ) → InRange true n a
-        → Misses true n (exact_neg a) ↔ (a ≡ lowest true n) }
+        → Misses true n (neg_ℤ a) ↔ (a ≡ lowest true n) }
     ensures abs { (n : ℕ) (a : ℤ) → InRange true n a
         → Misses true n (exact_abs a) ↔ (a ≡ lowest true n) }
     ensures div_int { (n : ℕ) (a k : ℤ) → InRange true n a → k ≢ pos 0
-        → Misses true n (exact_div_int a k) ↔ ((a ≡ lowest true n) × (k ≡ negsuc 0)) }
+        → Misses true n (truncated_quotient a k) ↔ ((a ≡ lowest true n) × (k ≡ negsuc 0)) }
     ensures signum { (n f : ℕ) (a : ℤ) → IsWidth n → f ≤ n
         → Misses true n (exact_signum a f)
         ↔ (((f ≡ n) × (a ≢ pos 0)) ⊎ ((f ≡ n - 1) × (pos 0 <ℤ a))) }
     ensures sqrt { (n f : ℕ) (a : ℤ) → IsWidth n → f ≤ n → InRange true n a → pos 0 ≤ℤ a
-        → Misses true n (exact_sqrt a f) ↔ ((f ≡ n) × (pos (2 ^ (n - 2)) ≤ℤ a)) }
+        → Misses true n (root_of a f) ↔ ((f ≡ n) × (pos (2 ^ (n - 2)) ≤ℤ a)) }
 {}
 
 /// Where the fraction is 0, numbers behave as whole numbers.
@@ -62,9 +63,9 @@ pub fn integer_law()
     ensures mul { (a b : ℤ) → exact_mul a b 0 ≡ a *ℤ b }
     ensures div { (a b : ℤ) → exact_div a b 0 ≡ truncated_quotient a b }
     ensures div_euclid { (a b : ℤ) → exact_div_euclid a b 0 ≡ euclidean_quotient a b }
-    ensures rem_int { (a k : ℤ) → exact_rem_int a k 0 ≡ exact_rem a k }
-    ensures div_euclid_int { (a k : ℤ) → exact_div_euclid_int a k 0 ≡ exact_div_euclid a k 0 }
-    ensures rem_euclid_int { (a k : ℤ) → exact_rem_euclid_int a k 0 ≡ exact_rem_euclid a k }
+    ensures rem_int { (a k : ℤ) → exact_rem a (units k 0) ≡ exact_rem a k }
+    ensures div_euclid_int { (a k : ℤ) → exact_div_euclid a (units k 0) 0 ≡ exact_div_euclid a k 0 }
+    ensures rem_euclid_int { (a k : ℤ) → euclidean_remainder a (units k 0) ≡ euclidean_remainder a k }
 {}
 
 /// The next multiple of b above 0 is the least that is at least a, and of b below 0 the greatest
@@ -104,5 +105,5 @@ pub fn default_law()
         → rounded_mul_add a m c g Down ≡ exact_mul_add a m c g }
     ensures add_prod { (c a b : ℤ) (f g h : ℕ)
         → rounded_add_prod c a b f g h Down ≡ exact_add_prod c a b f g h }
-    ensures div_int { (a k : ℤ) → rounded_div_int a k Zero ≡ exact_div_int a k }
+    ensures div_int { (a k : ℤ) → rounded a k Zero ≡ truncated_quotient a k }
 {}

@@ -2,7 +2,8 @@
 
 ghost use Rattle.std.specs.Prelude.{◌≡◌, ◌≤◌, ◌<◌, ◌^◌, ◌≤ℤ◌, pos, false};
 ghost use Rattle.fixed_word.specs.Standing.{StandsFor};
-ghost use Rattle.fixed_kernel.specs.Rows.{exact_next_power_of_two, exact_sqrt, power_over};
+ghost use Rattle.fixed_root.specs.Root.{root_of};
+ghost use Rattle.fixed_kernel.specs.Rows.{exact_next_power_of_two, power_over};
 
 use crate::wide::Wide;
 use fixed_root::root;
@@ -12,7 +13,7 @@ use fixed_word::{Outcome, RawWord, Silent, Steps, Word, outcome_of};
 pub fn sqrt_of<T: Word>(a: T, frac: u32) -> Outcome<T>
     requires frac { frac ≤ T.BITS }
     requires sign { pos 0 ≤ℤ T.value a }
-    ensures { StandsFor T.value T.SIGNED T.BITS (exact_sqrt (T.value a) frac) result }
+    ensures { StandsFor T.value T.SIGNED T.BITS (root_of (T.value a) frac) result }
 {
     let mut steps = Steps::new(Silent::new());
     let found = root(a.to_unsigned(), frac, &mut steps);

@@ -2,7 +2,8 @@
 
 ghost use Rattle.std.specs.Prelude.{◌≡◌, ◌≢◌, ◌≤◌, ◌<◌, ◌+◌, ◌*◌, ◌/◌, ◌%◌, ◌^◌, pos};
 ghost use Rattle.fixed_word.specs.Standing.{StandsFor};
-ghost use Rattle.fixed_kernel.specs.RoundedRows.{rounded_div, rounded_div_int, rounded_recip};
+ghost use Rattle.fixed_kernel.specs.RoundedRows.{rounded_div, rounded_recip};
+ghost use Rattle.fixed_kernel.specs.Rounded.{rounded};
 
 use crate::wide::{Wide, step};
 use fixed_word::{Outcome, Rounding, Word};
@@ -24,7 +25,7 @@ pub fn div_round_of<T: Word>(a: T, b: T, frac: u32, rounding: Rounding) -> Outco
 pub fn div_int_round_of<T: Word>(a: T, k: T, rounding: Rounding) -> Outcome<T>
     requires { T.value k ≢ pos 0 }
     ensures { StandsFor T.value T.SIGNED T.BITS
-        (rounded_div_int (T.value a) (T.value k) rounding) result }
+        (rounded (T.value a) (T.value k) rounding) result }
 {
     Wide::of(a).rounded(Wide::of(k), rounding).outcome()
 }

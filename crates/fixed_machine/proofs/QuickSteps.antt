@@ -5,7 +5,8 @@ use Rattle.std.specs.List.{All}
 use Rattle.std.proofs.lemmas.List.{length-map, get_or-map}
 use Rattle.fixed_script.specs.declared.line.Shape.{Shape}
 use Rattle.fixed_script.specs.declared.line.Shape.TheVariants.{Unary, Binary, ByInteger, Ternary}
-use Rattle.fixed_script.specs.Text.{shape, SetTo, Apply}
+use Rattle.fixed_script.specs.Names.{shape}
+use Rattle.fixed_script.specs.Text.{SetTo, Apply}
 use Rattle.fixed_text.specs.declared.names.WordName.{WordName}
 use Rattle.fixed_text.specs.Words.{is_signed, width}
 use Rattle.fixed_script.specs.declared.names.Policy.{Policy}

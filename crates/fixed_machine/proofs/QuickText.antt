@@ -17,9 +17,9 @@ use Rattle.fixed_text.proofs.Fronts.{natural_is, digits_more, value_grows}
 use Rattle.fixed_text.proofs.Shown.{one_digit}
 use Rattle.fixed_script.specs.declared.line.Shape.{Shape}
 use Rattle.fixed_script.specs.declared.line.Shape.TheVariants.{Unary, Binary, ByInteger, Ternary}
-use Rattle.fixed_script.specs.Names.{policy_name, op_name}
+use Rattle.fixed_script.specs.Names.{policy_name, op_name, shape}
 use Rattle.fixed_script.specs.Lines.{line_of_piece}
-use Rattle.fixed_script.specs.Text.{IsLine, line_text, register_text, operand_tokens, shape, shape_of}
+use Rattle.fixed_script.specs.Text.{IsLine, line_text, register_text, operand_tokens, shape_of}
 use Rattle.fixed_machine.specs.Answers.{ended}
 use Rattle.fixed_machine.specs.declared.quick.Applied.{Applied}
 use Rattle.fixed_machine.specs.declared.quick.QuickLine.{QuickLine}

@@ -1,7 +1,7 @@
 -- What a policy makes of a row.
 use Rattle.std.specs.Prelude.{ℕ, ℤ, Bool, Option, Some, None}
 use Rattle.std.specs.Option.{option_map_or}
-use Rattle.fixed_word.specs.Policies.{checked, saturating, wrapping, overflowing, strict}
+use Rattle.fixed_word.specs.Policies.{checked, saturating, wrapping, overflowing}
 use Rattle.fixed_script.specs.declared.names.Policy.{Policy}
 use Rattle.fixed_script.specs.declared.names.Policy.TheVariants.{Checked, Saturating, Wrapping, Overflowing, Strict}
 use Rattle.fixed_machine.specs.declared.answer.Answer.{Answer}
@@ -20,4 +20,4 @@ project Checked signed n (Some x) = plain (checked signed n (Some x))
 project Saturating signed n (Some x) = plain (saturating signed n (Some x))
 project Wrapping signed n (Some x) = plain (wrapping signed n (Some x))
 project Overflowing signed n (Some x) = flagged (overflowing signed n (Some x))
-project Strict signed n (Some x) = plain (strict (Some x))
+project Strict signed n (Some x) = Bits x

@@ -3,7 +3,8 @@
 
 ghost use Rattle.std.specs.Prelude.{◌≡◌, ◌<◌, ◌≤◌, length, Some, None, Ok, IfSome, true, false};
 ghost use Rattle.std.specs.List.{All};
-ghost use Rattle.fixed_script.specs.Text.{shape, Apply};
+ghost use Rattle.fixed_script.specs.Names.{shape};
+ghost use Rattle.fixed_script.specs.Text.{Apply};
 ghost use Rattle.fixed_text.specs.Words.{is_signed as signed, width as width_in};
 ghost use Rattle.fixed_machine.specs.Machine.{cell_at as cell_in, is_mismatched as mismatched, is_value};
 ghost use Rattle.fixed_machine.specs.Step.{IsCell, IsStepOfLine, cell_of, cells_of, state_in};

@@ -1,9 +1,10 @@
 //! The row of an operation, over one word.
 
 ghost use Rattle.std.specs.Prelude.{◌≡◌, ◌≢◌, ◌≤◌, ℕ, ℤ, pos, true};
+ghost use Rattle.fixed_kernel.specs.Rounded.{rounded};
 ghost use Rattle.fixed_machine.specs.Rows.{exact as exact_row, exact_by, exact_rounded};
 ghost use Rattle.fixed_kernel.specs.Rows.{by_divisor};
-ghost use Rattle.fixed_kernel.specs.RoundedRows.{rounded_div, rounded_div_int, rounded_recip};
+ghost use Rattle.fixed_kernel.specs.RoundedRows.{rounded_div, rounded_recip};
 ghost use Rattle.fixed_script.specs.Text.{takes_rounding as rounds};
 ghost use Rattle.fixed_machine.specs.Offered.{is_offered};
 ghost use Rattle.fixed_machine.specs.inside.Groups.{group, OfOne, SumOrProduct, ByDivisor};
@@ -198,7 +199,7 @@ fn rounded_quotient<T: Word>(a: Operand<T>, b: T, rounding: Rounding) -> Option<
 /// The quotient by an integer with that rounding, and None where the integer is 0.
 fn rounded_quotient_by<T: Word>(a: T, k: T, rounding: Rounding) -> Option<Outcome<T>>
     ensures { IsOutcomeOfRow T.value T.SIGNED T.BITS
-        (by_divisor (T.value k) (rounded_div_int (T.value a) (T.value k) rounding)) result }
+        (by_divisor (T.value k) (rounded (T.value a) (T.value k) rounding)) result }
 {
     if k == T::ZERO {
         return None;

@@ -1,19 +1,19 @@
 -- Digits 1 of a list are digits 0 of its complement.
-use Rattle.std.proofs.Common.{◌≡◌, ◌-◌, ◌<◌, ◌^◌, ℕ, ℤ, zero, suc, List, [], ◌∷◌, length, reverse, refl, ap, sym, ◌∙◌, arith}
+use Rattle.std.proofs.Common.{◌≡◌, ◌==◌, ◌-◌, ◌<◌, ◌^◌, ℕ, ℤ, zero, suc, List, [], ◌∷◌, length, reverse, refl, ap, sym, ◌∙◌, arith}
 use Rattle.std.proofs.lemmas.List.{get_or-map, get_or-reverse}
 use Rattle.std.proofs.Math.ListN.{length-map, length-reverse}
 use Rattle.std.proofs.lemmas.Grind.{same_number_lists}
 use Rattle.std.specs.List.{All, prefix_len, suffix_len}
 use Rattle.fixed_word.specs.Format.{modulo}
-use Rattle.fixed_bits.specs.Digits.{bit_list, complement, is_one, is_zero}
+use Rattle.fixed_bits.specs.Digits.{bit_list, complement}
 use Rattle.fixed_bits.proofs.Lists.{all_lowest}
 
-flipped : (d : ℕ) → d < 2 → is_zero (1 - d) ≡ is_one d
+flipped : (d : ℕ) → d < 2 → (1 - d == 0) ≡ (d == 1)
 flipped zero h = refl
 flipped (suc zero) h = refl
 flipped (suc (suc d)) h = absurd (omega arith)
 
-prefix_flips : (xs : List ℕ) → All (λ d. d < 2) xs → prefix_len is_zero (complement xs) ≡ prefix_len is_one xs
+prefix_flips : (xs : List ℕ) → All (λ d. d < 2) xs → prefix_len (λ d. d == 0) (complement xs) ≡ prefix_len (λ d. d == 1) xs
 prefix_flips [] h = refl
 prefix_flips (x ∷ xs) h =
     let r = prefix_flips xs (λ i d l. h (suc i) d (omega arith)) in
@@ -44,8 +44,8 @@ all_bits : (n : ℕ) (a : ℤ) → All (λ d. d < 2) (bit_list n a)
 unfolding bit_list
 all_bits n a = all_lowest 2 n (modulo a (2 ^ n)) (omega arith)
 
-pub trailing_flips : (n r : ℕ) (a : ℤ) (ds : List ℕ) → ds ≡ complement (bit_list n a) → r ≡ prefix_len is_zero ds → r ≡ prefix_len is_one (bit_list n a)
+pub trailing_flips : (n r : ℕ) (a : ℤ) (ds : List ℕ) → ds ≡ complement (bit_list n a) → r ≡ prefix_len (λ d. d == 0) ds → r ≡ prefix_len (λ d. d == 1) (bit_list n a)
 trailing_flips n r a ds e h = h ∙ rw e (prefix_flips (bit_list n a) (all_bits n a))
 
-pub leading_flips : (n r : ℕ) (a : ℤ) (ds : List ℕ) → ds ≡ complement (bit_list n a) → r ≡ suffix_len is_zero ds → r ≡ suffix_len is_one (bit_list n a)
+pub leading_flips : (n r : ℕ) (a : ℤ) (ds : List ℕ) → ds ≡ complement (bit_list n a) → r ≡ suffix_len (λ d. d == 0) ds → r ≡ suffix_len (λ d. d == 1) (bit_list n a)
 leading_flips n r a ds e h = h ∙ rw (e, reverse_complement (bit_list n a)) (prefix_flips (reverse (bit_list n a)) (all_reverse (bit_list n a) (all_bits n a)))

@@ -1,9 +1,9 @@
 //! Calls on the bits and bytes of a number, which are those of its word.
 
-ghost use Rattle.std.specs.Prelude.{◌≡◌, false, true, reverse, min, max, count_by};
+ghost use Rattle.std.specs.Prelude.{◌≡◌, ◌==◌, false, true, reverse, min, max, count_by};
 ghost use Rattle.std.specs.List.{prefix_len, suffix_len};
 ghost use Rattle.fixed_word.specs.Format.{wrap};
-ghost use Rattle.fixed_bits.specs.Digits.{IsRotated, bit_list, byte_list, complement, differ, is_one, is_zero, zip_with};
+ghost use Rattle.fixed_bits.specs.Digits.{IsRotated, bit_list, byte_list, complement, differ, zip_with};
 
 use crate::format::Fixed;
 use fixed_bits::BitWord;
@@ -104,42 +104,42 @@ impl<T: BitWord, const F: u32> Fixed<T, F> {
 
     /// How many bits are 1.
     pub fn count_ones(self) -> u32
-        ensures { result ≡ count_by is_one (bit_list T.BITS (T.value self.bits)) }
+        ensures { result ≡ count_by (λ d. d == 1) (bit_list T.BITS (T.value self.bits)) }
     {
         self.bits.count_ones()
     }
 
     /// How many bits are 0.
     pub fn count_zeros(self) -> u32
-        ensures { result ≡ count_by is_zero (bit_list T.BITS (T.value self.bits)) }
+        ensures { result ≡ count_by (λ d. d == 0) (bit_list T.BITS (T.value self.bits)) }
     {
         self.bits.not().count_ones()
     }
 
     /// How many of the highest bits are 1, before the first that is 0.
     pub fn leading_ones(self) -> u32
-        ensures { result ≡ suffix_len is_one (bit_list T.BITS (T.value self.bits)) }
+        ensures { result ≡ suffix_len (λ d. d == 1) (bit_list T.BITS (T.value self.bits)) }
     {
         self.bits.not().leading_zeros()
     }
 
     /// How many of the highest bits are 0, before the first that is 1.
     pub fn leading_zeros(self) -> u32
-        ensures { result ≡ suffix_len is_zero (bit_list T.BITS (T.value self.bits)) }
+        ensures { result ≡ suffix_len (λ d. d == 0) (bit_list T.BITS (T.value self.bits)) }
     {
         self.bits.leading_zeros()
     }
 
     /// How many of the lowest bits are 1, before the first that is 0.
     pub fn trailing_ones(self) -> u32
-        ensures { result ≡ prefix_len is_one (bit_list T.BITS (T.value self.bits)) }
+        ensures { result ≡ prefix_len (λ d. d == 1) (bit_list T.BITS (T.value self.bits)) }
     {
         self.bits.not().trailing_zeros()
     }
 
     /// How many of the lowest bits are 0, before the first that is 1.
     pub fn trailing_zeros(self) -> u32
-        ensures { result ≡ prefix_len is_zero (bit_list T.BITS (T.value self.bits)) }
+        ensures { result ≡ prefix_len (λ d. d == 0) (bit_list T.BITS (T.value self.bits)) }
     {
         self.bits.trailing_zeros()
     }

@@ -3,9 +3,10 @@
 //! Each gives the number of its row under the condition that the row is defined and its number fits.
 //! The assigning forms store the same answer.
 
-ghost use Rattle.std.specs.Prelude.{◌≡◌, ◌≢◌, ◌≤◌, false, pos, true};
+ghost use Rattle.std.specs.Prelude.{◌≡◌, ◌≢◌, ◌≤◌, false, pos, true, ◌*ℤ◌};
 ghost use Rattle.fixed_word.specs.Format.{InRange};
-ghost use Rattle.fixed_kernel.specs.Rows.{exact_div_int, exact_mul_int, exact_rem_int};
+ghost use Rattle.fixed_word.specs.Quotient.{truncated_quotient};
+ghost use Rattle.fixed_kernel.specs.Rows.{exact_rem, units};
 
 use crate::format::Fixed;
 use crate::from_outcome::exact_number;
@@ -16,9 +17,9 @@ use std::ops::{Div, DivAssign, Mul, MulAssign, Rem, RemAssign};
 impl<T: Word, const F: u32> Mul<T> for Fixed<T, F> {
     type Output = Self;
 
-    ghost can_mul = { λ a k. InRange T.SIGNED T.BITS (exact_mul_int (T.value a.bits) (T.value k)) };
+    ghost can_mul = { λ a k. InRange T.SIGNED T.BITS (T.value a.bits *ℤ T.value k) };
 
-    ghost mul_gives = { λ a k r. T.value r.bits ≡ exact_mul_int (T.value a.bits) (T.value k) };
+    ghost mul_gives = { λ a k r. T.value r.bits ≡ T.value a.bits *ℤ T.value k };
 
     /// The product by an integer; condition that it fits.
     fn mul(self, rhs: T) -> Self {
@@ -27,9 +28,9 @@ impl<T: Word, const F: u32> Mul<T> for Fixed<T, F> {
 }
 
 impl<T: Word, const F: u32> MulAssign<T> for Fixed<T, F> {
-    ghost can_mul_assign = { λ a k. InRange T.SIGNED T.BITS (exact_mul_int (T.value a.bits) (T.value k)) };
+    ghost can_mul_assign = { λ a k. InRange T.SIGNED T.BITS (T.value a.bits *ℤ T.value k) };
 
-    ghost mul_assign_gives = { λ a k r. T.value r.bits ≡ exact_mul_int (T.value a.bits) (T.value k) };
+    ghost mul_assign_gives = { λ a k r. T.value r.bits ≡ T.value a.bits *ℤ T.value k };
 
     /// Stores the product by an integer; condition that it fits.
     fn mul_assign(&mut self, rhs: T) {
@@ -41,9 +42,9 @@ impl<T: Word, const F: u32> Div<T> for Fixed<T, F> {
     type Output = Self;
 
     ghost can_div = { λ a k. (T.value k ≢ pos 0)
-        × InRange T.SIGNED T.BITS (exact_div_int (T.value a.bits) (T.value k)) };
+        × InRange T.SIGNED T.BITS (truncated_quotient (T.value a.bits) (T.value k)) };
 
-    ghost div_gives = { λ a k r. T.value r.bits ≡ exact_div_int (T.value a.bits) (T.value k) };
+    ghost div_gives = { λ a k r. T.value r.bits ≡ truncated_quotient (T.value a.bits) (T.value k) };
 
     /// The quotient by an integer, rounded toward zero; conditions that the divisor is not 0 and that the
     /// quotient fits.
@@ -54,9 +55,9 @@ impl<T: Word, const F: u32> Div<T> for Fixed<T, F> {
 
 impl<T: Word, const F: u32> DivAssign<T> for Fixed<T, F> {
     ghost can_div_assign = { λ a k. (T.value k ≢ pos 0)
-        × InRange T.SIGNED T.BITS (exact_div_int (T.value a.bits) (T.value k)) };
+        × InRange T.SIGNED T.BITS (truncated_quotient (T.value a.bits) (T.value k)) };
 
-    ghost div_assign_gives = { λ a k r. T.value r.bits ≡ exact_div_int (T.value a.bits) (T.value k) };
+    ghost div_assign_gives = { λ a k r. T.value r.bits ≡ truncated_quotient (T.value a.bits) (T.value k) };
 
     /// Stores the quotient by an integer; the conditions of `/`.
     fn div_assign(&mut self, rhs: T) {
@@ -68,9 +69,9 @@ impl<T: Word, const F: u32> Rem<T> for Fixed<T, F> {
     type Output = Self;
 
     ghost can_rem = { λ a k. (F ≤ T.BITS) × (T.value k ≢ pos 0)
-        × InRange T.SIGNED T.BITS (exact_rem_int (T.value a.bits) (T.value k) F) };
+        × InRange T.SIGNED T.BITS (exact_rem (T.value a.bits) (units (T.value k) F)) };
 
-    ghost rem_gives = { λ a k r. T.value r.bits ≡ exact_rem_int (T.value a.bits) (T.value k) F };
+    ghost rem_gives = { λ a k r. T.value r.bits ≡ exact_rem (T.value a.bits) (units (T.value k) F) };
 
     /// The remainder by an integer, of the quotient that is rounded toward zero; conditions that `F` is at
     /// most n, that the divisor is not 0 and that the remainder fits, which it always does.
@@ -81,9 +82,9 @@ impl<T: Word, const F: u32> Rem<T> for Fixed<T, F> {
 
 impl<T: Word, const F: u32> RemAssign<T> for Fixed<T, F> {
     ghost can_rem_assign = { λ a k. (F ≤ T.BITS) × (T.value k ≢ pos 0)
-        × InRange T.SIGNED T.BITS (exact_rem_int (T.value a.bits) (T.value k) F) };
+        × InRange T.SIGNED T.BITS (exact_rem (T.value a.bits) (units (T.value k) F)) };
 
-    ghost rem_assign_gives = { λ a k r. T.value r.bits ≡ exact_rem_int (T.value a.bits) (T.value k) F };
+    ghost rem_assign_gives = { λ a k r. T.value r.bits ≡ exact_rem (T.value a.bits) (units (T.value k) F) };
 
     /// Stores the remainder by an integer; the conditions of `%`.
     fn rem_assign(&mut self, rhs: T) {
@@ -94,9 +95,9 @@ impl<T: Word, const F: u32> RemAssign<T> for Fixed<T, F> {
 impl<const F: u32> Mul<Fixed<i8, F>> for i8 {
     type Output = Fixed<i8, F>;
 
-    ghost can_mul = { λ k a. InRange true 8 (exact_mul_int a.bits k) };
+    ghost can_mul = { λ k a. InRange true 8 (a.bits *ℤ k) };
 
-    ghost mul_gives = { λ k a r. r.bits ≡ exact_mul_int a.bits k };
+    ghost mul_gives = { λ k a r. r.bits ≡ a.bits *ℤ k };
 
     /// The product of an integer and a number; condition that it fits.
     fn mul(self, rhs: Fixed<i8, F>) -> Fixed<i8, F> {
@@ -107,9 +108,9 @@ impl<const F: u32> Mul<Fixed<i8, F>> for i8 {
 impl<const F: u32> Mul<Fixed<i16, F>> for i16 {
     type Output = Fixed<i16, F>;
 
-    ghost can_mul = { λ k a. InRange true 16 (exact_mul_int a.bits k) };
+    ghost can_mul = { λ k a. InRange true 16 (a.bits *ℤ k) };
 
-    ghost mul_gives = { λ k a r. r.bits ≡ exact_mul_int a.bits k };
+    ghost mul_gives = { λ k a r. r.bits ≡ a.bits *ℤ k };
 
     /// The product of an integer and a number; condition that it fits.
     fn mul(self, rhs: Fixed<i16, F>) -> Fixed<i16, F> {
@@ -120,9 +121,9 @@ impl<const F: u32> Mul<Fixed<i16, F>> for i16 {
 impl<const F: u32> Mul<Fixed<i32, F>> for i32 {
     type Output = Fixed<i32, F>;
 
-    ghost can_mul = { λ k a. InRange true 32 (exact_mul_int a.bits k) };
+    ghost can_mul = { λ k a. InRange true 32 (a.bits *ℤ k) };
 
-    ghost mul_gives = { λ k a r. r.bits ≡ exact_mul_int a.bits k };
+    ghost mul_gives = { λ k a r. r.bits ≡ a.bits *ℤ k };
 
     /// The product of an integer and a number; condition that it fits.
     fn mul(self, rhs: Fixed<i32, F>) -> Fixed<i32, F> {
@@ -133,9 +134,9 @@ impl<const F: u32> Mul<Fixed<i32, F>> for i32 {
 impl<const F: u32> Mul<Fixed<i64, F>> for i64 {
     type Output = Fixed<i64, F>;
 
-    ghost can_mul = { λ k a. InRange true 64 (exact_mul_int a.bits k) };
+    ghost can_mul = { λ k a. InRange true 64 (a.bits *ℤ k) };
 
-    ghost mul_gives = { λ k a r. r.bits ≡ exact_mul_int a.bits k };
+    ghost mul_gives = { λ k a r. r.bits ≡ a.bits *ℤ k };
 
     /// The product of an integer and a number; condition that it fits.
     fn mul(self, rhs: Fixed<i64, F>) -> Fixed<i64, F> {
@@ -146,9 +147,9 @@ impl<const F: u32> Mul<Fixed<i64, F>> for i64 {
 impl<const F: u32> Mul<Fixed<u8, F>> for u8 {
     type Output = Fixed<u8, F>;
 
-    ghost can_mul = { λ k a. InRange false 8 (exact_mul_int (pos a.bits) (pos k)) };
+    ghost can_mul = { λ k a. InRange false 8 (pos a.bits *ℤ pos k) };
 
-    ghost mul_gives = { λ k a r. pos r.bits ≡ exact_mul_int (pos a.bits) (pos k) };
+    ghost mul_gives = { λ k a r. pos r.bits ≡ pos a.bits *ℤ pos k };
 
     /// The product of an integer and a number; condition that it fits.
     fn mul(self, rhs: Fixed<u8, F>) -> Fixed<u8, F> {
@@ -159,9 +160,9 @@ impl<const F: u32> Mul<Fixed<u8, F>> for u8 {
 impl<const F: u32> Mul<Fixed<u16, F>> for u16 {
     type Output = Fixed<u16, F>;
 
-    ghost can_mul = { λ k a. InRange false 16 (exact_mul_int (pos a.bits) (pos k)) };
+    ghost can_mul = { λ k a. InRange false 16 (pos a.bits *ℤ pos k) };
 
-    ghost mul_gives = { λ k a r. pos r.bits ≡ exact_mul_int (pos a.bits) (pos k) };
+    ghost mul_gives = { λ k a r. pos r.bits ≡ pos a.bits *ℤ pos k };
 
     /// The product of an integer and a number; condition that it fits.
     fn mul(self, rhs: Fixed<u16, F>) -> Fixed<u16, F> {
@@ -172,9 +173,9 @@ impl<const F: u32> Mul<Fixed<u16, F>> for u16 {
 impl<const F: u32> Mul<Fixed<u32, F>> for u32 {
     type Output = Fixed<u32, F>;
 
-    ghost can_mul = { λ k a. InRange false 32 (exact_mul_int (pos a.bits) (pos k)) };
+    ghost can_mul = { λ k a. InRange false 32 (pos a.bits *ℤ pos k) };
 
-    ghost mul_gives = { λ k a r. pos r.bits ≡ exact_mul_int (pos a.bits) (pos k) };
+    ghost mul_gives = { λ k a r. pos r.bits ≡ pos a.bits *ℤ pos k };
 
     /// The product of an integer and a number; condition that it fits.
     fn mul(self, rhs: Fixed<u32, F>) -> Fixed<u32, F> {
@@ -185,9 +186,9 @@ impl<const F: u32> Mul<Fixed<u32, F>> for u32 {
 impl<const F: u32> Mul<Fixed<u64, F>> for u64 {
     type Output = Fixed<u64, F>;
 
-    ghost can_mul = { λ k a. InRange false 64 (exact_mul_int (pos a.bits) (pos k)) };
+    ghost can_mul = { λ k a. InRange false 64 (pos a.bits *ℤ pos k) };
 
-    ghost mul_gives = { λ k a r. pos r.bits ≡ exact_mul_int (pos a.bits) (pos k) };
+    ghost mul_gives = { λ k a r. pos r.bits ≡ pos a.bits *ℤ pos k };
 
     /// The product of an integer and a number; condition that it fits.
     fn mul(self, rhs: Fixed<u64, F>) -> Fixed<u64, F> {

@@ -3,9 +3,9 @@
 //! Each gives the number of its row under the condition that the row is defined and its number fits.
 //! The assigning forms store the same answer.
 
-ghost use Rattle.std.specs.Prelude.{◌≡◌, ◌≢◌, ◌≤◌, pos};
+ghost use Rattle.std.specs.Prelude.{◌≡◌, ◌≢◌, ◌≤◌, pos, neg_ℤ, ◌+ℤ◌, ◌-ℤ◌};
 ghost use Rattle.fixed_word.specs.Format.{InRange};
-ghost use Rattle.fixed_kernel.specs.Rows.{exact_add, exact_div, exact_mul, exact_neg, exact_rem, exact_sub};
+ghost use Rattle.fixed_kernel.specs.Rows.{exact_div, exact_mul, exact_rem};
 
 use crate::format::Fixed;
 use crate::from_outcome::exact_number;
@@ -18,9 +18,9 @@ use std::ops::{
 impl<T: SignedWord, const F: u32> Neg for Fixed<T, F> {
     type Output = Self;
 
-    ghost can_neg = { λ a. InRange T.SIGNED T.BITS (exact_neg (T.value a.bits)) };
+    ghost can_neg = { λ a. InRange T.SIGNED T.BITS (neg_ℤ (T.value a.bits)) };
 
-    ghost neg_gives = { λ a r. T.value r.bits ≡ exact_neg (T.value a.bits) };
+    ghost neg_gives = { λ a r. T.value r.bits ≡ neg_ℤ (T.value a.bits) };
 
     /// The negated number; condition that it fits.
     fn neg(self) -> Self {
@@ -31,9 +31,9 @@ impl<T: SignedWord, const F: u32> Neg for Fixed<T, F> {
 impl<T: Word, const F: u32> Add for Fixed<T, F> {
     type Output = Self;
 
-    ghost can_add = { λ a b. InRange T.SIGNED T.BITS (exact_add (T.value a.bits) (T.value b.bits)) };
+    ghost can_add = { λ a b. InRange T.SIGNED T.BITS (T.value a.bits +ℤ T.value b.bits) };
 
-    ghost add_gives = { λ a b r. T.value r.bits ≡ exact_add (T.value a.bits) (T.value b.bits) };
+    ghost add_gives = { λ a b r. T.value r.bits ≡ T.value a.bits +ℤ T.value b.bits };
 
     /// The sum; condition that it fits.
     fn add(self, rhs: Self) -> Self {
@@ -42,9 +42,9 @@ impl<T: Word, const F: u32> Add for Fixed<T, F> {
 }
 
 impl<T: Word, const F: u32> AddAssign for Fixed<T, F> {
-    ghost can_add_assign = { λ a b. InRange T.SIGNED T.BITS (exact_add (T.value a.bits) (T.value b.bits)) };
+    ghost can_add_assign = { λ a b. InRange T.SIGNED T.BITS (T.value a.bits +ℤ T.value b.bits) };
 
-    ghost add_assign_gives = { λ a b r. T.value r.bits ≡ exact_add (T.value a.bits) (T.value b.bits) };
+    ghost add_assign_gives = { λ a b r. T.value r.bits ≡ T.value a.bits +ℤ T.value b.bits };
 
     /// Stores the sum; condition that it fits.
     fn add_assign(&mut self, rhs: Self) {
@@ -55,9 +55,9 @@ impl<T: Word, const F: u32> AddAssign for Fixed<T, F> {
 impl<T: Word, const F: u32> Sub for Fixed<T, F> {
     type Output = Self;
 
-    ghost can_sub = { λ a b. InRange T.SIGNED T.BITS (exact_sub (T.value a.bits) (T.value b.bits)) };
+    ghost can_sub = { λ a b. InRange T.SIGNED T.BITS (T.value a.bits -ℤ T.value b.bits) };
 
-    ghost sub_gives = { λ a b r. T.value r.bits ≡ exact_sub (T.value a.bits) (T.value b.bits) };
+    ghost sub_gives = { λ a b r. T.value r.bits ≡ T.value a.bits -ℤ T.value b.bits };
 
     /// The difference; condition that it fits.
     fn sub(self, rhs: Self) -> Self {
@@ -66,9 +66,9 @@ impl<T: Word, const F: u32> Sub for Fixed<T, F> {
 }
 
 impl<T: Word, const F: u32> SubAssign for Fixed<T, F> {
-    ghost can_sub_assign = { λ a b. InRange T.SIGNED T.BITS (exact_sub (T.value a.bits) (T.value b.bits)) };
+    ghost can_sub_assign = { λ a b. InRange T.SIGNED T.BITS (T.value a.bits -ℤ T.value b.bits) };
 
-    ghost sub_assign_gives = { λ a b r. T.value r.bits ≡ exact_sub (T.value a.bits) (T.value b.bits) };
+    ghost sub_assign_gives = { λ a b r. T.value r.bits ≡ T.value a.bits -ℤ T.value b.bits };
 
     /// Stores the difference; condition that it fits.
     fn sub_assign(&mut self, rhs: Self) {

@@ -1,7 +1,7 @@
 -- Sums and products of lists of numbers, in bits.
-use Rattle.std.specs.Prelude.{◌^◌, ℕ, ℤ, pos, Bool, List, [], ◌∷◌, fold, ⊤}
+use Rattle.std.specs.Prelude.{◌^◌, ℕ, ℤ, pos, Bool, List, [], ◌∷◌, fold, ⊤, ◌+ℤ◌}
 use Rattle.fixed_word.specs.Format.{InRange}
-use Rattle.fixed_kernel.specs.Rows.{exact_add, exact_mul}
+use Rattle.fixed_kernel.specs.Rows.{exact_mul}
 
 -- each result of a step from `from` on through the list fits
 abbrev pub EachFits : Bool → ℕ → (ℤ → ℤ → ℤ) → ℤ → List ℤ → Type 0
@@ -10,10 +10,10 @@ EachFits signed n step from (x ∷ xs) = InRange signed n (step from x) × EachF
 
 -- ---- sums, from 0
 abbrev pub sum_of : List ℤ → ℤ
-sum_of xs = fold exact_add (pos 0) xs
+sum_of xs = fold ◌+ℤ◌ (pos 0) xs
 
 abbrev pub SumsFit : Bool → ℕ → List ℤ → Type 0
-SumsFit signed n xs = EachFits signed n exact_add (pos 0) xs
+SumsFit signed n xs = EachFits signed n ◌+ℤ◌ (pos 0) xs
 
 -- ---- products, each rounded down, from the first number; of no numbers, the number 1
 abbrev pub times : ℕ → ℤ → ℤ → ℤ

@@ -1,8 +1,10 @@
 //! Operations by their plain names, for numbers that fit.
 
-ghost use Rattle.std.specs.Prelude.{◌≡◌, ◌≤◌, ◌≢◌, ◌≤ℤ◌, pos};
+ghost use Rattle.std.specs.Prelude.{◌≡◌, ◌≤◌, ◌≢◌, ◌≤ℤ◌, pos, ◌+ℤ◌, ◌-ℤ◌};
 ghost use Rattle.fixed_word.specs.Format.{InRange};
-ghost use Rattle.fixed_kernel.specs.Rows.{exact_abs, exact_add, exact_dist, exact_div_euclid, exact_div_euclid_int, exact_next_multiple_of, exact_next_power_of_two, exact_recip, exact_rem_euclid, exact_rem_euclid_int, exact_signum, exact_sqrt, exact_sub};
+ghost use Rattle.fixed_word.specs.Quotient.{euclidean_remainder};
+ghost use Rattle.fixed_kernel.specs.Root.{root_of};
+ghost use Rattle.fixed_kernel.specs.Rows.{exact_abs, exact_dist, exact_div_euclid, exact_next_multiple_of, exact_next_power_of_two, exact_recip, exact_signum, units};
 
 use fixed_kernel::{
     abs_of, dist_of, div_euclid_int_of, div_euclid_of, mixed_add_of, mixed_sub_of,
@@ -28,8 +30,8 @@ pub trait Plain: Number {
     fn rem_euclid(self, rhs: Self) -> Self
         requires divisor { Self.number rhs ≢ pos 0 }
         requires fits { InRange Self.SIGNED Self.BITS
-            (exact_rem_euclid (Self.number self) (Self.number rhs)) }
-        ensures { Self.number result ≡ exact_rem_euclid (Self.number self) (Self.number rhs) };
+            (euclidean_remainder (Self.number self) (Self.number rhs)) }
+        ensures { Self.number result ≡ euclidean_remainder (Self.number self) (Self.number rhs) };
 
     /// The Euclidean quotient, a whole number; condition that the divisor is not zero and the
     /// answer fits.
@@ -62,9 +64,9 @@ pub trait Plain: Number {
         requires fraction { Self.FRACTION ≤ Self.BITS }
         requires divisor { Self.Bits.value rhs ≢ pos 0 }
         requires fits { InRange Self.SIGNED Self.BITS
-            (exact_rem_euclid_int (Self.number self) (Self.Bits.value rhs) Self.FRACTION) }
+            (euclidean_remainder (Self.number self) (units (Self.Bits.value rhs) Self.FRACTION)) }
         ensures { Self.number result
-            ≡ exact_rem_euclid_int (Self.number self) (Self.Bits.value rhs) Self.FRACTION };
+            ≡ euclidean_remainder (Self.number self) (units (Self.Bits.value rhs) Self.FRACTION) };
 
     /// The Euclidean quotient by an integer, a whole number; condition that the divisor is not zero
     /// and the answer fits.
@@ -72,9 +74,9 @@ pub trait Plain: Number {
         requires fraction { Self.FRACTION ≤ Self.BITS }
         requires divisor { Self.Bits.value rhs ≢ pos 0 }
         requires fits { InRange Self.SIGNED Self.BITS
-            (exact_div_euclid_int (Self.number self) (Self.Bits.value rhs) Self.FRACTION) }
+            (exact_div_euclid (Self.number self) (units (Self.Bits.value rhs) Self.FRACTION) Self.FRACTION) }
         ensures { Self.number result
-            ≡ exact_div_euclid_int (Self.number self) (Self.Bits.value rhs) Self.FRACTION };
+            ≡ exact_div_euclid (Self.number self) (units (Self.Bits.value rhs) Self.FRACTION) Self.FRACTION };
 
     /// The square root, rounded down; condition that the number is not below zero and the answer
     /// fits.
@@ -82,8 +84,8 @@ pub trait Plain: Number {
         requires fraction { Self.FRACTION ≤ Self.BITS }
         requires sign { pos 0 ≤ℤ Self.number self }
         requires fits { InRange Self.SIGNED Self.BITS
-            (exact_sqrt (Self.number self) Self.FRACTION) }
-        ensures { Self.number result ≡ exact_sqrt (Self.number self) Self.FRACTION };
+            (root_of (Self.number self) Self.FRACTION) }
+        ensures { Self.number result ≡ root_of (Self.number self) Self.FRACTION };
 }
 
 impl<T: Word, const F: u32> Plain for Fixed<T, F> {
@@ -137,14 +139,14 @@ pub trait PlainSigned: Plain {
     /// The sum with an unsigned number; condition that the answer fits.
     fn add_unsigned(self, rhs: Self::Unsigned) -> Self
         requires { InRange Self.SIGNED Self.BITS
-            (exact_add (Self.number self) (Self.Unsigned.number rhs)) }
-        ensures { Self.number result ≡ exact_add (Self.number self) (Self.Unsigned.number rhs) };
+            (Self.number self +ℤ Self.Unsigned.number rhs) }
+        ensures { Self.number result ≡ Self.number self +ℤ Self.Unsigned.number rhs };
 
     /// The number minus an unsigned one; condition that the answer fits.
     fn sub_unsigned(self, rhs: Self::Unsigned) -> Self
         requires { InRange Self.SIGNED Self.BITS
-            (exact_sub (Self.number self) (Self.Unsigned.number rhs)) }
-        ensures { Self.number result ≡ exact_sub (Self.number self) (Self.Unsigned.number rhs) };
+            (Self.number self -ℤ Self.Unsigned.number rhs) }
+        ensures { Self.number result ≡ Self.number self -ℤ Self.Unsigned.number rhs };
 }
 
 impl<T: SignedWord, const F: u32> PlainSigned for Fixed<T, F> {
@@ -176,14 +178,14 @@ pub trait PlainUnsigned: Plain {
     /// The sum with a signed number; condition that the answer fits.
     fn add_signed(self, rhs: Self::Signed) -> Self
         requires { InRange Self.SIGNED Self.BITS
-            (exact_add (Self.number self) (Self.Signed.number rhs)) }
-        ensures { Self.number result ≡ exact_add (Self.number self) (Self.Signed.number rhs) };
+            (Self.number self +ℤ Self.Signed.number rhs) }
+        ensures { Self.number result ≡ Self.number self +ℤ Self.Signed.number rhs };
 
     /// The number minus a signed one; condition that the answer fits.
     fn sub_signed(self, rhs: Self::Signed) -> Self
         requires { InRange Self.SIGNED Self.BITS
-            (exact_sub (Self.number self) (Self.Signed.number rhs)) }
-        ensures { Self.number result ≡ exact_sub (Self.number self) (Self.Signed.number rhs) };
+            (Self.number self -ℤ Self.Signed.number rhs) }
+        ensures { Self.number result ≡ Self.number self -ℤ Self.Signed.number rhs };
 }
 
 impl<T: UnsignedWord, const F: u32> PlainUnsigned for Fixed<T, F> {

@@ -1,10 +1,11 @@
 //! Operations whose number is answered where it fits, and None where it does not.
 
-ghost use Rattle.std.specs.Prelude.{◌<◌, ◌%◌, ◌^◌, ◌*ℤ◌, ◌↔◌, IsNone, ◌≡◌, ◌≤◌, ◌≢◌, ◌≤ℤ◌, pos, Some, option_map};
+ghost use Rattle.std.specs.Prelude.{◌<◌, ◌%◌, ◌^◌, ◌*ℤ◌, ◌↔◌, IsNone, ◌≡◌, ◌≤◌, ◌≢◌, ◌≤ℤ◌, pos, Some, option_map, neg_ℤ, ◌+ℤ◌, ◌-ℤ◌};
 ghost use Rattle.fixed_word.specs.Format.{wrap};
 ghost use Rattle.fixed_word.specs.Policies.{checked};
-ghost use Rattle.fixed_word.specs.Quotient.{floor_quotient};
-ghost use Rattle.fixed_kernel.specs.Rows.{by_divisor, by_sign, exact_abs, exact_add, exact_dist, exact_div, exact_div_euclid, exact_div_euclid_int, exact_div_int, exact_mul, exact_mul_int, exact_neg, exact_next_multiple_of, exact_next_power_of_two, exact_recip, exact_rem, exact_rem_euclid, exact_rem_euclid_int, exact_rem_int, exact_signum, exact_sqrt, exact_sub};
+ghost use Rattle.fixed_word.specs.Quotient.{euclidean_remainder, floor_quotient, truncated_quotient};
+ghost use Rattle.fixed_kernel.specs.Root.{root_of};
+ghost use Rattle.fixed_kernel.specs.Rows.{by_divisor, by_sign, exact_abs, exact_dist, exact_div, exact_div_euclid, exact_mul, exact_next_multiple_of, exact_next_power_of_two, exact_recip, exact_rem, exact_signum, units};
 
 use crate::numbers::checked_number;
 use fixed_kernel::{
@@ -21,17 +22,17 @@ pub trait Checked: Number {
     /// The negated number; None exactly where it does not fit.
     fn checked_neg(self) -> Option<Self>
         ensures { option_map Self.number result
-            ≡ checked Self.SIGNED Self.BITS (Some (exact_neg (Self.number self))) };
+            ≡ checked Self.SIGNED Self.BITS (Some (neg_ℤ (Self.number self))) };
 
     /// The sum; None exactly where it does not fit.
     fn checked_add(self, rhs: Self) -> Option<Self>
         ensures { option_map Self.number result ≡ checked Self.SIGNED Self.BITS
-            (Some (exact_add (Self.number self) (Self.number rhs))) };
+            (Some (Self.number self +ℤ Self.number rhs)) };
 
     /// The difference; None exactly where it does not fit.
     fn checked_sub(self, rhs: Self) -> Option<Self>
         ensures { option_map Self.number result ≡ checked Self.SIGNED Self.BITS
-            (Some (exact_sub (Self.number self) (Self.number rhs))) };
+            (Some (Self.number self -ℤ Self.number rhs)) };
 
     /// The product, rounded down; None exactly where it does not fit.
     fn checked_mul(self, rhs: Self) -> Option<Self>
@@ -60,7 +61,7 @@ pub trait Checked: Number {
     /// The Euclidean remainder; None exactly on a zero divisor or where it does not fit.
     fn checked_rem_euclid(self, rhs: Self) -> Option<Self>
         ensures { option_map Self.number result ≡ checked Self.SIGNED Self.BITS
-            (by_divisor (Self.number rhs) (exact_rem_euclid (Self.number self) (Self.number rhs))) };
+            (by_divisor (Self.number rhs) (euclidean_remainder (Self.number self) (Self.number rhs))) };
 
     /// The Euclidean quotient, a whole number; None exactly on a zero divisor or where it does not
     /// fit.
@@ -84,13 +85,13 @@ pub trait Checked: Number {
     /// The product by an integer; None exactly where it does not fit.
     fn checked_mul_int(self, rhs: Self::Bits) -> Option<Self>
         ensures { option_map Self.number result ≡ checked Self.SIGNED Self.BITS
-            (Some (exact_mul_int (Self.number self) (Self.Bits.value rhs))) };
+            (Some (Self.number self *ℤ Self.Bits.value rhs)) };
 
     /// The quotient by an integer, rounded toward zero; None exactly on a zero divisor or where it
     /// does not fit.
     fn checked_div_int(self, rhs: Self::Bits) -> Option<Self>
         ensures { option_map Self.number result ≡ checked Self.SIGNED Self.BITS
-            (by_divisor (Self.Bits.value rhs) (exact_div_int (Self.number self) (Self.Bits.value rhs))) };
+            (by_divisor (Self.Bits.value rhs) (truncated_quotient (Self.number self) (Self.Bits.value rhs))) };
 
     /// The remainder by an integer, of the quotient that is rounded toward zero; None exactly on a
     /// zero divisor or where it does not fit.
@@ -98,7 +99,7 @@ pub trait Checked: Number {
         requires { Self.FRACTION ≤ Self.BITS }
         ensures { option_map Self.number result ≡ checked Self.SIGNED Self.BITS
             (by_divisor (Self.Bits.value rhs)
-            (exact_rem_int (Self.number self) (Self.Bits.value rhs) Self.FRACTION)) };
+            (exact_rem (Self.number self) (units (Self.Bits.value rhs) Self.FRACTION))) };
 
     /// The Euclidean remainder by an integer; None exactly on a zero divisor or where it does not
     /// fit.
@@ -106,7 +107,7 @@ pub trait Checked: Number {
         requires { Self.FRACTION ≤ Self.BITS }
         ensures { option_map Self.number result ≡ checked Self.SIGNED Self.BITS
             (by_divisor (Self.Bits.value rhs)
-            (exact_rem_euclid_int (Self.number self) (Self.Bits.value rhs) Self.FRACTION)) };
+            (euclidean_remainder (Self.number self) (units (Self.Bits.value rhs) Self.FRACTION))) };
 
     /// The Euclidean quotient by an integer, a whole number; None exactly on a zero divisor or
     /// where it does not fit.
@@ -114,13 +115,13 @@ pub trait Checked: Number {
         requires { Self.FRACTION ≤ Self.BITS }
         ensures { option_map Self.number result ≡ checked Self.SIGNED Self.BITS
             (by_divisor (Self.Bits.value rhs)
-            (exact_div_euclid_int (Self.number self) (Self.Bits.value rhs) Self.FRACTION)) };
+            (exact_div_euclid (Self.number self) (units (Self.Bits.value rhs) Self.FRACTION) Self.FRACTION)) };
 
     /// The square root, rounded down; None exactly on a number below zero or where it does not fit.
     fn checked_sqrt(self) -> Option<Self>
         requires { Self.FRACTION ≤ Self.BITS }
         ensures { option_map Self.number result ≡ checked Self.SIGNED Self.BITS
-            (by_sign (Self.number self) (exact_sqrt (Self.number self) Self.FRACTION)) };
+            (by_sign (Self.number self) (root_of (Self.number self) Self.FRACTION)) };
 
     /// The bits moved up by `rhs` places, without what lies past the width; None exactly where
     /// `rhs` is the width or more.
@@ -272,12 +273,12 @@ pub trait CheckedSigned: Checked {
     /// The sum with an unsigned number; None exactly where it does not fit.
     fn checked_add_unsigned(self, rhs: Self::Unsigned) -> Option<Self>
         ensures { option_map Self.number result ≡ checked Self.SIGNED Self.BITS
-            (Some (exact_add (Self.number self) (Self.Unsigned.number rhs))) };
+            (Some (Self.number self +ℤ Self.Unsigned.number rhs)) };
 
     /// The number minus an unsigned one; None exactly where it does not fit.
     fn checked_sub_unsigned(self, rhs: Self::Unsigned) -> Option<Self>
         ensures { option_map Self.number result ≡ checked Self.SIGNED Self.BITS
-            (Some (exact_sub (Self.number self) (Self.Unsigned.number rhs))) };
+            (Some (Self.number self -ℤ Self.Unsigned.number rhs)) };
 }
 
 impl<T: SignedWord, const F: u32> CheckedSigned for Fixed<T, F> {
@@ -309,12 +310,12 @@ pub trait CheckedUnsigned: Checked {
     /// The sum with a signed number; None exactly where it does not fit.
     fn checked_add_signed(self, rhs: Self::Signed) -> Option<Self>
         ensures { option_map Self.number result ≡ checked Self.SIGNED Self.BITS
-            (Some (exact_add (Self.number self) (Self.Signed.number rhs))) };
+            (Some (Self.number self +ℤ Self.Signed.number rhs)) };
 
     /// The number minus a signed one; None exactly where it does not fit.
     fn checked_sub_signed(self, rhs: Self::Signed) -> Option<Self>
         ensures { option_map Self.number result ≡ checked Self.SIGNED Self.BITS
-            (Some (exact_sub (Self.number self) (Self.Signed.number rhs))) };
+            (Some (Self.number self -ℤ Self.Signed.number rhs)) };
 }
 
 impl<T: UnsignedWord, const F: u32> CheckedUnsigned for Fixed<T, F> {

@@ -1,10 +1,11 @@
 //! Operations answered with the wrapped number and whether it does not fit.
 
-ghost use Rattle.std.specs.Prelude.{◌<◌, ◌%◌, ◌^◌, ◌*ℤ◌, ◌↔◌, IsTrue, ◌≡◌, ◌≤◌, ◌≢◌, ◌≤ℤ◌, pos, Some};
+ghost use Rattle.std.specs.Prelude.{◌<◌, ◌%◌, ◌^◌, ◌*ℤ◌, ◌↔◌, IsTrue, ◌≡◌, ◌≤◌, ◌≢◌, ◌≤ℤ◌, pos, Some, neg_ℤ, ◌+ℤ◌, ◌-ℤ◌};
 ghost use Rattle.fixed_word.specs.Format.{wrap};
 ghost use Rattle.fixed_word.specs.Policies.{overflowing};
-ghost use Rattle.fixed_word.specs.Quotient.{floor_quotient};
-ghost use Rattle.fixed_kernel.specs.Rows.{exact_abs, exact_add, exact_dist, exact_div, exact_div_euclid, exact_div_euclid_int, exact_div_int, exact_mul, exact_mul_int, exact_neg, exact_next_multiple_of, exact_recip, exact_rem_euclid_int, exact_signum, exact_sqrt, exact_sub};
+ghost use Rattle.fixed_word.specs.Quotient.{euclidean_remainder, floor_quotient, truncated_quotient};
+ghost use Rattle.fixed_kernel.specs.Root.{root_of};
+ghost use Rattle.fixed_kernel.specs.Rows.{exact_abs, exact_dist, exact_div, exact_div_euclid, exact_mul, exact_next_multiple_of, exact_recip, exact_signum, units};
 
 use crate::numbers::overflowing_number;
 use fixed_kernel::{
@@ -21,17 +22,17 @@ pub trait Overflowing: Number {
     /// The negated number, wrapped, and whether it does not fit.
     fn overflowing_neg(self) -> (Self, bool)
         ensures { Some (Self.number result.0, result.1)
-            ≡ overflowing Self.SIGNED Self.BITS (Some (exact_neg (Self.number self))) };
+            ≡ overflowing Self.SIGNED Self.BITS (Some (neg_ℤ (Self.number self))) };
 
     /// The sum, wrapped, and whether it does not fit.
     fn overflowing_add(self, rhs: Self) -> (Self, bool)
         ensures { Some (Self.number result.0, result.1) ≡ overflowing Self.SIGNED Self.BITS
-            (Some (exact_add (Self.number self) (Self.number rhs))) };
+            (Some (Self.number self +ℤ Self.number rhs)) };
 
     /// The difference, wrapped, and whether it does not fit.
     fn overflowing_sub(self, rhs: Self) -> (Self, bool)
         ensures { Some (Self.number result.0, result.1) ≡ overflowing Self.SIGNED Self.BITS
-            (Some (exact_sub (Self.number self) (Self.number rhs))) };
+            (Some (Self.number self -ℤ Self.number rhs)) };
 
     /// The product, rounded down, wrapped, and whether it does not fit.
     fn overflowing_mul(self, rhs: Self) -> (Self, bool)
@@ -78,14 +79,14 @@ pub trait Overflowing: Number {
     /// The product by an integer, wrapped, and whether it does not fit.
     fn overflowing_mul_int(self, rhs: Self::Bits) -> (Self, bool)
         ensures { Some (Self.number result.0, result.1) ≡ overflowing Self.SIGNED Self.BITS
-            (Some (exact_mul_int (Self.number self) (Self.Bits.value rhs))) };
+            (Some (Self.number self *ℤ Self.Bits.value rhs)) };
 
     /// The quotient by an integer, rounded toward zero, wrapped, and whether it does not fit;
     /// condition that the divisor is not zero.
     fn overflowing_div_int(self, rhs: Self::Bits) -> (Self, bool)
         requires { Self.Bits.value rhs ≢ pos 0 }
         ensures { Some (Self.number result.0, result.1) ≡ overflowing Self.SIGNED Self.BITS
-            (Some (exact_div_int (Self.number self) (Self.Bits.value rhs))) };
+            (Some (truncated_quotient (Self.number self) (Self.Bits.value rhs))) };
 
     /// The Euclidean remainder by an integer, wrapped, and whether it does not fit; condition that
     /// the divisor is not zero.
@@ -93,7 +94,7 @@ pub trait Overflowing: Number {
         requires fraction { Self.FRACTION ≤ Self.BITS }
         requires divisor { Self.Bits.value rhs ≢ pos 0 }
         ensures { Some (Self.number result.0, result.1) ≡ overflowing Self.SIGNED Self.BITS
-            (Some (exact_rem_euclid_int (Self.number self) (Self.Bits.value rhs) Self.FRACTION)) };
+            (Some (euclidean_remainder (Self.number self) (units (Self.Bits.value rhs) Self.FRACTION))) };
 
     /// The Euclidean quotient by an integer, a whole number, wrapped, and whether it does not fit;
     /// condition that the divisor is not zero.
@@ -101,7 +102,7 @@ pub trait Overflowing: Number {
         requires fraction { Self.FRACTION ≤ Self.BITS }
         requires divisor { Self.Bits.value rhs ≢ pos 0 }
         ensures { Some (Self.number result.0, result.1) ≡ overflowing Self.SIGNED Self.BITS
-            (Some (exact_div_euclid_int (Self.number self) (Self.Bits.value rhs) Self.FRACTION)) };
+            (Some (exact_div_euclid (Self.number self) (units (Self.Bits.value rhs) Self.FRACTION) Self.FRACTION)) };
 
     /// The square root, rounded down, wrapped, and whether it does not fit; condition that the
     /// number is not below zero.
@@ -109,7 +110,7 @@ pub trait Overflowing: Number {
         requires fraction { Self.FRACTION ≤ Self.BITS }
         requires sign { pos 0 ≤ℤ Self.number self }
         ensures { Some (Self.number result.0, result.1) ≡ overflowing Self.SIGNED Self.BITS
-            (Some (exact_sqrt (Self.number self) Self.FRACTION)) };
+            (Some (root_of (Self.number self) Self.FRACTION)) };
 
     /// The bits moved up by `rhs` modulo the width, without what lies past the width, and whether
     /// `rhs` is the width or more.
@@ -208,12 +209,12 @@ pub trait OverflowingSigned: Overflowing {
     /// The sum with an unsigned number, wrapped, and whether it does not fit.
     fn overflowing_add_unsigned(self, rhs: Self::Unsigned) -> (Self, bool)
         ensures { Some (Self.number result.0, result.1) ≡ overflowing Self.SIGNED Self.BITS
-            (Some (exact_add (Self.number self) (Self.Unsigned.number rhs))) };
+            (Some (Self.number self +ℤ Self.Unsigned.number rhs)) };
 
     /// The number minus an unsigned one, wrapped, and whether it does not fit.
     fn overflowing_sub_unsigned(self, rhs: Self::Unsigned) -> (Self, bool)
         ensures { Some (Self.number result.0, result.1) ≡ overflowing Self.SIGNED Self.BITS
-            (Some (exact_sub (Self.number self) (Self.Unsigned.number rhs))) };
+            (Some (Self.number self -ℤ Self.Unsigned.number rhs)) };
 }
 
 impl<T: SignedWord, const F: u32> OverflowingSigned for Fixed<T, F> {
@@ -239,12 +240,12 @@ pub trait OverflowingUnsigned: Overflowing {
     /// The sum with a signed number, wrapped, and whether it does not fit.
     fn overflowing_add_signed(self, rhs: Self::Signed) -> (Self, bool)
         ensures { Some (Self.number result.0, result.1) ≡ overflowing Self.SIGNED Self.BITS
-            (Some (exact_add (Self.number self) (Self.Signed.number rhs))) };
+            (Some (Self.number self +ℤ Self.Signed.number rhs)) };
 
     /// The number minus a signed one, wrapped, and whether it does not fit.
     fn overflowing_sub_signed(self, rhs: Self::Signed) -> (Self, bool)
         ensures { Some (Self.number result.0, result.1) ≡ overflowing Self.SIGNED Self.BITS
-            (Some (exact_sub (Self.number self) (Self.Signed.number rhs))) };
+            (Some (Self.number self -ℤ Self.Signed.number rhs)) };
 }
 
 impl<T: UnsignedWord, const F: u32> OverflowingUnsigned for Fixed<T, F> {

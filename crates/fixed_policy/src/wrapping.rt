@@ -1,10 +1,11 @@
 //! Operations answered with the wrapped number.
 
-ghost use Rattle.std.specs.Prelude.{◌<◌, ◌%◌, ◌^◌, ◌*ℤ◌, ◌≡◌, ◌≤◌, ◌≢◌, ◌≤ℤ◌, pos, Some};
+ghost use Rattle.std.specs.Prelude.{◌<◌, ◌%◌, ◌^◌, ◌*ℤ◌, ◌≡◌, ◌≤◌, ◌≢◌, ◌≤ℤ◌, pos, Some, neg_ℤ, ◌+ℤ◌, ◌-ℤ◌};
 ghost use Rattle.fixed_word.specs.Format.{wrap};
 ghost use Rattle.fixed_word.specs.Policies.{wrapping};
-ghost use Rattle.fixed_word.specs.Quotient.{floor_quotient};
-ghost use Rattle.fixed_kernel.specs.Rows.{exact_abs, exact_add, exact_dist, exact_div, exact_div_euclid, exact_div_euclid_int, exact_div_int, exact_mul, exact_mul_int, exact_neg, exact_next_multiple_of, exact_next_power_of_two, exact_recip, exact_rem_euclid_int, exact_signum, exact_sqrt, exact_sub};
+ghost use Rattle.fixed_word.specs.Quotient.{euclidean_remainder, floor_quotient, truncated_quotient};
+ghost use Rattle.fixed_kernel.specs.Root.{root_of};
+ghost use Rattle.fixed_kernel.specs.Rows.{exact_abs, exact_dist, exact_div, exact_div_euclid, exact_mul, exact_next_multiple_of, exact_next_power_of_two, exact_recip, exact_signum, units};
 
 use crate::numbers::wrapping_number;
 use fixed_kernel::{
@@ -21,17 +22,17 @@ pub trait Wrapping: Number {
     /// The negated number, wrapped.
     fn wrapping_neg(self) -> Self
         ensures { Some (Self.number result)
-            ≡ wrapping Self.SIGNED Self.BITS (Some (exact_neg (Self.number self))) };
+            ≡ wrapping Self.SIGNED Self.BITS (Some (neg_ℤ (Self.number self))) };
 
     /// The sum, wrapped.
     fn wrapping_add(self, rhs: Self) -> Self
         ensures { Some (Self.number result) ≡ wrapping Self.SIGNED Self.BITS
-            (Some (exact_add (Self.number self) (Self.number rhs))) };
+            (Some (Self.number self +ℤ Self.number rhs)) };
 
     /// The difference, wrapped.
     fn wrapping_sub(self, rhs: Self) -> Self
         ensures { Some (Self.number result) ≡ wrapping Self.SIGNED Self.BITS
-            (Some (exact_sub (Self.number self) (Self.number rhs))) };
+            (Some (Self.number self -ℤ Self.number rhs)) };
 
     /// The product, rounded down, wrapped.
     fn wrapping_mul(self, rhs: Self) -> Self
@@ -75,21 +76,21 @@ pub trait Wrapping: Number {
     /// The product by an integer, wrapped.
     fn wrapping_mul_int(self, rhs: Self::Bits) -> Self
         ensures { Some (Self.number result) ≡ wrapping Self.SIGNED Self.BITS
-            (Some (exact_mul_int (Self.number self) (Self.Bits.value rhs))) };
+            (Some (Self.number self *ℤ Self.Bits.value rhs)) };
 
     /// The quotient by an integer, rounded toward zero, wrapped; condition that the divisor is not
     /// zero.
     fn wrapping_div_int(self, rhs: Self::Bits) -> Self
         requires { Self.Bits.value rhs ≢ pos 0 }
         ensures { Some (Self.number result) ≡ wrapping Self.SIGNED Self.BITS
-            (Some (exact_div_int (Self.number self) (Self.Bits.value rhs))) };
+            (Some (truncated_quotient (Self.number self) (Self.Bits.value rhs))) };
 
     /// The Euclidean remainder by an integer, wrapped; condition that the divisor is not zero.
     fn wrapping_rem_euclid_int(self, rhs: Self::Bits) -> Self
         requires fraction { Self.FRACTION ≤ Self.BITS }
         requires divisor { Self.Bits.value rhs ≢ pos 0 }
         ensures { Some (Self.number result) ≡ wrapping Self.SIGNED Self.BITS
-            (Some (exact_rem_euclid_int (Self.number self) (Self.Bits.value rhs) Self.FRACTION)) };
+            (Some (euclidean_remainder (Self.number self) (units (Self.Bits.value rhs) Self.FRACTION))) };
 
     /// The Euclidean quotient by an integer, a whole number, wrapped; condition that the divisor is
     /// not zero.
@@ -97,14 +98,14 @@ pub trait Wrapping: Number {
         requires fraction { Self.FRACTION ≤ Self.BITS }
         requires divisor { Self.Bits.value rhs ≢ pos 0 }
         ensures { Some (Self.number result) ≡ wrapping Self.SIGNED Self.BITS
-            (Some (exact_div_euclid_int (Self.number self) (Self.Bits.value rhs) Self.FRACTION)) };
+            (Some (exact_div_euclid (Self.number self) (units (Self.Bits.value rhs) Self.FRACTION) Self.FRACTION)) };
 
     /// The square root, rounded down, wrapped; condition that the number is not below zero.
     fn wrapping_sqrt(self) -> Self
         requires fraction { Self.FRACTION ≤ Self.BITS }
         requires sign { pos 0 ≤ℤ Self.number self }
         ensures { Some (Self.number result)
-            ≡ wrapping Self.SIGNED Self.BITS (Some (exact_sqrt (Self.number self) Self.FRACTION)) };
+            ≡ wrapping Self.SIGNED Self.BITS (Some (root_of (Self.number self) Self.FRACTION)) };
 
     /// The bits moved up by `rhs` modulo the width, without what lies past the width.
     fn wrapping_shl(self, rhs: u32) -> Self
@@ -198,12 +199,12 @@ pub trait WrappingSigned: Wrapping {
     /// The sum with an unsigned number, wrapped.
     fn wrapping_add_unsigned(self, rhs: Self::Unsigned) -> Self
         ensures { Some (Self.number result) ≡ wrapping Self.SIGNED Self.BITS
-            (Some (exact_add (Self.number self) (Self.Unsigned.number rhs))) };
+            (Some (Self.number self +ℤ Self.Unsigned.number rhs)) };
 
     /// The number minus an unsigned one, wrapped.
     fn wrapping_sub_unsigned(self, rhs: Self::Unsigned) -> Self
         ensures { Some (Self.number result) ≡ wrapping Self.SIGNED Self.BITS
-            (Some (exact_sub (Self.number self) (Self.Unsigned.number rhs))) };
+            (Some (Self.number self -ℤ Self.Unsigned.number rhs)) };
 }
 
 impl<T: SignedWord, const F: u32> WrappingSigned for Fixed<T, F> {
@@ -234,12 +235,12 @@ pub trait WrappingUnsigned: Wrapping {
     /// The sum with a signed number, wrapped.
     fn wrapping_add_signed(self, rhs: Self::Signed) -> Self
         ensures { Some (Self.number result) ≡ wrapping Self.SIGNED Self.BITS
-            (Some (exact_add (Self.number self) (Self.Signed.number rhs))) };
+            (Some (Self.number self +ℤ Self.Signed.number rhs)) };
 
     /// The number minus a signed one, wrapped.
     fn wrapping_sub_signed(self, rhs: Self::Signed) -> Self
         ensures { Some (Self.number result) ≡ wrapping Self.SIGNED Self.BITS
-            (Some (exact_sub (Self.number self) (Self.Signed.number rhs))) };
+            (Some (Self.number self -ℤ Self.Signed.number rhs)) };
 }
 
 impl<T: UnsignedWord, const F: u32> WrappingUnsigned for Fixed<T, F> {

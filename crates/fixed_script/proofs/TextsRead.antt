@@ -12,8 +12,8 @@ use Rattle.fixed_script.specs.declared.names.Op.{Op}
 use Rattle.fixed_script.specs.declared.line.Shape.{Shape}
 use Rattle.fixed_script.specs.declared.line.Shape.TheVariants.{Unary, Binary, ByInteger, Ternary}
 use Rattle.fixed_word.specs.Decimal.{natural_text, whole_text}
-use Rattle.fixed_script.specs.Names.{policy_named, op_named, rounding_named}
-use Rattle.fixed_script.specs.Text.{ScriptHeader, header_text, header_tokens, ScriptLine, SetTo, Apply, Operands, OneRegister, TwoRegisters, RegisterAndInt, ThreeRegisters, takes_rounding, may_round, IsLine, line_text, line_tokens, operand_tokens, rounding_tokens, shape, shape_of}
+use Rattle.fixed_script.specs.Names.{policy_named, op_named, rounding_named, shape}
+use Rattle.fixed_script.specs.Text.{ScriptHeader, header_text, header_tokens, ScriptLine, SetTo, Apply, Operands, OneRegister, TwoRegisters, RegisterAndInt, ThreeRegisters, takes_rounding, may_round, IsLine, line_text, line_tokens, operand_tokens, rounding_tokens, shape_of}
 use Rattle.fixed_text.specs.Tokens.{tokens_of}
 use Rattle.fixed_text.proofs.Decimals.{decimal_of_text}
 use Rattle.fixed_script.proofs.Readers.{policy_again, op_again}

@@ -8,7 +8,8 @@ use Rattle.fixed_script.specs.declared.line.Shape.TheVariants.{Unary, Binary, By
 use Rattle.fixed_script.specs.declared.literal.Literal.{Literal}
 use Rattle.fixed_script.specs.declared.line.Line.{Line}
 use Rattle.fixed_script.specs.declared.line.Line.TheVariants.{Set, One, Two, Int, Three}
-use Rattle.fixed_script.specs.Text.{Operands, OneRegister, TwoRegisters, RegisterAndInt, ThreeRegisters, ScriptLine, SetTo, Apply, shape, may_round}
+use Rattle.fixed_script.specs.Names.{shape}
+use Rattle.fixed_script.specs.Text.{Operands, OneRegister, TwoRegisters, RegisterAndInt, ThreeRegisters, ScriptLine, SetTo, Apply, may_round}
 
 -- a number keeps its sign
 abbrev pub cap_whole : ℤ → ℤ

@@ -9,8 +9,8 @@ use Rattle.fixed_script.specs.declared.names.Op.{Op}
 use Rattle.fixed_script.specs.declared.line.Shape.{Shape}
 use Rattle.fixed_script.specs.declared.line.Shape.TheVariants.{Unary, Binary, ByInteger, Ternary}
 use Rattle.fixed_text.specs.Words.{word_named}
-use Rattle.fixed_script.specs.Names.{policy_named, op_named, rounding_named}
-use Rattle.fixed_script.specs.Text.{ScriptHeader, header_text, ScriptLine, SetTo, Apply, Operands, OneRegister, TwoRegisters, RegisterAndInt, ThreeRegisters, IsLine, line_text, shape, takes_rounding}
+use Rattle.fixed_script.specs.Names.{policy_named, op_named, rounding_named, shape}
+use Rattle.fixed_script.specs.Text.{ScriptHeader, header_text, ScriptLine, SetTo, Apply, Operands, OneRegister, TwoRegisters, RegisterAndInt, ThreeRegisters, IsLine, line_text, takes_rounding}
 use Rattle.fixed_word.specs.Pieces.{body}
 use Rattle.fixed_text.specs.Tokens.{tokens_of}
 use Rattle.fixed_text.specs.Numerals.{has_minus}

@@ -1,8 +1,10 @@
--- The names that a script gives to policies, operations and roundings.
-use Rattle.std.specs.Prelude.{ℕ, List, [], ◌∷◌, Option, codes}
+-- The names that a script gives to policies, operations and roundings, and what a line of an operation has.
+use Rattle.std.specs.Prelude.{ℕ, List, [], ◌∷◌, Option, Some, None, codes}
 use Rattle.fixed_text.specs.Words.{named}
 use Rattle.fixed_word.specs.declared.rounding.Rounding.{Rounding}
 use Rattle.fixed_word.specs.declared.rounding.Rounding.TheVariants.{Down, Zero, Even}
+use Rattle.fixed_script.specs.declared.line.Shape.{Shape}
+use Rattle.fixed_script.specs.declared.line.Shape.TheVariants.{Unary, Binary, ByInteger, Ternary}
 use Rattle.fixed_script.specs.declared.names.Policy.{Policy}
 use Rattle.fixed_script.specs.declared.names.Policy.TheVariants.{Checked, Saturating, Wrapping, Overflowing, Strict}
 use Rattle.fixed_script.specs.declared.names.Op.{Op}
@@ -15,29 +17,39 @@ policy_name Wrapping = codes "wrapping"
 policy_name Overflowing = codes "overflowing"
 policy_name Strict = codes "strict"
 
+-- an operation's name, the operands that it takes, and its rounding where a line names none, if a line may name one
+abbrev pub facts_of_op : Op → List ℕ × Shape × Option Rounding
+facts_of_op Neg = (codes "neg", Unary, None)
+facts_of_op Add = (codes "add", Binary, None)
+facts_of_op Sub = (codes "sub", Binary, None)
+facts_of_op Mul = (codes "mul", Binary, Some Down)
+facts_of_op Div = (codes "div", Binary, Some Zero)
+facts_of_op Recip = (codes "recip", Unary, Some Zero)
+facts_of_op MulAdd = (codes "mul_add", Ternary, Some Down)
+facts_of_op AddProd = (codes "add_prod", Ternary, Some Down)
+facts_of_op MulInt = (codes "mul_int", ByInteger, None)
+facts_of_op DivInt = (codes "div_int", ByInteger, Some Zero)
+facts_of_op DivEuclid = (codes "div_euclid", Binary, None)
+facts_of_op DivEuclidInt = (codes "div_euclid_int", ByInteger, None)
+facts_of_op RemEuclidInt = (codes "rem_euclid_int", ByInteger, None)
+facts_of_op NextMultipleOf = (codes "next_multiple_of", Binary, None)
+facts_of_op Dist = (codes "dist", Binary, None)
+facts_of_op Sqrt = (codes "sqrt", Unary, None)
+facts_of_op Abs = (codes "abs", Unary, None)
+facts_of_op Signum = (codes "signum", Unary, None)
+facts_of_op Rem = (codes "rem", Binary, None)
+facts_of_op RemInt = (codes "rem_int", ByInteger, None)
+facts_of_op RemEuclid = (codes "rem_euclid", Binary, None)
+facts_of_op NextPowerOfTwo = (codes "next_power_of_two", Unary, None)
+
 abbrev pub op_name : Op → List ℕ
-op_name Neg = codes "neg"
-op_name Add = codes "add"
-op_name Sub = codes "sub"
-op_name Mul = codes "mul"
-op_name Div = codes "div"
-op_name Recip = codes "recip"
-op_name MulAdd = codes "mul_add"
-op_name AddProd = codes "add_prod"
-op_name MulInt = codes "mul_int"
-op_name DivInt = codes "div_int"
-op_name DivEuclid = codes "div_euclid"
-op_name DivEuclidInt = codes "div_euclid_int"
-op_name RemEuclidInt = codes "rem_euclid_int"
-op_name NextMultipleOf = codes "next_multiple_of"
-op_name Dist = codes "dist"
-op_name Sqrt = codes "sqrt"
-op_name Abs = codes "abs"
-op_name Signum = codes "signum"
-op_name Rem = codes "rem"
-op_name RemInt = codes "rem_int"
-op_name RemEuclid = codes "rem_euclid"
-op_name NextPowerOfTwo = codes "next_power_of_two"
+op_name op = (facts_of_op op).0
+
+abbrev pub shape : Op → Shape
+shape op = (facts_of_op op).1
+
+abbrev pub default_rounding : Op → Option Rounding
+default_rounding op = (facts_of_op op).2
 
 abbrev pub rounding_name : Rounding → List ℕ
 rounding_name Down = codes "down"

@@ -1,15 +1,14 @@
 -- What a script can say, with numbers of any size, and the bytes that say it.
-use Rattle.std.specs.Prelude.{◌≡◌, ℕ, ℤ, Bool, true, false, List, [], ◌∷◌, ◌++◌, map, Option, Some, None, codes}
+use Rattle.std.specs.Prelude.{◌≡◌, ℕ, ℤ, Bool, true, List, [], ◌∷◌, ◌++◌, map, is_some, Option, Some, None, codes}
 use Rattle.std.specs.List.{join_with_byte}
 use Rattle.fixed_text.specs.declared.names.WordName.{WordName}
 use Rattle.fixed_word.specs.declared.rounding.Rounding.{Rounding}
 use Rattle.fixed_script.specs.declared.names.Policy.{Policy}
 use Rattle.fixed_script.specs.declared.names.Op.{Op}
-use Rattle.fixed_script.specs.declared.names.Op.TheVariants.{Neg, Add, Sub, Mul, Div, Recip, MulAdd, AddProd, MulInt, DivInt, DivEuclid, DivEuclidInt, RemEuclidInt, NextMultipleOf, Dist, Sqrt, Abs, Signum, Rem, RemInt, RemEuclid, NextPowerOfTwo}
 use Rattle.fixed_script.specs.declared.line.Shape.{Shape}
 use Rattle.fixed_script.specs.declared.line.Shape.TheVariants.{Unary, Binary, ByInteger, Ternary}
 use Rattle.fixed_text.specs.Words.{word_name}
-use Rattle.fixed_script.specs.Names.{policy_name, op_name, rounding_name}
+use Rattle.fixed_script.specs.Names.{policy_name, op_name, shape, default_rounding, rounding_name}
 use Rattle.fixed_word.specs.Decimal.{natural_text, whole_text}
 
 -- a word, and the fractions of the registers: the first, and the others
@@ -30,23 +29,6 @@ pub data ScriptLine : Type 0 where
   SetTo : ℕ → ℤ → ScriptLine
   Apply : ℕ → Policy → Op → Operands → Option Rounding → ScriptLine
 
--- which operands an operation takes; those not named take two registers
-abbrev pub shape : Op → Shape
-shape Neg = Unary
-shape Recip = Unary
-shape Sqrt = Unary
-shape Abs = Unary
-shape Signum = Unary
-shape NextPowerOfTwo = Unary
-shape MulInt = ByInteger
-shape DivInt = ByInteger
-shape DivEuclidInt = ByInteger
-shape RemEuclidInt = ByInteger
-shape RemInt = ByInteger
-shape MulAdd = Ternary
-shape AddProd = Ternary
-shape _ = Binary
-
 abbrev pub shape_of : Operands → Shape
 shape_of (OneRegister a) = Unary
 shape_of (TwoRegisters a b) = Binary
@@ -55,13 +37,7 @@ shape_of (ThreeRegisters a b c) = Ternary
 
 -- whether the operation may name its rounding
 abbrev pub takes_rounding : Op → Bool
-takes_rounding Mul = true
-takes_rounding Div = true
-takes_rounding Recip = true
-takes_rounding MulAdd = true
-takes_rounding AddProd = true
-takes_rounding DivInt = true
-takes_rounding _ = false
+takes_rounding op = is_some (default_rounding op)
 
 -- whether the operation may name that rounding, or none
 abbrev pub may_round : Op → Option Rounding → Bool

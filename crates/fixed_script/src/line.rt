@@ -1,7 +1,8 @@
 //! The lines of a script.
 
 ghost use Rattle.std.specs.Prelude.{◌≡◌, Some, IfSome, IfNone};
-ghost use Rattle.fixed_script.specs.Text.{shape, takes_rounding as rounds, ScriptLine, IsLine, line_text};
+ghost use Rattle.fixed_script.specs.Names.{shape};
+ghost use Rattle.fixed_script.specs.Text.{takes_rounding as rounds, ScriptLine, IsLine, line_text};
 ghost use Rattle.fixed_script.specs.Capped.{capped, checked_script_line};
 ghost use Rattle.fixed_text.specs.Tokens.{at_end, tokens_of};
 ghost use Rattle.fixed_script.specs.inside.Parser.{set_at, named_at, rounding_at, operands_at, apply_at, line_at};

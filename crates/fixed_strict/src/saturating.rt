@@ -1,8 +1,10 @@
 //! Operations answered with the nearest number that fits.
 
-ghost use Rattle.std.specs.Prelude.{◌≡◌, ◌≤◌, ◌≢◌, ◌≤ℤ◌, pos, Some};
+ghost use Rattle.std.specs.Prelude.{◌≡◌, ◌≤◌, ◌≢◌, ◌≤ℤ◌, pos, Some, neg_ℤ, ◌*ℤ◌, ◌+ℤ◌, ◌-ℤ◌};
 ghost use Rattle.fixed_word.specs.Policies.{saturating};
-ghost use Rattle.fixed_kernel.specs.Rows.{exact_abs, exact_add, exact_dist, exact_div, exact_div_euclid, exact_div_euclid_int, exact_div_int, exact_mul, exact_mul_int, exact_neg, exact_next_multiple_of, exact_recip, exact_rem_euclid_int, exact_signum, exact_sqrt, exact_sub};
+ghost use Rattle.fixed_word.specs.Quotient.{euclidean_remainder, truncated_quotient};
+ghost use Rattle.fixed_kernel.specs.Root.{root_of};
+ghost use Rattle.fixed_kernel.specs.Rows.{exact_abs, exact_dist, exact_div, exact_div_euclid, exact_mul, exact_next_multiple_of, exact_recip, exact_signum, units};
 
 use crate::numbers::{clamped_number, held_number, saturating_number};
 use fixed_kernel::{
@@ -19,17 +21,17 @@ pub trait Saturating: Number {
     /// The negated number, held at the ends.
     fn saturating_neg(self) -> Self
         ensures { Some (Self.number result)
-            ≡ saturating Self.SIGNED Self.BITS (Some (exact_neg (Self.number self))) };
+            ≡ saturating Self.SIGNED Self.BITS (Some (neg_ℤ (Self.number self))) };
 
     /// The sum, held at the ends.
     fn saturating_add(self, rhs: Self) -> Self
         ensures { Some (Self.number result) ≡ saturating Self.SIGNED Self.BITS
-            (Some (exact_add (Self.number self) (Self.number rhs))) };
+            (Some (Self.number self +ℤ Self.number rhs)) };
 
     /// The difference, held at the ends.
     fn saturating_sub(self, rhs: Self) -> Self
         ensures { Some (Self.number result) ≡ saturating Self.SIGNED Self.BITS
-            (Some (exact_sub (Self.number self) (Self.number rhs))) };
+            (Some (Self.number self -ℤ Self.number rhs)) };
 
     /// The product, rounded down, held at the ends.
     fn saturating_mul(self, rhs: Self) -> Self
@@ -75,14 +77,14 @@ pub trait Saturating: Number {
     /// The product by an integer, held at the ends.
     fn saturating_mul_int(self, rhs: Self::Bits) -> Self
         ensures { Some (Self.number result) ≡ saturating Self.SIGNED Self.BITS
-            (Some (exact_mul_int (Self.number self) (Self.Bits.value rhs))) };
+            (Some (Self.number self *ℤ Self.Bits.value rhs)) };
 
     /// The quotient by an integer, rounded toward zero, held at the ends; condition that the
     /// divisor is not zero.
     fn saturating_div_int(self, rhs: Self::Bits) -> Self
         requires { Self.Bits.value rhs ≢ pos 0 }
         ensures { Some (Self.number result) ≡ saturating Self.SIGNED Self.BITS
-            (Some (exact_div_int (Self.number self) (Self.Bits.value rhs))) };
+            (Some (truncated_quotient (Self.number self) (Self.Bits.value rhs))) };
 
     /// The Euclidean remainder by an integer, held at the ends; condition that the divisor is not
     /// zero.
@@ -90,7 +92,7 @@ pub trait Saturating: Number {
         requires fraction { Self.FRACTION ≤ Self.BITS }
         requires divisor { Self.Bits.value rhs ≢ pos 0 }
         ensures { Some (Self.number result) ≡ saturating Self.SIGNED Self.BITS
-            (Some (exact_rem_euclid_int (Self.number self) (Self.Bits.value rhs) Self.FRACTION)) };
+            (Some (euclidean_remainder (Self.number self) (units (Self.Bits.value rhs) Self.FRACTION))) };
 
     /// The Euclidean quotient by an integer, a whole number, held at the ends; condition that the
     /// divisor is not zero.
@@ -98,7 +100,7 @@ pub trait Saturating: Number {
         requires fraction { Self.FRACTION ≤ Self.BITS }
         requires divisor { Self.Bits.value rhs ≢ pos 0 }
         ensures { Some (Self.number result) ≡ saturating Self.SIGNED Self.BITS
-            (Some (exact_div_euclid_int (Self.number self) (Self.Bits.value rhs) Self.FRACTION)) };
+            (Some (exact_div_euclid (Self.number self) (units (Self.Bits.value rhs) Self.FRACTION) Self.FRACTION)) };
 
     /// The square root, rounded down, held at the ends; condition that the number is not below
     /// zero.
@@ -106,7 +108,7 @@ pub trait Saturating: Number {
         requires fraction { Self.FRACTION ≤ Self.BITS }
         requires sign { pos 0 ≤ℤ Self.number self }
         ensures { Some (Self.number result) ≡ saturating Self.SIGNED Self.BITS
-            (Some (exact_sqrt (Self.number self) Self.FRACTION)) };
+            (Some (root_of (Self.number self) Self.FRACTION)) };
 }
 
 impl<T: Word, const F: u32> Saturating for Fixed<T, F> {
@@ -183,12 +185,12 @@ pub trait SaturatingSigned: Saturating {
     /// The sum with an unsigned number, held at the ends.
     fn saturating_add_unsigned(self, rhs: Self::Unsigned) -> Self
         ensures { Some (Self.number result) ≡ saturating Self.SIGNED Self.BITS
-            (Some (exact_add (Self.number self) (Self.Unsigned.number rhs))) };
+            (Some (Self.number self +ℤ Self.Unsigned.number rhs)) };
 
     /// The number minus an unsigned one, held at the ends.
     fn saturating_sub_unsigned(self, rhs: Self::Unsigned) -> Self
         ensures { Some (Self.number result) ≡ saturating Self.SIGNED Self.BITS
-            (Some (exact_sub (Self.number self) (Self.Unsigned.number rhs))) };
+            (Some (Self.number self -ℤ Self.Unsigned.number rhs)) };
 }
 
 impl<T: SignedWord, const F: u32> SaturatingSigned for Fixed<T, F> {
@@ -214,12 +216,12 @@ pub trait SaturatingUnsigned: Saturating {
     /// The sum with a signed number, held at the ends.
     fn saturating_add_signed(self, rhs: Self::Signed) -> Self
         ensures { Some (Self.number result) ≡ saturating Self.SIGNED Self.BITS
-            (Some (exact_add (Self.number self) (Self.Signed.number rhs))) };
+            (Some (Self.number self +ℤ Self.Signed.number rhs)) };
 
     /// The number minus a signed one, held at the ends.
     fn saturating_sub_signed(self, rhs: Self::Signed) -> Self
         ensures { Some (Self.number result) ≡ saturating Self.SIGNED Self.BITS
-            (Some (exact_sub (Self.number self) (Self.Signed.number rhs))) };
+            (Some (Self.number self -ℤ Self.Signed.number rhs)) };
 }
 
 impl<T: UnsignedWord, const F: u32> SaturatingUnsigned for Fixed<T, F> {

@@ -1,9 +1,10 @@
 //! Operations for numbers that fit, as the strict forms.
 
-ghost use Rattle.std.specs.Prelude.{◌<◌, ◌%◌, ◌^◌, ◌*ℤ◌, ◌≡◌, ◌≤◌, ◌≢◌, ◌≤ℤ◌, pos};
+ghost use Rattle.std.specs.Prelude.{◌<◌, ◌%◌, ◌^◌, ◌*ℤ◌, ◌≡◌, ◌≤◌, ◌≢◌, ◌≤ℤ◌, pos, neg_ℤ, ◌+ℤ◌, ◌-ℤ◌};
 ghost use Rattle.fixed_word.specs.Format.{InRange, wrap};
-ghost use Rattle.fixed_word.specs.Quotient.{floor_quotient};
-ghost use Rattle.fixed_kernel.specs.Rows.{exact_abs, exact_add, exact_dist, exact_div, exact_div_euclid, exact_div_euclid_int, exact_div_int, exact_mul, exact_mul_int, exact_neg, exact_next_multiple_of, exact_next_power_of_two, exact_recip, exact_rem, exact_rem_euclid, exact_rem_euclid_int, exact_rem_int, exact_signum, exact_sqrt, exact_sub};
+ghost use Rattle.fixed_word.specs.Quotient.{euclidean_remainder, floor_quotient, truncated_quotient};
+ghost use Rattle.fixed_kernel.specs.Root.{root_of};
+ghost use Rattle.fixed_kernel.specs.Rows.{exact_abs, exact_dist, exact_div, exact_div_euclid, exact_mul, exact_next_multiple_of, exact_next_power_of_two, exact_recip, exact_rem, exact_signum, units};
 
 use crate::strict::{Strict, StrictSigned, StrictUnsigned};
 use fixed_num::{Fixed, Held, Number};
@@ -14,18 +15,18 @@ use fixed_word::{RawWord, SignedWord, UnsignedWord, Word};
 pub trait Unwrapped: Number {
     /// The negated number; condition that the answer fits.
     fn unwrapped_neg(self) -> Self
-        requires { InRange Self.SIGNED Self.BITS (exact_neg (Self.number self)) }
-        ensures { Self.number result ≡ exact_neg (Self.number self) };
+        requires { InRange Self.SIGNED Self.BITS (neg_ℤ (Self.number self)) }
+        ensures { Self.number result ≡ neg_ℤ (Self.number self) };
 
     /// The sum; condition that the answer fits.
     fn unwrapped_add(self, rhs: Self) -> Self
-        requires { InRange Self.SIGNED Self.BITS (exact_add (Self.number self) (Self.number rhs)) }
-        ensures { Self.number result ≡ exact_add (Self.number self) (Self.number rhs) };
+        requires { InRange Self.SIGNED Self.BITS (Self.number self +ℤ Self.number rhs) }
+        ensures { Self.number result ≡ Self.number self +ℤ Self.number rhs };
 
     /// The difference; condition that the answer fits.
     fn unwrapped_sub(self, rhs: Self) -> Self
-        requires { InRange Self.SIGNED Self.BITS (exact_sub (Self.number self) (Self.number rhs)) }
-        ensures { Self.number result ≡ exact_sub (Self.number self) (Self.number rhs) };
+        requires { InRange Self.SIGNED Self.BITS (Self.number self -ℤ Self.number rhs) }
+        ensures { Self.number result ≡ Self.number self -ℤ Self.number rhs };
 
     /// The product, rounded down; condition that the answer fits.
     fn unwrapped_mul(self, rhs: Self) -> Self
@@ -66,8 +67,8 @@ pub trait Unwrapped: Number {
     fn unwrapped_rem_euclid(self, rhs: Self) -> Self
         requires divisor { Self.number rhs ≢ pos 0 }
         requires fits { InRange Self.SIGNED Self.BITS
-            (exact_rem_euclid (Self.number self) (Self.number rhs)) }
-        ensures { Self.number result ≡ exact_rem_euclid (Self.number self) (Self.number rhs) };
+            (euclidean_remainder (Self.number self) (Self.number rhs)) }
+        ensures { Self.number result ≡ euclidean_remainder (Self.number self) (Self.number rhs) };
 
     /// The Euclidean quotient, a whole number; condition that the divisor is not zero and the
     /// answer fits.
@@ -97,16 +98,16 @@ pub trait Unwrapped: Number {
     /// The product by an integer; condition that the answer fits.
     fn unwrapped_mul_int(self, rhs: Self::Bits) -> Self
         requires { InRange Self.SIGNED Self.BITS
-            (exact_mul_int (Self.number self) (Self.Bits.value rhs)) }
-        ensures { Self.number result ≡ exact_mul_int (Self.number self) (Self.Bits.value rhs) };
+            (Self.number self *ℤ Self.Bits.value rhs) }
+        ensures { Self.number result ≡ Self.number self *ℤ Self.Bits.value rhs };
 
     /// The quotient by an integer, rounded toward zero; condition that the divisor is not zero and
     /// the answer fits.
     fn unwrapped_div_int(self, rhs: Self::Bits) -> Self
         requires divisor { Self.Bits.value rhs ≢ pos 0 }
         requires fits { InRange Self.SIGNED Self.BITS
-            (exact_div_int (Self.number self) (Self.Bits.value rhs)) }
-        ensures { Self.number result ≡ exact_div_int (Self.number self) (Self.Bits.value rhs) };
+            (truncated_quotient (Self.number self) (Self.Bits.value rhs)) }
+        ensures { Self.number result ≡ truncated_quotient (Self.number self) (Self.Bits.value rhs) };
 
     /// The remainder by an integer, of the quotient that is rounded toward zero; condition that the
     /// divisor is not zero and the answer fits.
@@ -114,9 +115,9 @@ pub trait Unwrapped: Number {
         requires fraction { Self.FRACTION ≤ Self.BITS }
         requires divisor { Self.Bits.value rhs ≢ pos 0 }
         requires fits { InRange Self.SIGNED Self.BITS
-            (exact_rem_int (Self.number self) (Self.Bits.value rhs) Self.FRACTION) }
+            (exact_rem (Self.number self) (units (Self.Bits.value rhs) Self.FRACTION)) }
         ensures { Self.number result
-            ≡ exact_rem_int (Self.number self) (Self.Bits.value rhs) Self.FRACTION };
+            ≡ exact_rem (Self.number self) (units (Self.Bits.value rhs) Self.FRACTION) };
 
     /// The Euclidean remainder by an integer; condition that the divisor is not zero and the answer
     /// fits.
@@ -124,9 +125,9 @@ pub trait Unwrapped: Number {
         requires fraction { Self.FRACTION ≤ Self.BITS }
         requires divisor { Self.Bits.value rhs ≢ pos 0 }
         requires fits { InRange Self.SIGNED Self.BITS
-            (exact_rem_euclid_int (Self.number self) (Self.Bits.value rhs) Self.FRACTION) }
+            (euclidean_remainder (Self.number self) (units (Self.Bits.value rhs) Self.FRACTION)) }
         ensures { Self.number result
-            ≡ exact_rem_euclid_int (Self.number self) (Self.Bits.value rhs) Self.FRACTION };
+            ≡ euclidean_remainder (Self.number self) (units (Self.Bits.value rhs) Self.FRACTION) };
 
     /// The Euclidean quotient by an integer, a whole number; condition that the divisor is not zero
     /// and the answer fits.
@@ -134,9 +135,9 @@ pub trait Unwrapped: Number {
         requires fraction { Self.FRACTION ≤ Self.BITS }
         requires divisor { Self.Bits.value rhs ≢ pos 0 }
         requires fits { InRange Self.SIGNED Self.BITS
-            (exact_div_euclid_int (Self.number self) (Self.Bits.value rhs) Self.FRACTION) }
+            (exact_div_euclid (Self.number self) (units (Self.Bits.value rhs) Self.FRACTION) Self.FRACTION) }
         ensures { Self.number result
-            ≡ exact_div_euclid_int (Self.number self) (Self.Bits.value rhs) Self.FRACTION };
+            ≡ exact_div_euclid (Self.number self) (units (Self.Bits.value rhs) Self.FRACTION) Self.FRACTION };
 
     /// The square root, rounded down; condition that the number is not below zero and the answer
     /// fits.
@@ -144,8 +145,8 @@ pub trait Unwrapped: Number {
         requires fraction { Self.FRACTION ≤ Self.BITS }
         requires sign { pos 0 ≤ℤ Self.number self }
         requires fits { InRange Self.SIGNED Self.BITS
-            (exact_sqrt (Self.number self) Self.FRACTION) }
-        ensures { Self.number result ≡ exact_sqrt (Self.number self) Self.FRACTION };
+            (root_of (Self.number self) Self.FRACTION) }
+        ensures { Self.number result ≡ root_of (Self.number self) Self.FRACTION };
 
     /// The bits moved up by `rhs` places, without what lies past the width; condition that `rhs` is
     /// below the width.
@@ -255,14 +256,14 @@ pub trait UnwrappedSigned: Unwrapped {
     /// The sum with an unsigned number; condition that the answer fits.
     fn unwrapped_add_unsigned(self, rhs: Self::Unsigned) -> Self
         requires { InRange Self.SIGNED Self.BITS
-            (exact_add (Self.number self) (Self.Unsigned.number rhs)) }
-        ensures { Self.number result ≡ exact_add (Self.number self) (Self.Unsigned.number rhs) };
+            (Self.number self +ℤ Self.Unsigned.number rhs) }
+        ensures { Self.number result ≡ Self.number self +ℤ Self.Unsigned.number rhs };
 
     /// The number minus an unsigned one; condition that the answer fits.
     fn unwrapped_sub_unsigned(self, rhs: Self::Unsigned) -> Self
         requires { InRange Self.SIGNED Self.BITS
-            (exact_sub (Self.number self) (Self.Unsigned.number rhs)) }
-        ensures { Self.number result ≡ exact_sub (Self.number self) (Self.Unsigned.number rhs) };
+            (Self.number self -ℤ Self.Unsigned.number rhs) }
+        ensures { Self.number result ≡ Self.number self -ℤ Self.Unsigned.number rhs };
 }
 
 impl<T: SignedWord, const F: u32> UnwrappedSigned for Fixed<T, F> {
@@ -294,14 +295,14 @@ pub trait UnwrappedUnsigned: Unwrapped {
     /// The sum with a signed number; condition that the answer fits.
     fn unwrapped_add_signed(self, rhs: Self::Signed) -> Self
         requires { InRange Self.SIGNED Self.BITS
-            (exact_add (Self.number self) (Self.Signed.number rhs)) }
-        ensures { Self.number result ≡ exact_add (Self.number self) (Self.Signed.number rhs) };
+            (Self.number self +ℤ Self.Signed.number rhs) }
+        ensures { Self.number result ≡ Self.number self +ℤ Self.Signed.number rhs };
 
     /// The number minus a signed one; condition that the answer fits.
     fn unwrapped_sub_signed(self, rhs: Self::Signed) -> Self
         requires { InRange Self.SIGNED Self.BITS
-            (exact_sub (Self.number self) (Self.Signed.number rhs)) }
-        ensures { Self.number result ≡ exact_sub (Self.number self) (Self.Signed.number rhs) };
+            (Self.number self -ℤ Self.Signed.number rhs) }
+        ensures { Self.number result ≡ Self.number self -ℤ Self.Signed.number rhs };
 }
 
 impl<T: UnsignedWord, const F: u32> UnwrappedUnsigned for Fixed<T, F> {

@@ -1,4 +1,5 @@
 -- What each policy makes of a row: of a number without a bound, or of nothing where the row is undefined.
+-- Under the strict policy a row stays as it is, and is used only where its number fits.
 use Rattle.std.specs.Prelude.{ℕ, ℤ, Bool, not, Option, Some, None, if◌then◌else◌}
 use Rattle.std.specs.Option.{option_map}
 use Rattle.fixed_word.specs.Format.{fits, clamp, wrap}
@@ -19,7 +20,3 @@ wrapping signed n row = option_map (wrap signed n) row
 -- the same, and the verdict "the number does not fit"
 abbrev pub overflowing : Bool → ℕ → Option ℤ → Option (ℤ × Bool)
 overflowing signed n row = option_map (λ x. (wrap signed n x, not (fits signed n x))) row
-
--- the row as it stands, which is used only where its number fits
-abbrev pub strict : Option ℤ → Option ℤ
-strict row = row

@@ -4,7 +4,7 @@ ghost use Rattle.std.specs.Prelude.{◌≡◌, ℤ, Some, option_map};
 ghost use Rattle.fixed_word.specs.declared.outcome.Side.TheVariants.{Above, Below};
 ghost use Rattle.fixed_word.specs.Format.{highest, lowest};
 ghost use Rattle.fixed_word.specs.Standing.{StandsFor};
-ghost use Rattle.fixed_word.specs.Policies.{checked, overflowing, wrapping, saturating, strict};
+ghost use Rattle.fixed_word.specs.Policies.{checked, overflowing, wrapping, saturating};
 
 use crate::outcome::{Outcome, Side};
 use crate::word::{RawWord, Word};
@@ -77,7 +77,7 @@ pub fn clamped_of<T: Word>(outcome: Outcome<T>) -> T
 pub fn strict_of<T: Word>(outcome: Outcome<T>) -> T
     requires { outcome.side ≡ Side.Fits }
     ensures { (x : ℤ) → StandsFor T.value T.SIGNED T.BITS x outcome
-        → Some (T.value result) ≡ strict (Some x) }
+        → T.value result ≡ x }
 {
     outcome.wrapped
 }

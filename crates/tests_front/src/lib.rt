@@ -1,15 +1,14 @@
 //! A user who lists `fixed` alone: calls, generic code, and contracts that cite its definitions.
 #![tactic(auto)]
 
-ghost use Rattle.std.specs.Prelude.{◌≡◌, Some, true};
+ghost use Rattle.std.specs.Prelude.{◌≡◌, Some, true, ◌+ℤ◌};
 ghost use Rattle.fixed.specs.Policies.{saturating};
-ghost use Rattle.fixed.specs.Rows.{exact_add};
 
 use fixed::{Checked, FixedI32, Saturating};
 
 /// A level and a step, held at the ends of the format.
 pub fn moved(level: FixedI32<16>, step: FixedI32<16>) -> FixedI32<16>
-    ensures { Some result.bits ≡ saturating true 32 (Some (exact_add level.bits step.bits)) }
+    ensures { Some result.bits ≡ saturating true 32 (Some (level.bits +ℤ step.bits)) }
 {
     level.saturating_add(step)
 }

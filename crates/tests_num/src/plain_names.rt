@@ -1,8 +1,8 @@
 //! Known answers, and each trait through its bound.
 
-ghost use Rattle.std.specs.Prelude.{◌≡◌, ◌≢◌, ◌≤◌, ◌≤ℤ◌, pos};
+ghost use Rattle.std.specs.Prelude.{◌≡◌, ◌≢◌, ◌≤◌, ◌≤ℤ◌, pos, ◌+ℤ◌};
 ghost use Rattle.fixed_word.specs.Format.{InRange};
-ghost use Rattle.fixed_kernel.specs.Rows.{exact_abs, exact_add, exact_add_prod, exact_mul_add, exact_next_power_of_two, exact_recip};
+ghost use Rattle.fixed_kernel.specs.Rows.{exact_abs, exact_add_prod, exact_mul_add, exact_next_power_of_two, exact_recip};
 
 use super::same::all_same;
 use fixed_num::{Fixed, Held, Number};
@@ -38,7 +38,7 @@ fn magnitude<N: PlainSigned>(a: N) -> N
 
 /// The sum with a signed number, through the bound.
 fn moved<N: PlainUnsigned>(a: N, by: N::Signed) -> N
-    requires { InRange N.SIGNED N.BITS (exact_add (N.number a) (N.Signed.number by)) }
+    requires { InRange N.SIGNED N.BITS (N.number a +ℤ N.Signed.number by) }
 {
     a.add_signed(by)
 }

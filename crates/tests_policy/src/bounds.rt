@@ -1,7 +1,6 @@
 //! Callers that know a number by the bound of its policy alone.
 
 ghost use Rattle.std.specs.Prelude.{◌≡◌, ◌+ℤ◌, option_map};
-ghost use Rattle.fixed_kernel.specs.Rows.{exact_add};
 ghost use Rattle.fixed_word.specs.Format.{IsWidth};
 ghost use Rattle.fixed_word.specs.Policies.{checked};
 ghost use Rattle.std.specs.Prelude.{Some};
@@ -12,7 +11,7 @@ use fixed_word::Valued;
 /// Twice the number, or None exactly where that does not fit.
 pub fn doubled<N: Checked>(number: N) -> Option<N>
     ensures { option_map N.number result
-        ≡ checked N.SIGNED N.BITS (Some (exact_add (N.number number) (N.number number))) }
+        ≡ checked N.SIGNED N.BITS (Some (N.number number +ℤ N.number number)) }
 {
     number.checked_add(number)
 }

@@ -1,8 +1,8 @@
 //! The calls of signed or of unsigned numbers alone, and shifts, each through its bound.
 
-ghost use Rattle.std.specs.Prelude.{◌<◌, ◌≤◌};
+ghost use Rattle.std.specs.Prelude.{◌<◌, ◌≤◌, ◌+ℤ◌, ◌-ℤ◌};
 ghost use Rattle.fixed_word.specs.Format.{InRange};
-ghost use Rattle.fixed_kernel.specs.Rows.{exact_abs, exact_add, exact_next_power_of_two, exact_signum, exact_sub};
+ghost use Rattle.fixed_kernel.specs.Rows.{exact_abs, exact_next_power_of_two, exact_signum};
 
 use super::plain::{Forms, all_fit, all_stand, forms, forms_of, shown, value};
 use fixed_num::{FixedI8, FixedU8};
@@ -166,8 +166,8 @@ fn sums_of_an_unsigned_and_a_signed_number(rt: HostRuntime) {
 
 /// A sum and a difference that fit, by strict and unwrapped calls.
 fn fitting_unsigned_sums<N: StrictSigned + UnwrappedSigned>(a: N, c: N, b: N::Unsigned) -> [i128; 4]
-    requires sum { InRange N.SIGNED N.BITS (exact_add (N.number a) (N.Unsigned.number b)) }
-    requires difference { InRange N.SIGNED N.BITS (exact_sub (N.number c) (N.Unsigned.number b)) }
+    requires sum { InRange N.SIGNED N.BITS (N.number a +ℤ N.Unsigned.number b) }
+    requires difference { InRange N.SIGNED N.BITS (N.number c -ℤ N.Unsigned.number b) }
 {
     [
         value(a.strict_add_unsigned(b)),
@@ -179,8 +179,8 @@ fn fitting_unsigned_sums<N: StrictSigned + UnwrappedSigned>(a: N, c: N, b: N::Un
 
 /// The same with a signed summand.
 fn fitting_signed_sums<N: StrictUnsigned + UnwrappedUnsigned>(a: N, c: N, b: N::Signed) -> [i128; 4]
-    requires sum { InRange N.SIGNED N.BITS (exact_add (N.number a) (N.Signed.number b)) }
-    requires difference { InRange N.SIGNED N.BITS (exact_sub (N.number c) (N.Signed.number b)) }
+    requires sum { InRange N.SIGNED N.BITS (N.number a +ℤ N.Signed.number b) }
+    requires difference { InRange N.SIGNED N.BITS (N.number c -ℤ N.Signed.number b) }
 {
     [
         value(a.strict_add_signed(b)),

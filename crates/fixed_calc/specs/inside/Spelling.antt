@@ -3,9 +3,9 @@ use Rattle.std.specs.Prelude.{◌≡◌, ◌<◌, ◌≤◌, ◌+◌, ◌-◌, �
 use Rattle.std.specs.Bool.{⊤}
 use Rattle.fixed_word.specs.declared.rounding.Rounding.{Rounding}
 use Rattle.fixed_word.specs.Pieces.{pieces}
-use Rattle.fixed_script.specs.Names.{rounding_name}
+use Rattle.fixed_script.specs.Names.{rounding_name, default_rounding}
 use Rattle.fixed_script.specs.Text.{ScriptLine, SetTo, Apply}
-use Rattle.fixed_calc.specs.Spelled.{default_rounding, Spelling, Written, NoForm, in_front, spelled_lines}
+use Rattle.fixed_calc.specs.Spelled.{Spelling, Written, NoForm, in_front, spelled_lines}
 use Rattle.fixed_calc.specs.declared.spelled.ExplicitFault.{ExplicitFault}
 use Rattle.fixed_calc.specs.declared.spelled.ExplicitFault.TheVariants.{Syntax, Memory}
 

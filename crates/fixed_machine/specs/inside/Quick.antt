@@ -6,7 +6,8 @@ use Rattle.fixed_word.specs.Pieces.{pieces}
 use Rattle.fixed_script.specs.declared.line.Shape.{Shape}
 use Rattle.fixed_script.specs.declared.line.Shape.TheVariants.{Unary, Binary, ByInteger, Ternary}
 use Rattle.fixed_script.specs.Lines.{line_of_piece}
-use Rattle.fixed_script.specs.Text.{ScriptLine, SetTo, Apply, Operands, OneRegister, TwoRegisters, RegisterAndInt, ThreeRegisters, operand_tokens, shape}
+use Rattle.fixed_script.specs.Names.{shape}
+use Rattle.fixed_script.specs.Text.{ScriptLine, SetTo, Apply, Operands, OneRegister, TwoRegisters, RegisterAndInt, ThreeRegisters, operand_tokens}
 use Rattle.fixed_machine.specs.declared.quick.Applied.{Applied}
 use Rattle.fixed_machine.specs.declared.quick.QuickLine.{QuickLine}
 

@@ -11,8 +11,8 @@ use Rattle.fixed_script.specs.declared.line.Shape.TheVariants.{Unary, Binary, By
 use Rattle.fixed_script.specs.declared.literal.Literal.{Literal}
 use Rattle.fixed_script.specs.declared.line.Line.{Line}
 use Rattle.fixed_script.specs.declared.line.Line.TheVariants.{Set, One, Two, Int, Three}
-use Rattle.fixed_script.specs.Names.{policy_named, op_named, rounding_named}
-use Rattle.fixed_script.specs.Text.{shape, takes_rounding}
+use Rattle.fixed_script.specs.Names.{policy_named, op_named, rounding_named, shape}
+use Rattle.fixed_script.specs.Text.{takes_rounding}
 
 unfoldable pub register_at : List ℕ → Option ℕ
 register_at [] = None

@@ -1,5 +1,6 @@
 use Rattle.std.proofs.Common.{refl}
-use Rattle.fixed_kernel.specs.Rows.{exact_div, exact_div_euclid, exact_next_multiple_of, exact_rem_euclid}
+use Rattle.fixed_word.specs.Quotient.{euclidean_remainder}
+use Rattle.fixed_kernel.specs.Rows.{exact_div, exact_div_euclid, exact_next_multiple_of}
 use Rattle.fixed_machine.specs.Rows.{exact}
 use Rattle.fixed_agree.proofs.Policies.{by_strict, fit_divided}
 use Rattle.fixed_agree.proofs.strict.binary.Goals as goal
@@ -34,4 +35,4 @@ returns-in-Dist g c = rw c.in-Dist.is (by_strict g.T.RawWord.SIGNED g.T.Valued.B
 
 pub returns-in-RemEuclid : goal.returns-in-RemEuclid
 unfolding exact
-returns-in-RemEuclid g c = rw c.in-RemEuclid.is (by_strict g.T.RawWord.SIGNED g.T.Valued.BITS _ _ _ _ _ (fit_divided g.T.RawWord.SIGNED g.T.Valued.BITS (g.T.Valued.value c.args.b.bits) (exact_rem_euclid (g.T.Valued.value c.args.a.bits) (g.T.Valued.value c.args.b.bits)) (rw c.in-RemEuclid.is at c.requires.row)) c.bits_of-in-RemEuclid.ensures c.strict_rem_euclid.ensures)
+returns-in-RemEuclid g c = rw c.in-RemEuclid.is (by_strict g.T.RawWord.SIGNED g.T.Valued.BITS _ _ _ _ _ (fit_divided g.T.RawWord.SIGNED g.T.Valued.BITS (g.T.Valued.value c.args.b.bits) (euclidean_remainder (g.T.Valued.value c.args.a.bits) (g.T.Valued.value c.args.b.bits)) (rw c.in-RemEuclid.is at c.requires.row)) c.bits_of-in-RemEuclid.ensures c.strict_rem_euclid.ensures)

@@ -1,5 +1,6 @@
 use Rattle.std.proofs.Common.{refl}
-use Rattle.fixed_kernel.specs.Rows.{exact_div_euclid_int, exact_div_int, exact_rem_euclid_int, exact_rem_int}
+use Rattle.fixed_word.specs.Quotient.{euclidean_remainder, truncated_quotient}
+use Rattle.fixed_kernel.specs.Rows.{exact_div_euclid, exact_rem, units}
 use Rattle.fixed_machine.specs.Rows.{exact}
 use Rattle.fixed_agree.proofs.Policies.{by_strict, fit_divided}
 use Rattle.fixed_agree.proofs.strict.by_integer.Goals as goal
@@ -10,16 +11,16 @@ returns-in-MulInt g c = rw c.in-MulInt.is (by_strict g.T.RawWord.SIGNED g.T.Valu
 
 pub returns-in-DivInt : goal.returns-in-DivInt
 unfolding exact
-returns-in-DivInt g c = rw c.in-DivInt.is (by_strict g.T.RawWord.SIGNED g.T.Valued.BITS _ _ _ _ _ (fit_divided g.T.RawWord.SIGNED g.T.Valued.BITS (g.T.Valued.value c.args.k) (exact_div_int (g.T.Valued.value c.args.a.bits) (g.T.Valued.value c.args.k)) (rw c.in-DivInt.is at c.requires.row)) c.bits_of-in-DivInt.ensures c.strict_div_int.ensures)
+returns-in-DivInt g c = rw c.in-DivInt.is (by_strict g.T.RawWord.SIGNED g.T.Valued.BITS _ _ _ _ _ (fit_divided g.T.RawWord.SIGNED g.T.Valued.BITS (g.T.Valued.value c.args.k) (truncated_quotient (g.T.Valued.value c.args.a.bits) (g.T.Valued.value c.args.k)) (rw c.in-DivInt.is at c.requires.row)) c.bits_of-in-DivInt.ensures c.strict_div_int.ensures)
 
 pub returns-in-DivEuclidInt : goal.returns-in-DivEuclidInt
 unfolding exact
-returns-in-DivEuclidInt g c = rw c.in-DivEuclidInt.is (by_strict g.T.RawWord.SIGNED g.T.Valued.BITS _ _ _ _ _ (fit_divided g.T.RawWord.SIGNED g.T.Valued.BITS (g.T.Valued.value c.args.k) (exact_div_euclid_int (g.T.Valued.value c.args.a.bits) (g.T.Valued.value c.args.k) g.row.F) (rw c.in-DivEuclidInt.is at c.requires.row)) c.bits_of-in-DivEuclidInt.ensures c.strict_div_euclid_int.ensures)
+returns-in-DivEuclidInt g c = rw c.in-DivEuclidInt.is (by_strict g.T.RawWord.SIGNED g.T.Valued.BITS _ _ _ _ _ (fit_divided g.T.RawWord.SIGNED g.T.Valued.BITS (g.T.Valued.value c.args.k) (exact_div_euclid (g.T.Valued.value c.args.a.bits) (units (g.T.Valued.value c.args.k) g.row.F) g.row.F) (rw c.in-DivEuclidInt.is at c.requires.row)) c.bits_of-in-DivEuclidInt.ensures c.strict_div_euclid_int.ensures)
 
 pub returns-in-RemEuclidInt : goal.returns-in-RemEuclidInt
 unfolding exact
-returns-in-RemEuclidInt g c = rw c.in-RemEuclidInt.is (by_strict g.T.RawWord.SIGNED g.T.Valued.BITS _ _ _ _ _ (fit_divided g.T.RawWord.SIGNED g.T.Valued.BITS (g.T.Valued.value c.args.k) (exact_rem_euclid_int (g.T.Valued.value c.args.a.bits) (g.T.Valued.value c.args.k) g.row.F) (rw c.in-RemEuclidInt.is at c.requires.row)) c.bits_of-in-RemEuclidInt.ensures c.strict_rem_euclid_int.ensures)
+returns-in-RemEuclidInt g c = rw c.in-RemEuclidInt.is (by_strict g.T.RawWord.SIGNED g.T.Valued.BITS _ _ _ _ _ (fit_divided g.T.RawWord.SIGNED g.T.Valued.BITS (g.T.Valued.value c.args.k) (euclidean_remainder (g.T.Valued.value c.args.a.bits) (units (g.T.Valued.value c.args.k) g.row.F)) (rw c.in-RemEuclidInt.is at c.requires.row)) c.bits_of-in-RemEuclidInt.ensures c.strict_rem_euclid_int.ensures)
 
 pub returns-in-RemInt : goal.returns-in-RemInt
 unfolding exact
-returns-in-RemInt g c = rw c.in-RemInt.is (by_strict g.T.RawWord.SIGNED g.T.Valued.BITS _ _ _ _ _ (fit_divided g.T.RawWord.SIGNED g.T.Valued.BITS (g.T.Valued.value c.args.k) (exact_rem_int (g.T.Valued.value c.args.a.bits) (g.T.Valued.value c.args.k) g.row.F) (rw c.in-RemInt.is at c.requires.row)) c.bits_of-in-RemInt.ensures c.strict_rem_int.ensures)
+returns-in-RemInt g c = rw c.in-RemInt.is (by_strict g.T.RawWord.SIGNED g.T.Valued.BITS _ _ _ _ _ (fit_divided g.T.RawWord.SIGNED g.T.Valued.BITS (g.T.Valued.value c.args.k) (exact_rem (g.T.Valued.value c.args.a.bits) (units (g.T.Valued.value c.args.k) g.row.F)) (rw c.in-RemInt.is at c.requires.row)) c.bits_of-in-RemInt.ensures c.strict_rem_int.ensures)

@@ -1,5 +1,6 @@
 use Rattle.std.proofs.Common.{refl}
-use Rattle.fixed_kernel.specs.Rows.{exact_recip, exact_sqrt}
+use Rattle.fixed_kernel.specs.Root.{root_of}
+use Rattle.fixed_kernel.specs.Rows.{exact_recip}
 use Rattle.fixed_machine.specs.Rows.{exact}
 use Rattle.fixed_agree.proofs.Policies.{by_strict, fit_divided, fit_rooted}
 use Rattle.fixed_agree.proofs.strict.unary.Goals as goal
@@ -14,4 +15,4 @@ returns-in-Recip g c = rw c.in-Recip.is (by_strict g.T.RawWord.SIGNED g.T.Valued
 
 pub returns-in-Sqrt : goal.returns-in-Sqrt
 unfolding exact
-returns-in-Sqrt g c = rw c.in-Sqrt.is (by_strict g.T.RawWord.SIGNED g.T.Valued.BITS _ _ _ _ _ (fit_rooted g.T.RawWord.SIGNED g.T.Valued.BITS (g.T.Valued.value c.args.a.bits) (exact_sqrt (g.T.Valued.value c.args.a.bits) g.row.F) (rw c.in-Sqrt.is at c.requires.row)) c.bits_of-in-Sqrt.ensures c.strict_sqrt.ensures)
+returns-in-Sqrt g c = rw c.in-Sqrt.is (by_strict g.T.RawWord.SIGNED g.T.Valued.BITS _ _ _ _ _ (fit_rooted g.T.RawWord.SIGNED g.T.Valued.BITS (g.T.Valued.value c.args.a.bits) (root_of (g.T.Valued.value c.args.a.bits) g.row.F) (rw c.in-Sqrt.is at c.requires.row)) c.bits_of-in-Sqrt.ensures c.strict_sqrt.ensures)

@@ -1,7 +1,7 @@
 use Rattle.std.proofs.Common.{◌≡◌, true, false, get_or, rules}
 use Rattle.fixed_machine.specs.Offered.{is_offered}
 use Rattle.fixed_machine.specs.Step.{cell_of, cells_of}
-use Rattle.fixed_script.specs.Text.{shape}
+use Rattle.fixed_script.specs.Names.{shape}
 use Rattle.fixed_text.specs.Words.{is_signed}
 use Rattle.fixed_machine.proofs.QuickSteps.{applied_answer, are_there, held_cell, held_is, in_format, second_cell}
 use Rattle.fixed_machine.proofs.quick_step.answer_of_applied.Goals as goal
