@@ -9,3 +9,5 @@ pub mod Divisors
 pub mod Ended
 pub mod Lacks
 pub mod QuickText
+pub mod Lent
+pub mod Moves
