@@ -8,6 +8,36 @@ use Rattle.fixed_machine.specs.Step.{state_in}
 use Rattle.fixed_machine.proofs.Runs.{run_ends, told_end}
 use Rattle.fixed_machine.proofs.running.answer_lines_as.Goals as goal
 
+pub loop-at-init : goal.loop-at-init
+loop-at-init g c = record { within = omega arith; word = c.requires.word; run = refl; space = c.requires.space; kept = record { same_register_room = refl; same_answer_room = refl }; count = omega arith }
+
+pub answer_quick_lines-requires-clause-signed : goal.answer_quick_lines-requires-clause-signed
+answer_quick_lines-requires-clause-signed g c = c.requires.signed
+
+pub answer_quick_lines-requires-clause-bits : goal.answer_quick_lines-requires-clause-bits
+answer_quick_lines-requires-clause-bits g c = c.requires.bits
+
+pub answer_quick_lines-requires-clause-within : goal.answer_quick_lines-requires-clause-within
+answer_quick_lines-requires-clause-within g c = c.loop-at.invariant.within
+
+pub answer_quick_lines-requires-clause-number : goal.answer_quick_lines-requires-clause-number
+answer_quick_lines-requires-clause-number g c = c.loop-at.invariant.count
+
+pub answer_quick_lines-requires-clause-word : goal.answer_quick_lines-requires-clause-word
+answer_quick_lines-requires-clause-word g c = c.loop-at.invariant.word
+
+pub answer_quick_lines-requires-clause-space : goal.answer_quick_lines-requires-clause-space
+answer_quick_lines-requires-clause-space g c = c.loop-at.invariant.space
+
+pub answer_line-requires-clause-word : goal.answer_line-requires-clause-word
+answer_line-requires-clause-word g c = c.answer_quick_lines.ensures.moved.its_word
+
+pub answer_line-requires-clause-space : goal.answer_line-requires-clause-space
+answer_line-requires-clause-space g c = simp take_rest c.answer_quick_lines.ensures.moved.space
+
+pub returns-clause-kept : goal.returns-clause-kept
+returns-clause-kept g c = c.loop-at.invariant.kept
+
 pub returns-clause-tells : goal.returns-clause-tells
 returns-clause-tells g c =
     let room = c.loop-at.room in

@@ -5,6 +5,24 @@ use Rattle.fixed_machine.specs.inside.Moves.{HasMoved, HaveMoved}
 use Rattle.fixed_machine.proofs.Moves.{kept_twice, moved_on}
 use Rattle.fixed_machine.proofs.running.answer_quick_lines.Goals as goal
 
+pub answer_quick_line-requires-clause-signed : goal.answer_quick_line-requires-clause-signed
+answer_quick_line-requires-clause-signed g c = c.requires.signed
+
+pub answer_quick_line-requires-clause-bits : goal.answer_quick_line-requires-clause-bits
+answer_quick_line-requires-clause-bits g c = c.requires.bits
+
+pub answer_quick_line-requires-clause-few : goal.answer_quick_line-requires-clause-few
+answer_quick_line-requires-clause-few g c = c.loop-at.invariant.few
+
+pub answer_quick_line-requires-clause-count : goal.answer_quick_line-requires-clause-count
+answer_quick_line-requires-clause-count g c = c.loop-at.invariant.count
+
+pub answer_quick_line-requires-clause-word : goal.answer_quick_line-requires-clause-word
+answer_quick_line-requires-clause-word g c = c.loop-at.invariant.moved.its_word
+
+pub answer_quick_line-requires-clause-space : goal.answer_quick_line-requires-clause-space
+answer_quick_line-requires-clause-space g c = simp take_rest c.loop-at.invariant.moved.space
+
 pub loop-at-preserved : goal.loop-at-preserved
 loop-at-preserved g c =
     let lines = c.args.lines.now in

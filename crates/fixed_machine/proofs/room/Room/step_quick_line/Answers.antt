@@ -7,13 +7,31 @@ use Rattle.fixed_machine.specs.inside.Quick.{script_line_of_quick}
 use Rattle.fixed_machine.specs.Machine.{Cell}
 use Rattle.fixed_machine.specs.Rooms.{IsRoom, Space}
 use Rattle.fixed_machine.specs.Step.{IsCell, IsStepOfLine, cell_of, cells_of, state_in}
-use Rattle.fixed_machine.proofs.Lent.{put_back}
+use Rattle.fixed_machine.proofs.Lent.{in_lent, put_back}
 use Rattle.fixed_machine.proofs.room.Room.step_quick_line.Goals as goal
+
+pub quick_step-requires-clause-signed : goal.quick_step-requires-clause-signed
+quick_step-requires-clause-signed g c = c.requires.signed
+
+pub quick_step-requires-clause-bits : goal.quick_step-requires-clause-bits
+quick_step-requires-clause-bits g c = c.requires.bits
 
 pub quick_step-requires-clause-cells : goal.quick_step-requires-clause-cells
 quick_step-requires-clause-cells g c =
     let word = ap (λ (s : Space). s.word) c.self.view_is ∙ c.requires.word in
     subst (λ (rs : List Register). All (IsCell c.args.word) (cells_of rs)) (sym c.deref_mut.ensures.value) (subst (λ (o : Option WordName). IsRoom o (cells_of c.self.inside.registers.items)) word c.self.invariant.0)
+
+pub quick_step-requires-clause-dest : goal.quick_step-requires-clause-dest
+quick_step-requires-clause-dest g c = in_lent c.args.line.dest _ _ (ap cells_of c.deref_mut.ensures.value ∙ ap (λ (s : Space). s.registers) c.self.view_is) c.requires.dest
+
+pub quick_step-requires-clause-a : goal.quick_step-requires-clause-a
+quick_step-requires-clause-a g c = in_lent c.args.line.a _ _ (ap cells_of c.deref_mut.ensures.value ∙ ap (λ (s : Space). s.registers) c.self.view_is) c.requires.a
+
+pub quick_step-requires-clause-b : goal.quick_step-requires-clause-b
+quick_step-requires-clause-b g c = in_lent c.args.line.b _ _ (ap cells_of c.deref_mut.ensures.value ∙ ap (λ (s : Space). s.registers) c.self.view_is) c.requires.b
+
+pub quick_step-requires-clause-c : goal.quick_step-requires-clause-c
+quick_step-requires-clause-c g c = in_lent c.args.line.c _ _ (ap cells_of c.deref_mut.ensures.value ∙ ap (λ (s : Space). s.registers) c.self.view_is) c.requires.c
 
 pub invariant_of-self : goal.invariant_of-self
 invariant_of-self g c =
