@@ -5,7 +5,6 @@
 -- or root of the operands is written so where it is used, and has no name here.
 use Rattle.std.specs.Prelude.{◌^◌, ◌+◌, ◌*◌, ◌+ℤ◌, ◌-ℤ◌, ◌*ℤ◌, ℕ, ℤ, pos, neg_ℤ, negsuc, zero, suc, unsigned_abs, nat_le, Option, Some, None, if◌then◌else◌}
 use Rattle.fixed_word.specs.Quotient.{floor_quotient, truncated_quotient, euclidean_quotient, euclidean_remainder}
-use Rattle.fixed_root.specs.Root.{root_of}
 
 -- x, where d is not 0: the row of an operation with a divisor
 abbrev pub by_divisor : ℤ → ℤ → Option ℤ

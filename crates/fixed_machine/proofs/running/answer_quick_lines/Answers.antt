@@ -1,6 +1,6 @@
-use Rattle.std.proofs.Common.{◌≡◌, ◌∙◌, ◌+◌, ◌≤◌, List, ℕ, sym, subst, refl, drop, arith, length}
+use Rattle.std.proofs.Common.{sym, subst, refl, drop, arith}
 use Rattle.std.proofs.lemmas.List.{take_rest}
-use Rattle.fixed_machine.specs.Rooms.{KeepsRoom, Space}
+use Rattle.fixed_machine.specs.Rooms.{Space}
 use Rattle.fixed_machine.specs.inside.Moves.{HasMoved, HaveMoved}
 use Rattle.fixed_machine.proofs.Moves.{kept_twice, moved_on}
 use Rattle.fixed_machine.proofs.running.answer_quick_lines.Goals as goal
