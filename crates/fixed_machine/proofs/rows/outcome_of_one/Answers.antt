@@ -1,5 +1,6 @@
-use Rattle.std.proofs.Common.{refl}
+use Rattle.std.proofs.Common.{◌≡◌, ◌≢◌, pos, arith, refl, sym, ap, ◌∙◌}
 use Rattle.fixed_machine.specs.Rows.{exact}
+use Rattle.fixed_machine.proofs.Divisors.{divided, no_row}
 use Rattle.fixed_machine.proofs.rows.outcome_of_one.Goals as goal
 
 pub returns-in-Neg : goal.returns-in-Neg
@@ -17,3 +18,14 @@ returns-in-Signum g c = λ y z h k. rw c.in-Signum.is (_, refl, c.signum_of.ensu
 pub returns-in-NextPowerOfTwo : goal.returns-in-NextPowerOfTwo
 unfolding exact
 returns-in-NextPowerOfTwo g c = λ y z h k. rw c.in-NextPowerOfTwo.is (_, refl, c.next_power_of_two_of.ensures)
+
+pub returns-then-eq : goal.returns-then-eq
+unfolding exact
+returns-then-eq g c = λ y z h k. rw c.in-Recip.is (no_row _ _ ((g.met.T.RawWord.eq_law _ _).0 (sym c.eq.ensures ∙ c.if-eq.true) ∙ ap g.T.Valued.value c.ZERO.ensures ∙ g.met.T.RawWord.zero_law))
+
+pub returns-else-eq : goal.returns-else-eq
+unfolding exact
+returns-else-eq g c = λ y z h k.
+    let zero_is : g.T.Valued.value c.ZERO.result ≡ pos 0 = ap g.T.Valued.value c.ZERO.ensures ∙ g.met.T.RawWord.zero_law in
+    let some : g.T.Valued.value c.args.x ≢ pos 0 = λ none. grind (arith, c.eq.ensures, c.if-eq.false, (g.met.T.RawWord.eq_law _ _).1 (none ∙ sym zero_is)) in
+    rw c.in-Recip.is (divided _ _ _ _ _ _ some c.recip_of.ensures)
