@@ -1,5 +1,5 @@
 -- The register machine: its states, the cause of a line, and its move.
-use Rattle.std.specs.Prelude.{ℕ, ◌==◌, nat_le, ◌||◌, not, Bool, false, ℤ, pos, List, [], ◌∷◌, get_or, set, length, Option, Some, None, if◌then◌else◌}
+use Rattle.std.specs.Prelude.{ℕ, ◌==◌, nat_le, ◌||◌, not, Bool, false, ℤ, pos, List, [], ◌∷◌, slice_index_or, slice_set, length, Option, Some, None, if◌then◌else◌}
 use Rattle.std.specs.List.{list_any}
 use Rattle.fixed_word.specs.declared.rounding.Rounding.{Rounding}
 use Rattle.fixed_text.specs.declared.names.WordName.{WordName}
@@ -35,7 +35,7 @@ abbrev pub empty_cell : Cell
 empty_cell = record { bits = pos 0; fraction = 0 }
 
 abbrev pub cell_at : List Cell → ℕ → Cell
-cell_at cells r = get_or cells r empty_cell
+cell_at cells r = slice_index_or cells r empty_cell
 
 -- ---- what a line names
 abbrev pub destination : ScriptLine → ℕ
@@ -129,8 +129,8 @@ answer s (Apply dest policy op xs rounding) = project policy (is_signed s.word) 
 
 abbrev pub stored : List Cell → ℕ → Answer → List Cell
 stored cells dest Absent = cells
-stored cells dest (Bits x) = set cells dest (record { bits = x; fraction = (cell_at cells dest).fraction })
-stored cells dest (Flagged x verdict) = set cells dest (record { bits = x; fraction = (cell_at cells dest).fraction })
+stored cells dest (Bits x) = slice_set cells dest (record { bits = x; fraction = (cell_at cells dest).fraction })
+stored cells dest (Flagged x verdict) = slice_set cells dest (record { bits = x; fraction = (cell_at cells dest).fraction })
 
 abbrev pub move : State → ScriptLine → State
 move s line = record { word = s.word; registers = stored s.registers (destination line) (answer s line) }

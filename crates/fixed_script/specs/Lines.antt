@@ -1,5 +1,5 @@
 -- The line, and the header, whose text some bytes are: a piece without its newline. And those of a piece.
-use Rattle.std.specs.Prelude.{◌≡◌, ◌↔◌, ℕ, ◌-◌, ℤ, pos, neg_ℤ, List, [], length, drop, get_or, map, Option, Some, None, if◌then◌else◌, codes}
+use Rattle.std.specs.Prelude.{◌≡◌, ◌↔◌, ℕ, ◌-◌, ℤ, pos, neg_ℤ, List, [], length, drop, slice_index_or, map, Option, Some, None, if◌then◌else◌, codes}
 use Rattle.std.specs.Option.{option_map, option_and_then}
 use Rattle.std.specs.Str.{bytes_eq}
 use Rattle.std.specs.Str.Parse.{digits_value}
@@ -17,7 +17,7 @@ use Rattle.fixed_text.specs.Numerals.{has_minus}
 
 -- ---- the only line that can have these tokens, if any has
 abbrev pub token : List (List ℕ) → ℕ → List ℕ
-token tokens i = get_or tokens i []
+token tokens i = slice_index_or tokens i []
 
 -- (without its `r`)
 abbrev pub register_in : List ℕ → ℕ
