@@ -11,8 +11,7 @@ any crate reach has its place outside of specs/inside/; what private functions a
 
 A count is of lines without imports, comments and blank lines. There are three: of what the clauses of `calc_main`
 reach, with those of the traits that bound its source and its sinks; of what the public clauses of the library's crates
-reach; and of what the public clauses of all crates reach. Types that the sources declare are not counted. Beside each
-stands how many of its lines say how a named rounding rounds, or which reads and writes a run makes.
+reach; and of what the public clauses of all crates reach. Types that the sources declare are not counted.
 
 Public are the clauses of functions and of types that a crate offers, of the members of traits that it offers, and of
 impls whose type and trait it does not keep to itself. A program offers nothing: there the items marked `pub` count. A
@@ -33,9 +32,6 @@ LIBRARY = ["word", "bits", "root", "logs", "kernel", "num", "policy", "strict", 
 # A place is a module and a name in it. A definition has the place's file, its text, how many lines it has, and what its
 # file imports: the places of names. A constructor has the text of its type's name and no lines of its own.
 Definition = namedtuple("Definition", "path text lines imports")
-
-# The files and the names of the definitions on named roundings, and on the reads and writes that a run makes.
-APART = re.compile(r"(Rounded|RoundedRows|Calls) |\w+ (\w*[Rr]ound\w*|exact_by|row_by)$")
 
 # An item of a source: whether it is public, its name, and the text of its clauses.
 Item = namedtuple("Item", "is_public name clauses")
@@ -156,11 +152,6 @@ class Reading:
 
     def lines(self, places):
         return sum(self.definitions[place].lines for place in places)
-
-    def counts(self, places):
-        """The lines of these, and of those among them that are counted apart."""
-        apart = [it for it in places if APART.match(f"{self.definitions[it].path.stem} {it[1]}")]
-        return self.lines(places), self.lines(apart)
 
 
 # ---- sources
@@ -316,11 +307,11 @@ def private_places(reading):
 
 
 def counted(reading):
-    """The three counts with what is counted apart, by the word with which docs/DEFINITIONS.md begins their lines."""
+    """The three counts, by the word with which docs/DEFINITIONS.md begins their lines."""
     return {
-        "headline": reading.counts(headline_places(reading)),
-        "library": reading.counts(public_places(reading, [f"fixed_{name}" for name in LIBRARY])),
-        "all": reading.counts(public_places(reading, crates())),
+        "headline": reading.lines(headline_places(reading)),
+        "library": reading.lines(public_places(reading, [f"fixed_{name}" for name in LIBRARY])),
+        "all": reading.lines(public_places(reading, crates())),
     }
 
 
@@ -344,15 +335,15 @@ def misplaced(reading):
 
 def written_counts():
     """The counts that docs/DEFINITIONS.md states, in the rows of a table."""
-    rows = re.findall(r"^\| (headline|library|all)\b.*?\| ([\d,]+) \| ([\d,]+) \|$", PAGE.read_text(), re.M)
-    return {word: tuple(int(count.replace(",", "")) for count in counts) for word, *counts in rows}
+    rows = re.findall(r"^\| (headline|library|all)\b.*?\| ([\d,]+) \|$", PAGE.read_text(), re.M)
+    return {word: int(count.replace(",", "")) for word, count in rows}
 
 
 def false_counts(reading):
     written = written_counts()
-    for word, counts in counted(reading).items():
-        if written.get(word) != counts:
-            yield f"docs/DEFINITIONS.md: {word} has {written.get(word)}, and {counts} lines are counted"
+    for word, count in counted(reading).items():
+        if written.get(word) != count:
+            yield f"docs/DEFINITIONS.md: {word} has {written.get(word)}, and {count} lines are counted"
 
 
 # ---- the listing
@@ -373,8 +364,8 @@ def listing(reading):
     public = public_places(reading, crates())
     for path in dict.fromkeys(definition.path for definition in reading.definitions.values()):
         yield from listed_file(reading, path, public)
-    for word, (count, apart) in counted(reading).items():
-        yield f"{word}: {count} lines, of which {apart} on named roundings, reads and writes"
+    for word, count in counted(reading).items():
+        yield f"{word}: {count} lines"
     yield f"in specs/: {reading.lines(reading.definitions)} lines"
 
 

@@ -1,13 +1,22 @@
 -- The machine's answer to a line is what the policy makes of the line's row.
-use Rattle.std.proofs.Common.{◌≡◌, ℕ, Bool, true, false, [], ◌∷◌, refl, sym, inl, inr}
+use Rattle.std.proofs.Common.{◌≡◌, ℕ, ℤ, Bool, true, false, [], ◌∷◌, Option, refl, sym, inl, inr}
+use Rattle.std.specs.Option.{option_map_or}
 use Rattle.fixed_machine.specs.Types.{WordName, I8, I16, I32, I64, U8, U16, U32, U64, Policy, Op}
 use Rattle.fixed_machine.specs.declared.answer.Answer.{Answer}
+use Rattle.fixed_machine.specs.declared.answer.Answer.TheVariants.{Absent, Bits, Flagged}
 use Rattle.fixed_script.specs.Text.{ThreeRegisters}
 use Rattle.fixed_machine.specs.Machine.{State, OperandValues, row_of, answer}
 use Rattle.fixed_text.specs.Words.{is_signed, width}
 use Rattle.fixed_machine.specs.Projection.{project}
 use Rattle.fixed_word.specs.Format.{IsWidth}
 use Rattle.fixed_agree.specs.Agreement.{MachineAnswers}
+
+-- the answer of a number, and of a number with its verdict
+abbrev pub plain : Option ℤ → Answer
+plain row = option_map_or Bits row Absent
+
+abbrev pub flagged : Option (ℤ × Bool) → Answer
+flagged row = option_map_or (λ p. Flagged p.0 p.1) row Absent
 
 pub projected : (signed : Bool) (n : ℕ) (policy : Policy) (op : Op) (operands : OperandValues) (result : Answer) → result ≡ project policy signed n (row_of op operands) → MachineAnswers signed n policy op operands result
 unfolding MachineAnswers answer

@@ -4,10 +4,10 @@ use Rattle.fixed_word.specs.Format.{IsWidth, fits}
 use Rattle.fixed_machine.specs.Types.{Checked, Op}
 use Rattle.fixed_machine.specs.declared.answer.Answer.TheVariants.{Bits}
 use Rattle.fixed_machine.specs.Machine.{OperandValues, row_of}
-use Rattle.fixed_machine.specs.Projection.{plain, project}
+use Rattle.fixed_machine.specs.Projection.{project}
 use Rattle.fixed_machine.proofs.Fits.{in_range}
 use Rattle.fixed_agree.specs.Agreement.{MachineAnswers, RowFits}
-use Rattle.fixed_agree.proofs.Answered.{projection_of}
+use Rattle.fixed_agree.proofs.Answered.{plain, projection_of}
 
 value_where : (b : Bool) (x v : ℤ) → Bits v ≡ plain (if b then Some x else None) → b ≡ true
 value_where true x v e = refl

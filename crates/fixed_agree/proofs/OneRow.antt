@@ -5,7 +5,7 @@ use Rattle.fixed_machine.specs.Types.{Checked, Saturating, Wrapping, Overflowing
 use Rattle.fixed_machine.specs.Rows.{exact}
 use Rattle.fixed_machine.specs.declared.answer.Answer.TheVariants.{Absent, Bits}
 use Rattle.fixed_machine.specs.Machine.{OperandValues, row_of}
-use Rattle.fixed_machine.specs.Projection.{flagged, plain, project}
+use Rattle.fixed_machine.specs.Projection.{project}
 use Rattle.fixed_machine.proofs.Fits.{in_range}
 use Rattle.fixed_word.specs.Format.{IsWidth, fits, wrap}
 use Rattle.fixed_word.specs.Policies.{checked, overflowing, saturating, wrapping}
@@ -13,7 +13,7 @@ use Rattle.fixed_word.proofs.Wraps.{width_pos, wrap_same}
 use Rattle.fixed_agree.specs.declared.forms.Forms.{Forms}
 use Rattle.fixed_agree.specs.Agreement.{MachineAnswers}
 use Rattle.fixed_agree.specs.Forms.{FormsAgree}
-use Rattle.fixed_agree.proofs.Answered.{projection_of}
+use Rattle.fixed_agree.proofs.Answered.{flagged, plain, projection_of}
 
 -- a value where the test holds
 value_where : (b : Bool) (x w : ℤ) → (b ≡ true → w ≡ x) → plain (if b then Some x else None) ≡ (if not b then Absent else Bits w)

@@ -5,12 +5,11 @@ use Rattle.fixed_machine.specs.Types.{Checked, Saturating, Wrapping, Overflowing
 use Rattle.fixed_machine.specs.declared.answer.Answer.{Answer}
 use Rattle.fixed_machine.specs.declared.answer.Answer.TheVariants.{Bits, Flagged}
 use Rattle.fixed_machine.specs.Machine.{OperandValues, row_of}
-use Rattle.fixed_machine.specs.Projection.{flagged, plain, project}
+use Rattle.fixed_machine.specs.Projection.{project}
 use Rattle.fixed_word.specs.Policies.{checked, overflowing, saturating, wrapping}
 use Rattle.fixed_kernel.specs.Rows.{by_divisor, by_sign}
 use Rattle.fixed_agree.specs.Agreement.{MachineAnswers, RowFits}
-use Rattle.fixed_agree.proofs.Answered.{projected}
-use Rattle.fixed_agree.proofs.Rows.{plain_checked}
+use Rattle.fixed_agree.proofs.Answered.{flagged, plain, projected}
 
 -- ---- rows that are defined
 pub some_divided : (d x : ℤ) → IsSome (by_divisor d x) → by_divisor d x ≡ Some x
@@ -34,7 +33,7 @@ fit_rooted signed n (negsuc a) x fits = absurd fits
 -- ---- the policies
 module _ (signed : Bool) (n : ℕ) (op : Op) (operands : OperandValues) (result : Answer) where
   pub by_checked : (kept : Option ℤ) → result ≡ plain kept → kept ≡ checked signed n (row_of op operands) → MachineAnswers signed n Checked op operands result
-  by_checked kept told is = projected signed n Checked op operands result (told ∙ ap plain is ∙ plain_checked signed n (row_of op operands))
+  by_checked kept told is = projected signed n Checked op operands result (told ∙ ap plain is)
 
   pub by_wrapping : (x v : ℤ) → row_of op operands ≡ Some x → result ≡ Bits v → Some v ≡ wrapping signed n (Some x) → MachineAnswers signed n Wrapping op operands result
   by_wrapping x v row told is = projected signed n Wrapping op operands result (told ∙ ap plain is ∙ sym (ap (project Wrapping signed n) row))

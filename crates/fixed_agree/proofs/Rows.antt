@@ -3,19 +3,15 @@ use Rattle.std.proofs.Common.{◌≡◌, ℕ, ℤ, Bool, Option, Some, None, ref
 use Rattle.fixed_machine.specs.Types.{Checked, Saturating, Strict, Op}
 use Rattle.fixed_machine.specs.declared.answer.Answer.TheVariants.{Bits}
 use Rattle.fixed_machine.specs.Machine.{OperandValues, row_of}
-use Rattle.fixed_machine.specs.Projection.{plain, project}
+use Rattle.fixed_machine.specs.Projection.{project}
 use Rattle.fixed_word.specs.Format.{clamp}
 use Rattle.fixed_word.specs.Policies.{checked}
 use Rattle.fixed_agree.specs.Agreement.{MachineAnswers}
-use Rattle.fixed_agree.proofs.Answered.{projected}
-
-pub plain_checked : (signed : Bool) (n : ℕ) (row : Option ℤ) → plain (checked signed n row) ≡ project Checked signed n row
-plain_checked signed n None = refl
-plain_checked signed n (Some x) = refl
+use Rattle.fixed_agree.proofs.Answered.{plain, projected}
 
 pub checked_row : (signed : Bool) (n : ℕ) (op : Op) (operands : OperandValues) (kept : Option ℤ) → kept ≡ checked signed n (row_of op operands) → MachineAnswers signed n Checked op operands (plain kept)
 checked_row signed n op operands kept is =
-    projected signed n Checked op operands (plain kept) (ap plain is ∙ plain_checked signed n (row_of op operands))
+    projected signed n Checked op operands (plain kept) (ap plain is)
 
 pub saturating_row : (signed : Bool) (n : ℕ) (op : Op) (operands : OperandValues) (x : ℤ) → row_of op operands ≡ Some x → MachineAnswers signed n Saturating op operands (Bits (clamp signed n x))
 saturating_row signed n op operands x row =

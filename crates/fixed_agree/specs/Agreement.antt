@@ -4,7 +4,7 @@ use Rattle.fixed_machine.specs.Types.{Policy, Op}
 use Rattle.fixed_machine.specs.declared.answer.Answer.{Answer}
 use Rattle.fixed_script.specs.Names.{shape}
 use Rattle.fixed_script.specs.Text.{Operands, OneRegister, TwoRegisters, RegisterAndInt, Apply, shape_of}
-use Rattle.fixed_machine.specs.Machine.{State, Cell, OperandValues, operand_values, empty_cell, integer, answer}
+use Rattle.fixed_machine.specs.Machine.{State, Cell, OperandValues, operand_values, integer, answer}
 use Rattle.fixed_text.specs.Words.{is_signed, width}
 use Rattle.fixed_machine.specs.Offered.{is_offered}
 use Rattle.fixed_word.specs.Format.{InRange}
@@ -20,13 +20,13 @@ abbrev pub holding : ℤ → ℕ → Cell
 holding a f = record { bits = a; fraction = f }
 
 abbrev pub one_operand : ℤ → ℕ → OperandValues
-one_operand a f = record { a = holding a f; b = empty_cell; c = empty_cell }
+one_operand a f = record { a = holding a f; b = integer (pos 0); c = integer (pos 0) }
 
 abbrev pub two_operands : ℤ → ℤ → ℕ → OperandValues
-two_operands a b f = record { a = holding a f; b = holding b f; c = empty_cell }
+two_operands a b f = record { a = holding a f; b = holding b f; c = integer (pos 0) }
 
 abbrev pub with_integer : ℤ → ℤ → ℕ → OperandValues
-with_integer a k f = record { a = holding a f; b = integer k; c = empty_cell }
+with_integer a k f = record { a = holding a f; b = integer k; c = integer (pos 0) }
 
 -- three operands, and then their fractions
 abbrev pub three_operands : ℤ → ℤ → ℤ → ℕ → ℕ → ℕ → OperandValues

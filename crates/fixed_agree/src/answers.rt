@@ -1,7 +1,7 @@
 //! The answers of typed calls, in the form of the calculator's answers.
 
 ghost use Rattle.std.specs.Prelude.{◌≡◌, option_map};
-ghost use Rattle.fixed_machine.specs.Projection.{plain};
+ghost use Rattle.std.specs.Option.{option_map_or};
 
 use fixed_machine::Answer;
 use fixed_num::Fixed;
@@ -28,7 +28,8 @@ pub(crate) fn bits_of<T: RawWord, const F: u32>(number: Fixed<T, F>) -> Answer
 
 /// A number, or no value.
 pub(crate) fn bits_or_absent<T: RawWord, const F: u32>(number: Option<Fixed<T, F>>) -> Answer
-    ensures { result ≡ plain (option_map (λ x. T.value x.bits) number) }
+    ensures { result ≡ option_map_or (λ bits. Answer.Bits bits)
+        (option_map (λ x. T.value x.bits) number) Answer.Absent }
 {
     match number {
         Some(value) => bits_of(value),

@@ -3,7 +3,7 @@
 ghost use Rattle.std.specs.Prelude.{◌≡◌, Ok, true, neg_ℤ, ◌*ℤ◌, ◌+ℤ◌, ◌-ℤ◌};
 ghost use Rattle.fixed_word.specs.Quotient.{euclidean_remainder, truncated_quotient};
 ghost use Rattle.fixed_kernel.specs.Root.{root_of};
-ghost use Rattle.fixed_kernel.specs.Rows.{by_divisor, by_sign, exact_abs, exact_add_prod, exact_dist, exact_div, exact_div_euclid, exact_mul, exact_mul_add, exact_next_multiple_of, exact_recip, exact_rem, exact_signum, units};
+ghost use Rattle.fixed_kernel.specs.Rows.{by_divisor, by_sign, exact_abs, exact_add_prod, exact_div, exact_div_euclid, exact_mul, exact_mul_add, exact_next_multiple_of, exact_recip, exact_rem, exact_signum, units};
 ghost use Rattle.fixed_c.specs.declared.answer.Code.TheVariants.{ZeroDivisor, NegativeRoot};
 ghost use Rattle.fixed_c.specs.Answers.{at_fraction, row_or};
 ghost use Rattle.fixed_c.specs.Filters.{filter_of, fractions, output_in, past_after};
@@ -44,7 +44,7 @@ pub extern "C" fn fixed_i32_sub(a: i32, b: i32, answer: &mut AnswerI32) -> i32
 /// The magnitude of `a - b`.
 #[unsafe(no_mangle)]
 pub extern "C" fn fixed_i32_dist(a: i32, b: i32, answer: &mut AnswerI32) -> i32
-    ensures { AnswersI32 (Ok (exact_dist a b)) answer.old answer.new result }
+    ensures { AnswersI32 (Ok (exact_abs (a -ℤ b))) answer.old answer.new result }
 {
     sums::dist(a, b, &mut answer.bits, &mut answer.side)
 }

@@ -2,7 +2,7 @@
 #![tactic(auto, unfolding(crate::specs::Answers::CallAnswers, crate::specs::Answers::at_fraction))]
 
 ghost use Rattle.std.specs.Prelude.{◌≡◌, Ok, neg_ℤ, ◌+ℤ◌, ◌-ℤ◌};
-ghost use Rattle.fixed_kernel.specs.Rows.{exact_abs, exact_dist, exact_signum};
+ghost use Rattle.fixed_kernel.specs.Rows.{exact_abs, exact_signum};
 ghost use Rattle.fixed_c.specs.Answers.{CallAnswers, at_fraction};
 
 use crate::answer::{Code, leave};
@@ -40,7 +40,7 @@ pub(crate) fn sub<T: Word>(a: T, b: T, bits: &mut T, side: &mut i32) -> i32
 #[inline]
 pub(crate) fn dist<T: Word>(a: T, b: T, bits: &mut T, side: &mut i32) -> i32
     ensures { CallAnswers T.value T.SIGNED T.BITS
-        (Ok (exact_dist (T.value a) (T.value b))) (bits.old, side.old) (bits.new, side.new) result }
+        (Ok (exact_abs (T.value a -ℤ T.value b))) (bits.old, side.old) (bits.new, side.new) result }
 {
     leave(dist_of(a, b), bits, side)
 }

@@ -3,7 +3,7 @@
 ghost use Rattle.std.specs.Prelude.{◌≡◌, Ok, false, pos, neg_ℤ, ◌*ℤ◌, ◌+ℤ◌, ◌-ℤ◌};
 ghost use Rattle.fixed_word.specs.Quotient.{euclidean_remainder, truncated_quotient};
 ghost use Rattle.fixed_kernel.specs.Root.{root_of};
-ghost use Rattle.fixed_kernel.specs.Rows.{by_divisor, by_sign, exact_add_prod, exact_dist, exact_div, exact_div_euclid, exact_mul, exact_mul_add, exact_next_multiple_of, exact_next_power_of_two, exact_recip, exact_rem, units};
+ghost use Rattle.fixed_kernel.specs.Rows.{exact_abs, by_divisor, by_sign, exact_add_prod, exact_div, exact_div_euclid, exact_mul, exact_mul_add, exact_next_multiple_of, exact_next_power_of_two, exact_recip, exact_rem, units};
 ghost use Rattle.fixed_c.specs.declared.answer.Code.TheVariants.{ZeroDivisor, NegativeRoot};
 ghost use Rattle.fixed_c.specs.Answers.{at_fraction, row_or};
 ghost use Rattle.fixed_c.specs.Filters.{filter_of, fractions, output_in, past_after};
@@ -44,7 +44,7 @@ pub extern "C" fn fixed_u8_sub(a: u8, b: u8, answer: &mut AnswerU8) -> i32
 /// The magnitude of `a - b`.
 #[unsafe(no_mangle)]
 pub extern "C" fn fixed_u8_dist(a: u8, b: u8, answer: &mut AnswerU8) -> i32
-    ensures { AnswersU8 (Ok (exact_dist (pos a) (pos b))) answer.old answer.new result }
+    ensures { AnswersU8 (Ok (exact_abs (pos a -ℤ pos b))) answer.old answer.new result }
 {
     sums::dist(a, b, &mut answer.bits, &mut answer.side)
 }

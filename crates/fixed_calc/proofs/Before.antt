@@ -1,6 +1,6 @@
 -- A script without a rounding word has the meaning that it had before.
 use Rattle.std.proofs.Common.{◌≡◌, ◌+◌, ℕ, suc, Bool, true, false, List, [], ◌∷◌, ◌++◌, Option, Some, None, if◌then◌else◌, refl, sym, ap, subst, ◌∙◌, arith, append_assoc}
-use Rattle.std.specs.Option.{option_map, option_and_then}
+use Rattle.std.specs.Option.{option_map, option_and_then, option_map_or}
 use Rattle.std.specs.List.{All, join_with_byte}
 use Rattle.std.specs.Str.{bytes_eq}
 use Rattle.std.proofs.lemmas.Bool.{false≢true}
@@ -18,7 +18,7 @@ use Rattle.fixed_script.proofs.Joined.{tokens_of_line}
 use Rattle.fixed_script.proofs.TextsRead.{line_back, line_is, its_text, has_text}
 use Rattle.fixed_machine.specs.Answers.{answer_text}
 use Rattle.fixed_machine.specs.Machine.{State, cause, answer, move}
-use Rattle.fixed_machine.specs.Meaning.{Run, by_cause, step_then, run_lines, run_from, run_pieces, run_of, start, fractions_of, has_wide, stopped, meaning_with}
+use Rattle.fixed_machine.specs.Meaning.{Run, by_cause, step_then, run_lines, run_from, run_pieces, run_of, start, fractions_of, has_wide, stopped, Output, Fault}
 use Rattle.fixed_machine.specs.declared.cause.Cause.TheVariants.{OutOfRange}
 use Rattle.fixed_calc.specs.Before.{names_none, without_rounding, old_line_of, old_line_of_piece, old_step_then, old_run_lines, old_run_from, old_run_pieces, ReadsOldLines, EndsInRounding, MeansAsBefore}
 use Rattle.fixed_calc.proofs.Headed.{body_by}
@@ -153,4 +153,4 @@ pieces_alike (p ∷ ps) free = from_alike (header_of_piece p) ps (λ i d lt. fre
 
 pub means_as_before : MeansAsBefore
 unfolding run_of
-means_as_before script free = ap (λ r. meaning_with r.output r.fault) (pieces_alike (pieces script) free)
+means_as_before script free = ap (λ r. option_map_or Fault r.fault (Output r.output)) (pieces_alike (pieces script) free)

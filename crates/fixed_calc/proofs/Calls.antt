@@ -1,6 +1,6 @@
 -- How many calls a run makes of a source and a sink in memory.
-use Rattle.std.proofs.Common.{◌≡◌, ◌≤◌, ◌<◌, ◌+◌, ◌-◌, ◌*◌, ◌⊎◌, ◌∙◌, ℕ, zero, suc, List, length, min, inl, inr, ap, arith, length-drop}
-use Rattle.fixed_calc.specs.Calls.{GaveBytes, ReadsToEnd, TookBytes, buffer_size}
+use Rattle.std.proofs.Common.{◌≡◌, ◌≤◌, ◌<◌, ◌+◌, ◌-◌, ◌*◌, ◌⊎◌, ◌∙◌, ℕ, zero, suc, List, length, min, Ok, inl, inr, ap, arith, length-drop}
+use Rattle.fixed_calc.specs.Calls.{GaveBytes, ReadsUntil, TookBytes, buffer_size}
 use Rattle.fixed_calc.specs.Memory.{IsCallsFor, MemoryInput, MemoryOutput, MemoryReadGives, MemoryWriteGives}
 use Rattle.fixed_calc.specs.Outside.{last_count}
 
@@ -43,7 +43,7 @@ read_so_far (suc calls) total s u h =
       moved = one_more _ h.0 calls (length t.left) h.1 _ _ h.4 (omega (arith, gives.2.0, earlier.most)) h.5 rest earlier.moved;
     }
 
-pub reads_law : (calls total : ℕ) (s s' : MemoryInput) → 1 ≤ s.most → ReadsToEnd MemoryReadGives calls total s s'
+pub reads_law : (calls total : ℕ) (s s' : MemoryInput) → 1 ≤ s.most → ReadsUntil MemoryReadGives calls total (Ok 0) s s'
     → (total ≡ length s.left) × IsCallsFor (min s.most buffer_size) total calls × (s.calls + calls < last_count → s'.calls ≡ s.calls + calls + 1)
 reads_law calls total s s' some h =
     let so_far = read_so_far calls total s h.0 h.1 in

@@ -1,5 +1,6 @@
 -- The run of a demonstration.
 use Rattle.std.proofs.Common.{◌≡◌, ◌+◌, ℕ, zero, suc, true, List, [], ◌∷◌, ◌++◌, map, length, replicate, Option, Some, None, Err, refl, sym, ap, ◌∙◌, subst, arith, append_assoc, length-append}
+use Rattle.std.specs.Option.{option_map_or}
 use Rattle.std.specs.List.{All, flat_map}
 use Rattle.std.specs.Cmp.Derive.{both_true}
 use Rattle.std.proofs.lemmas.List.Elements.{All-nil, All-cons}
@@ -12,7 +13,7 @@ use Rattle.fixed_machine.specs.Answers.{answer_text, ended}
 use Rattle.fixed_script.specs.Text.{header_text, header_tokens, ScriptLine, line_text}
 use Rattle.fixed_script.specs.Lines.{line_of_piece}
 use Rattle.fixed_machine.specs.Machine.{State, Cell, cause, answer, move}
-use Rattle.fixed_machine.specs.Meaning.{Run, Output, Fault, by_cause, step_then, run_lines, run_of, start, zeros, fractions_of, meaning, meaning_with}
+use Rattle.fixed_machine.specs.Meaning.{Run, Output, Fault, by_cause, step_then, run_lines, run_of, start, zeros, fractions_of, meaning}
 use Rattle.fixed_calc.specs.Demo.{demo_header, demo_lines, demo_text, answers_from, demo_answers}
 use Rattle.fixed_machine.proofs.Ended.{pieces_ended, line_read, header_read}
 use Rattle.fixed_machine.proofs.Runs.{run_of_lines}
@@ -86,7 +87,7 @@ pub demo_no_cause : (n : ℕ) → (run_of (demo_text n)).fault ≡ None
 demo_no_cause n = (demo_gives n).no_fault
 
 pub demo_output : (n : ℕ) → meaning (demo_text n) ≡ Output (flat_map answer_text (demo_answers n))
-demo_output n = (λ i. meaning_with ((demo_gives n).its_output i) ((demo_gives n).no_fault i))
+demo_output n = (λ i. option_map_or Fault ((demo_gives n).no_fault i) (Output ((demo_gives n).its_output i)))
 
 answers_length : (s : State) (ls : List ScriptLine) → length (answers_from s ls) ≡ length ls
 answers_length s [] = refl

@@ -19,13 +19,14 @@ use Rattle.fixed_script.specs.Text.{ScriptLine, SetTo, Apply, Operands, OneRegis
 use Rattle.fixed_machine.specs.Rows.{exact}
 use Rattle.fixed_machine.specs.Offered.{is_offered}
 use Rattle.fixed_text.specs.Words.{is_signed, width}
-use Rattle.fixed_machine.specs.Machine.{State, Cell, empty_cell, cell_at, destination, is_value, is_unoffered, is_out_of_range, is_mismatched, row_by, operand_values, row_cause, late_cause, cause, stored, answer, move}
+use Rattle.fixed_machine.specs.Machine.{State, Cell, cell_at, destination, is_unoffered, is_out_of_range, is_mismatched, row_by, operand_values, row_cause, late_cause, cause, stored, answer, move, integer}
 use Rattle.fixed_calc.specs.inside.Draws.{draw}
 use Rattle.fixed_calc.specs.Demo.{state_at, octal_digit, choices, drawn_line, demo_lines}
 use Rattle.fixed_machine.proofs.Lacks.{line_lacks}
 use Rattle.fixed_machine.proofs.Causes.{PassesTests, after_tests}
 use Rattle.fixed_machine.proofs.Fits.{fit_true}
 use Rattle.fixed_text.proofs.Lacking.{lacks}
+use Rattle.fixed_machine.specs.inside.Stepping.{is_value}
 
 -- ---- the draws
 pub state_small : (i : ℕ) → state_at i < 2 ^ 64
@@ -46,7 +47,7 @@ pub record IsReady (s : State) : Type 0 where
   pub fractions : All (λ (c : Cell). c.fraction ≡ 32) s.registers
 
 fraction_is : (s : State) (r : ℕ) → IsReady s → r < 8 → (cell_at s.registers r).fraction ≡ 32
-fraction_is s r ready small = ready.fractions r empty_cell (omega (arith, ready.eight))
+fraction_is s r ready small = ready.fractions r (integer (pos 0)) (omega (arith, ready.eight))
 
 same_fraction : (s : State) (r d : ℕ) → IsReady s → r < 8 → d < 8 → not ((cell_at s.registers r).fraction == (cell_at s.registers d).fraction) ≡ false
 same_fraction s r d ready small there = rw (fraction_is s r ready small, fraction_is s d ready there) refl

@@ -1,5 +1,5 @@
 -- A script that is spelled out: how it is written, and that it means the same.
-use Rattle.std.specs.Option.{option_and_then}
+use Rattle.std.specs.Option.{option_and_then, option_map_or, option_or}
 use Rattle.std.proofs.Common.{◌≡◌, ◌+◌, ◌-◌, ℕ, ℤ, pos, negsuc, Bool, true, false, not, ◌||◌, nat_le, List, [], ◌∷◌, ◌++◌, length, take, length-append, Option, Some, None, if◌then◌else◌, refl, sym, ap, ◌∙◌, arith, append_assoc}
 use Rattle.std.specs.List.{join_with_byte, list_any}
 use Rattle.std.proofs.lemmas.List.{append-nil}
@@ -8,8 +8,7 @@ use Rattle.std.proofs.Math.Seq.{take-append_seam}
 use Rattle.fixed_word.specs.declared.rounding.Rounding.{Rounding}
 use Rattle.fixed_word.specs.declared.rounding.Rounding.TheVariants.{Down}
 use Rattle.fixed_word.specs.Pieces.{pieces, body}
-use Rattle.fixed_kernel.specs.Rows.{exact_add_prod_at}
-use Rattle.fixed_kernel.specs.RoundedRows.{rounded_add_prod_at}
+use Rattle.std.specs.Prelude.{unwrap_or}
 use Rattle.fixed_script.specs.declared.names.Policy.{Policy}
 use Rattle.fixed_script.specs.declared.names.Op.{Op}
 use Rattle.fixed_script.specs.declared.names.Op.TheVariants.{Neg, Add, Sub, Mul, Div, Recip, MulAdd, AddProd, MulInt, DivInt, DivEuclid, DivEuclidInt, RemEuclidInt, NextMultipleOf, Dist, Sqrt, Abs, Signum, Rem, RemInt, RemEuclid, NextPowerOfTwo}
@@ -23,15 +22,15 @@ use Rattle.fixed_script.specs.Capped.{capped, checked_script_line, literal_value
 use Rattle.fixed_script.specs.Lines.{line_of, line_of_piece, header_of_piece}
 use Rattle.fixed_script.proofs.TextsRead.{reads_lines}
 use Rattle.fixed_machine.specs.Answers.{answer_text, ended}
-use Rattle.fixed_machine.specs.Machine.{State, OperandValues, operand_values, row_by, row_cause, late_cause, literals_of, registers_of, is_value, is_unoffered, is_out_of_range, is_mismatched, stored, cause, answer, move}
+use Rattle.fixed_machine.specs.Machine.{State, OperandValues, operand_values, row_by, row_cause, late_cause, literals_of, registers_of, is_unoffered, is_out_of_range, is_mismatched, stored, cause, answer, move}
 use Rattle.fixed_text.specs.Words.{is_signed, width}
-use Rattle.fixed_machine.specs.Rows.{exact, exact_rounded}
+use Rattle.fixed_machine.specs.Rows.{exact}
 use Rattle.fixed_machine.specs.Projection.{project}
-use Rattle.fixed_machine.specs.Meaning.{Run, by_cause, step_then, run_lines, run_from, run_pieces, run_of, start, fractions_of, has_wide, stopped, meaning_with}
+use Rattle.fixed_machine.specs.Meaning.{Run, by_cause, step_then, run_lines, run_from, run_pieces, run_of, start, fractions_of, has_wide, stopped, Output, Fault}
 use Rattle.fixed_machine.specs.declared.cause.Cause.TheVariants.{Syntax, OutOfRange, FractionMismatch}
 use Rattle.fixed_calc.specs.Spelled.{spelled_line, Spelling, Written, NoForm, in_front, spell_then, spelled_lines, spelled_from, spelled_pieces, spelled, KeepsMeaning}
 use Rattle.fixed_calc.specs.inside.Spelling.{added_to, with_end}
-use Rattle.fixed_machine.specs.inside.Stepping.{script_line_of}
+use Rattle.fixed_machine.specs.inside.Stepping.{script_line_of, is_value}
 use Rattle.fixed_calc.proofs.Before.{join_last}
 use Rattle.fixed_machine.proofs.Ended.{pieces_ended, line_read, header_read}
 use Rattle.fixed_calc.proofs.Headed.{body_by, header_piece}
@@ -139,34 +138,12 @@ script_spelled script p left before bytes h cut is same e =
     ∙ ap (λ t. in_front t (spelled_lines 2 (pieces left))) (sym (header_piece p h is) ∙ sym same) ∙ e
 
 -- ---- a line means the same with its default
-add_prod_down : (c a b s : ℤ) → rounded_add_prod_at c a b s Down ≡ exact_add_prod_at c a b s
-add_prod_down c a b (pos n) = refl
-add_prod_down c a b (negsuc n) = refl
+named_default : (own : Option Rounding) → option_or own own ≡ option_or None own
+named_default None = refl
+named_default (Some r) = refl
 
 default_row : (op : Op) (t : OperandValues) → row_by (default_rounding op) op t ≡ row_by None op t
-unfolding exact exact_rounded
-default_row Neg t = refl
-default_row Add t = refl
-default_row Sub t = refl
-default_row Mul t = refl
-default_row Div t = refl
-default_row Recip t = refl
-default_row MulAdd t = refl
-default_row AddProd t = ap Some (add_prod_down t.a.bits t.b.bits t.c.bits _)
-default_row MulInt t = refl
-default_row DivInt t = refl
-default_row DivEuclid t = refl
-default_row DivEuclidInt t = refl
-default_row RemEuclidInt t = refl
-default_row NextMultipleOf t = refl
-default_row Dist t = refl
-default_row Sqrt t = refl
-default_row Abs t = refl
-default_row Signum t = refl
-default_row Rem t = refl
-default_row RemInt t = refl
-default_row RemEuclid t = refl
-default_row NextPowerOfTwo t = refl
+default_row op t = ap (λ r. exact op (unwrap_or r Down) t.a.bits t.b.bits t.c.bits t.a.fraction t.b.fraction t.c.fraction) (named_default (default_rounding op))
 
 literals_alike : (dest : ℕ) (policy : Policy) (op : Op) (xs : Operands) (r q : Option Rounding) → literals_of (Apply dest policy op xs r) ≡ literals_of (Apply dest policy op xs q)
 literals_alike dest policy op (OneRegister a) r q = refl
@@ -291,4 +268,4 @@ pieces_kept (p ∷ ps) bytes e = header_kept (header_of_piece p) ps bytes (spell
 
 pub keeps_meaning : KeepsMeaning
 unfolding run_of
-keeps_meaning script bytes e = ap (λ r. meaning_with r.output r.fault) (pieces_kept (pieces script) bytes e)
+keeps_meaning script bytes e = ap (λ r. option_map_or Fault r.fault (Output r.output)) (pieces_kept (pieces script) bytes e)

@@ -1,11 +1,12 @@
 -- The output of a script is at most twice as long as the script.
 use Rattle.std.proofs.Common.{◌≡◌, ◌+◌, ◌*◌, ◌≤◌, ℕ, Bool, true, false, List, [], ◌∷◌, length, length-append, Option, Some, None, refl, ap, arith, if◌then◌else◌}
+use Rattle.std.specs.Option.{option_map_or}
 use Rattle.std.specs.List.{concat}
 use Rattle.fixed_word.specs.Pieces.{pieces}
 use Rattle.fixed_machine.specs.Answers.{answer_text}
 use Rattle.fixed_script.specs.Text.{ScriptHeader, ScriptLine}
 use Rattle.fixed_machine.specs.Machine.{State, answer, cause, move}
-use Rattle.fixed_machine.specs.Meaning.{Run, Output, stopped, by_cause, step_then, run_lines, run_from, run_pieces, run_of, start, has_wide, fractions_of, meaning, meaning_with}
+use Rattle.fixed_machine.specs.Meaning.{Run, Output, stopped, by_cause, step_then, run_lines, run_from, run_pieces, run_of, start, has_wide, fractions_of, meaning, Fault}
 use Rattle.fixed_script.specs.Lines.{line_of_piece, header_of_piece}
 use Rattle.fixed_machine.specs.declared.cause.Cause.{Cause}
 use Rattle.fixed_machine.specs.declared.cause.Cause.TheVariants.{OutOfRange}
@@ -48,7 +49,7 @@ run_twice : (script : List ℕ) → IsTwice (pieces script) (run_of script)
 unfolding run_of
 run_twice script = pieces_twice (pieces script)
 
-pub output_of : (output bytes : List ℕ) (fault : Option Cause) → meaning_with output fault ≡ Output bytes → (fault ≡ None) × (output ≡ bytes)
+pub output_of : (output bytes : List ℕ) (fault : Option Cause) → option_map_or Fault fault (Output output) ≡ Output bytes → (fault ≡ None) × (output ≡ bytes)
 output_of output bytes None e = (refl, cc)
 output_of output bytes (Some c) e = cc
 

@@ -1,5 +1,6 @@
 -- A script with a wider word in its header.
 use Rattle.std.proofs.Common.{◌≡◌, ◌+◌, ◌≤◌, ℕ, Bool, true, false, nat_lt, List, [], ◌∷◌, ◌++◌, Option, Some, None, refl, sym, ap, ◌∙◌, arith}
+use Rattle.std.specs.Option.{option_map_or}
 use Rattle.std.specs.Cmp.Derive.{both_true}
 use Rattle.std.proofs.lemmas.Bool.Decides.{nat_tests}
 use Rattle.fixed_word.specs.Pieces.{pieces}
@@ -11,7 +12,7 @@ use Rattle.fixed_text.specs.Words.{width, word_name}
 use Rattle.fixed_machine.specs.Answers.{answer_text, ended}
 use Rattle.fixed_script.specs.Text.{ScriptHeader, header_text, header_tokens, ScriptLine}
 use Rattle.fixed_machine.specs.Machine.{State, cause, answer, move}
-use Rattle.fixed_machine.specs.Meaning.{Run, Output, after, by_cause, step_then, run_lines, run_of, start, has_wide, fractions_of, meaning, meaning_with}
+use Rattle.fixed_machine.specs.Meaning.{Run, Output, after, by_cause, step_then, run_lines, run_of, start, has_wide, fractions_of, meaning, Fault}
 use Rattle.fixed_calc.specs.Widening.{IsWider, script_of, with_word, row_fits, fits_then, rows_fit}
 use Rattle.fixed_text.proofs.Decimals.{both}
 use Rattle.fixed_text.proofs.Lacking.{lacks, naturals_lack, joined_lack}
@@ -102,4 +103,4 @@ same_output h wide lines bytes wider fit e =
     let alike = lines_alike wide 2 (pieces lines) (start h) wider fit (sym (ap (λ (r : Run). r.fault) first) ∙ is.0) in
     let output = ap (λ (r : Run). r.output) second ∙ alike.1 ∙ sym (ap (λ (r : Run). r.output) first) ∙ is.1 in
     let fault = ap (λ (r : Run). r.fault) second ∙ alike.0 in
-    λ i. meaning_with (output i) (fault i)
+    λ i. option_map_or Fault (fault i) (Output (output i))

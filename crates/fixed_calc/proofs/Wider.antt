@@ -13,8 +13,8 @@ use Rattle.fixed_machine.specs.declared.answer.Answer.{Answer}
 use Rattle.fixed_machine.specs.declared.cause.Cause.TheVariants.{Overflow}
 use Rattle.fixed_script.specs.Text.{ScriptLine, SetTo, Apply}
 use Rattle.fixed_machine.specs.Offered.{is_offered}
-use Rattle.fixed_machine.specs.Projection.{plain, flagged, project}
-use Rattle.fixed_machine.specs.Machine.{State, is_value, is_unoffered, is_out_of_range, is_mismatched, literals_of, registers_of, row_by, operand_values, row_cause, late_cause, cause, answer, move, stored, destination}
+use Rattle.fixed_machine.specs.Projection.{project}
+use Rattle.fixed_machine.specs.Machine.{State, is_unoffered, is_out_of_range, is_mismatched, literals_of, registers_of, row_by, operand_values, row_cause, late_cause, cause, answer, move, stored, destination}
 use Rattle.fixed_text.specs.Words.{is_signed, width}
 use Rattle.fixed_calc.specs.PolicyLaws.{WhereItFits}
 use Rattle.fixed_machine.specs.Step.{state_in}
@@ -22,6 +22,7 @@ use Rattle.fixed_calc.specs.Widening.{IsWider, exceeds, row_fits}
 use Rattle.fixed_machine.proofs.Fits.{in_range, fit_true, is_width}
 use Rattle.fixed_calc.proofs.PolicyLaws.{where_it_fits}
 use Rattle.fixed_machine.proofs.Causes.{PassesTests, after_tests, no_cause, either_false}
+use Rattle.fixed_machine.specs.inside.Stepping.{is_value}
 
 -- ---- numbers
 wider_range : (s : Bool) (n m : ℕ) (x : ℤ) → n ≤ m → InRange s n x → InRange s m x
@@ -63,10 +64,10 @@ module _ (s : Bool) (n m : ℕ) (more : n ≤ m) where
       by_policy policy (where_it_fits s n x a fit) (where_it_fits s m x b (wider_fits x fit))
     where
       by_policy : (policy : Policy) → WhereItFits s n x → WhereItFits s m x → project policy s m (Some x) ≡ project policy s n (Some x)
-      by_policy Checked narrow wide = ap plain (wide.by_checked ∙ sym narrow.by_checked)
-      by_policy Saturating narrow wide = ap plain (wide.by_saturating ∙ sym narrow.by_saturating)
-      by_policy Wrapping narrow wide = ap plain (wide.by_wrapping ∙ sym narrow.by_wrapping)
-      by_policy Overflowing narrow wide = ap flagged (wide.by_overflowing ∙ sym narrow.by_overflowing)
+      by_policy Checked narrow wide = ap (λ row. option_map_or Bits row Absent) (wide.by_checked ∙ sym narrow.by_checked)
+      by_policy Saturating narrow wide = ap (λ row. option_map_or Bits row Absent) (wide.by_saturating ∙ sym narrow.by_saturating)
+      by_policy Wrapping narrow wide = ap (λ row. option_map_or Bits row Absent) (wide.by_wrapping ∙ sym narrow.by_wrapping)
+      by_policy Overflowing narrow wide = ap (λ row. option_map_or (λ p. Flagged p.0 p.1) row Absent) (wide.by_overflowing ∙ sym narrow.by_overflowing)
       by_policy Strict narrow wide = refl
 
   pub same_row_cause : (policy : Policy) (row : Option ℤ) (op : Op) (k : ℕ) → exceeds s n row ≡ false → row_cause s m policy row op k ≡ row_cause s n policy row op k

@@ -1,7 +1,7 @@
 -- What a script meant before a line could name its rounding: the same fold, over lines without a rounding, whose rows
 -- have none.
 use Rattle.std.specs.Prelude.{◌≡◌, ◌↔◌, ◌+◌, ◌++◌, ℕ, Bool, true, false, List, [], ◌∷◌, Option, Some, None, if◌then◌else◌}
-use Rattle.std.specs.Option.{option_map, option_and_then}
+use Rattle.std.specs.Option.{option_map, option_and_then, option_map_or}
 use Rattle.std.specs.List.{All}
 use Rattle.fixed_word.specs.declared.rounding.Rounding.{Rounding}
 use Rattle.fixed_word.specs.Pieces.{pieces, body}
@@ -17,7 +17,7 @@ use Rattle.fixed_machine.specs.Answers.{answer_text}
 use Rattle.fixed_machine.specs.Projection.{project}
 use Rattle.fixed_machine.specs.Machine.{State, operand_values, row_of, row_cause, is_unoffered, is_out_of_range, is_mismatched, destination, stored}
 use Rattle.fixed_text.specs.Words.{is_signed, width}
-use Rattle.fixed_machine.specs.Meaning.{Run, Meaning, stopped, by_cause, start, fractions_of, has_wide, meaning, meaning_with}
+use Rattle.fixed_machine.specs.Meaning.{Run, Meaning, stopped, by_cause, start, fractions_of, has_wide, meaning, Output, Fault}
 
 -- ---- reading
 abbrev pub names_none : ScriptLine → Bool
@@ -73,7 +73,7 @@ old_run_pieces [] = stopped None (Syntax 1)
 old_run_pieces (p ∷ ps) = old_run_from (header_of_piece p) ps
 
 abbrev pub old_meaning : List ℕ → Meaning
-old_meaning script = let run = old_run_pieces (pieces script) in meaning_with run.output run.fault
+old_meaning script = let run = old_run_pieces (pieces script) in option_map_or Fault run.fault (Output run.output)
 
 -- ---- the laws
 -- the old reading finds the lines that name no rounding, and no other

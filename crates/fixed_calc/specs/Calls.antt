@@ -23,30 +23,18 @@ GaveBytes gives zero total s s' = (total ≡ 0) × (s' ≡ s)
 GaveBytes {S} gives (suc calls) total s s' = (before : ℕ) × (count : ℕ) × (t : S)
     × GaveBytes gives calls before s t × (0 < count) × (total ≡ before + count) × gives t buffer_size (Ok count) s'
 
--- no read met the end or failed, and the limit was not passed
-abbrev pub ReadsSome : {S : Type 0} → Reads S → S → S → Type 0
-ReadsSome gives s s' = (calls : ℕ) × (total : ℕ) × GaveBytes gives calls total s s' × (total ≤ limit)
+-- so many reads gave `total` bytes, within the limit, and the next and last answered this
+abbrev pub ReadsUntil : {S : Type 0} → Reads S → ℕ → ℕ → Result ℕ Failed → S → S → Type 0
+ReadsUntil {S} gives calls total last s s' = (t : S)
+    × GaveBytes gives calls total s t × (total ≤ limit) × gives t buffer_size last s'
 
--- so many reads gave `total` bytes, within the limit, and the next and last met the end
-abbrev pub ReadsToEnd : {S : Type 0} → Reads S → ℕ → ℕ → S → S → Type 0
-ReadsToEnd {S} gives calls total s s' = (t : S)
-    × GaveBytes gives calls total s t × (total ≤ limit) × gives t buffer_size (Ok 0) s'
-
--- within the limit, the last read failed
-abbrev pub ReadsToFault : {S : Type 0} → Reads S → S → S → Type 0
-ReadsToFault {S} gives s s' = (t : S) × (failed : Failed) × ReadsSome gives s t × gives t buffer_size (Err failed) s'
-
--- the last read passed the limit
-abbrev pub ReadsPastLimit : {S : Type 0} → Reads S → S → S → Type 0
-ReadsPastLimit {S} gives s s' = (calls : ℕ) × (before : ℕ) × (count : ℕ) × (t : S)
-    × GaveBytes gives calls before s t × (before ≤ limit) × (limit < before + count) × gives t buffer_size (Ok count) s'
-
--- the reads of a run with this status
+-- the reads of a run with this status: the last one failed, or passed the limit, or met the end. Where memory ran out,
+-- there may have been no such read yet
 abbrev pub ReadsOfStatus : {S : Type 0} → Reads S → S → S → Status → Type 0
-ReadsOfStatus gives s s' ReadFault = ReadsToFault gives s s'
-ReadsOfStatus gives s s' TooLong = ReadsPastLimit gives s s'
-ReadsOfStatus gives s s' Memory = ReadsSome gives s s' ⊎ ((calls : ℕ) × (total : ℕ) × ReadsToEnd gives calls total s s')
-ReadsOfStatus gives s s' _ = (calls : ℕ) × (total : ℕ) × ReadsToEnd gives calls total s s'
+ReadsOfStatus gives s s' ReadFault = (calls : ℕ) × (total : ℕ) × (failed : Failed) × ReadsUntil gives calls total (Err failed) s s'
+ReadsOfStatus gives s s' TooLong = (calls : ℕ) × (total : ℕ) × (count : ℕ) × (limit < total + count) × ReadsUntil gives calls total (Ok count) s s'
+ReadsOfStatus gives s s' Memory = ((calls : ℕ) × (total : ℕ) × GaveBytes gives calls total s s' × (total ≤ limit)) ⊎ ((calls : ℕ) × (total : ℕ) × ReadsUntil gives calls total (Ok 0) s s')
+ReadsOfStatus gives s s' _ = (calls : ℕ) × (total : ℕ) × ReadsUntil gives calls total (Ok 0) s s'
 
 -- ---- writes
 

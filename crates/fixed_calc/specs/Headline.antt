@@ -21,12 +21,6 @@ abbrev pub ReadWhole : Option (List ℕ) → Option (List ℕ) → (List ℕ →
 ReadWhole None left P = ⊤
 ReadWhole (Some input) left P = (length input ≤ limit) × (left ≡ Some []) × P input
 
--- where the source says which bytes are left at entry it does so at exit too, and P holds of both
-abbrev pub IfKnown : Option (List ℕ) → Option (List ℕ) → (List ℕ → List ℕ → Type 0) → Type 0
-IfKnown None left P = ⊤
-IfKnown (Some input) None P = ⊥
-IfKnown (Some input) (Some rest) P = P input rest
-
 -- a prefix of the bytes was taken
 abbrev pub AppendsPrefix : Option (List ℕ) → Option (List ℕ) → List ℕ → Type 0
 AppendsPrefix old new bytes = (n : ℕ) × Appends old new (take n bytes)
@@ -34,11 +28,6 @@ AppendsPrefix old new bytes = (n : ℕ) × Appends old new (take n bytes)
 -- a prefix of the bytes was taken, and not all
 abbrev pub AppendsProperPrefix : Option (List ℕ) → Option (List ℕ) → List ℕ → Type 0
 AppendsProperPrefix old new bytes = (n : ℕ) × (n < length bytes) × Appends old new (take n bytes)
-
--- the meaning is an output, of which P holds
-abbrev pub IsOutput : Meaning → (List ℕ → Type 0) → Type 0
-IsOutput (Output bytes) P = P bytes
-IsOutput (Fault cause) P = ⊥
 
 -- the bytes are the output that the input means, where the source says what the input is
 abbrev pub IsOutputOf : Option (List ℕ) → List ℕ → Type 0
@@ -78,16 +67,17 @@ CountsOfStatus sink sink' _ = IsUnrefused sink sink'
 -- Script: the script was read whole, and its meaning is that fault. Memory: the sink took a prefix of the output, or
 -- nothing where the meaning is a fault
 abbrev pub IsEndOfScript : SourceState → SourceState → SinkState → SinkState → Status → Type 0
-IsEndOfScript source source' sink sink' Done = ReadWhole source.left source'.left (λ input. IsOutput (meaning input) (Appends sink.taken sink'.taken))
-IsEndOfScript source source' sink sink' WriteFault = ReadWhole source.left source'.left (λ input. IsOutput (meaning input) (AppendsPrefix sink.taken sink'.taken))
+IsEndOfScript source source' sink sink' Done = ReadWhole source.left source'.left (λ input. (bytes : List ℕ) × (meaning input ≡ Output bytes) × Appends sink.taken sink'.taken bytes)
+IsEndOfScript source source' sink sink' WriteFault = ReadWhole source.left source'.left (λ input. (bytes : List ℕ) × (meaning input ≡ Output bytes) × AppendsPrefix sink.taken sink'.taken bytes)
 IsEndOfScript source source' sink sink' (Script cause) = ReadWhole source.left source'.left (λ input. meaning input ≡ Fault cause)
 IsEndOfScript source source' sink sink' Memory = IfSome source.left (λ input. TookPrefixOf sink.taken sink'.taken (meaning input))
 IsEndOfScript source source' sink sink' _ = ⊤
 
--- TooLong: exactly where more than the limit was taken
-abbrev pub WhenTooLong : SourceState → SourceState → Status → Type 0
-WhenTooLong source source' status =
-    IfKnown source.left source'.left (λ input rest. status ≡ TooLong ↔ limit + length rest < length input)
+-- P exactly where more than the limit was taken: a source that says which bytes are left at entry does so at exit too
+abbrev pub WhenTooLong : Option (List ℕ) → Option (List ℕ) → Type 0 → Type 0
+WhenTooLong None left P = ⊤
+WhenTooLong (Some input) None P = ⊥
+WhenTooLong (Some input) (Some rest) P = P ↔ limit + length rest < length input
 
 -- the status that a meaning asks for, with its whole output; or memory ran out
 abbrev pub IsComplete : SinkState → SinkState → Meaning → Status → Type 0

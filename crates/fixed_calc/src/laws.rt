@@ -1,10 +1,10 @@
 //! Laws of the definitions. These functions do nothing: each contract is the law.
 
-ghost use Rattle.std.specs.Prelude.{◌≡◌, ◌*◌, ◌+◌, ◌<◌, ◌≤◌, Bool, List, None, ℕ, ℤ, false, flat_map, length, min, true};
+ghost use Rattle.std.specs.Prelude.{◌≡◌, ◌*◌, ◌+◌, ◌<◌, ◌≤◌, Bool, List, None, Ok, ℕ, ℤ, false, flat_map, length, min, true};
 ghost use Rattle.fixed_word.specs.Format.{IsWidth, fits};
 ghost use Rattle.fixed_machine.specs.Answers.{answer_text};
 ghost use Rattle.fixed_calc.specs.Before.{MeansAsBefore, ReadsOldLines};
-ghost use Rattle.fixed_calc.specs.Calls.{ReadsToEnd, TookBytes, buffer_size};
+ghost use Rattle.fixed_calc.specs.Calls.{ReadsUntil, TookBytes, buffer_size};
 ghost use Rattle.fixed_machine.specs.CapLaw.{CapsAlike};
 ghost use Rattle.fixed_calc.specs.Demo.{demo_answers, demo_text};
 ghost use Rattle.fixed_machine.specs.Meaning.{Output, meaning, run_of, start};
@@ -80,7 +80,7 @@ pub fn spelling_law()
 /// take the output, each as much of it as it may; an output of no bytes takes no write.
 pub fn calls_law()
     ensures reads { (calls total : ℕ) (source source' : MemoryInput) → 1 ≤ source.most
-        → ReadsToEnd ⟦<MemorySource as Source>⟧.read_gives calls total source source'
+        → ReadsUntil ⟦<MemorySource as Source>⟧.read_gives calls total (Ok 0) source source'
         → (total ≡ length source.left) × IsCallsFor (min source.most buffer_size) total calls
         × (source.calls + calls < last_count → source'.calls ≡ source.calls + calls + 1) }
     ensures writes { (bytes : List ℕ) (calls : ℕ) (sink sink' : MemoryOutput) → 1 ≤ sink.most

@@ -1,7 +1,7 @@
 //! Reading a source to its end.
 
-ghost use Rattle.std.specs.Prelude.{◌≡◌, ◌↔◌, ◌+◌, ◌<◌, length, IfOk, IsErrOf};
-ghost use Rattle.fixed_calc.specs.Headline.{IfKnown, ReadWhole, limit};
+ghost use Rattle.std.specs.Prelude.{◌≡◌, IfOk, IsErrOf};
+ghost use Rattle.fixed_calc.specs.Headline.{ReadWhole, WhenTooLong};
 ghost use Rattle.fixed_calc.specs.inside.ReadFaults.{RoseIfFailed, ReadsAs};
 
 use crate::outside::Source;
@@ -22,8 +22,8 @@ pub(crate) enum Stop {
 pub(crate) fn read_all<S: Source>(alloc: Global, source: &mut S) -> Result<Vec<u8>, Stop>
     ensures whole { IfOk result (λ script. ReadWhole
         (S.state source.old).left (S.state source.new).left (λ input. script.items ≡ input)) }
-    ensures too_long { IfKnown (S.state source.old).left (S.state source.new).left (λ input rest.
-        IsErrOf result Stop.TooLong ↔ limit + length rest < length input) }
+    ensures too_long { WhenTooLong
+        (S.state source.old).left (S.state source.new).left (IsErrOf result Stop.TooLong) }
     ensures faults { RoseIfFailed (S.state source.old).faults (S.state source.new).faults result }
     ensures reads { ReadsAs S.read_gives source.old source.new result }
 {

@@ -25,7 +25,8 @@ fn read_run_write<S: Source, K: Sink>(alloc: Global, source: &mut S, sink: &mut 
     ensures script { IsEndOfScript
         (S.state source.old) (S.state source.new) (K.state sink.old) (K.state sink.new) result }
     ensures no_usage { result ≢ Status.Usage }
-    ensures too_long { WhenTooLong (S.state source.old) (S.state source.new) result }
+    ensures too_long { WhenTooLong
+        (S.state source.old).left (S.state source.new).left (result ≡ Status.TooLong) }
     ensures complete { WhenComplete
         (S.state source.old) (S.state source.new) (K.state sink.old) (K.state sink.new) result }
     ensures reads { ReadsOfStatus S.read_gives source.old source.new result }
@@ -84,8 +85,8 @@ fn status_of<S: Source, K: Sink>(
         → result ≢ Status.WriteFault → result ≢ Status.Memory → sink.new ≡ sink.old }
     ensures script { words.now ≡ [] → IsEndOfScript
         (S.state source.old) (S.state source.new) (K.state sink.old) (K.state sink.new) result }
-    ensures too_long { words.now ≡ []
-        → WhenTooLong (S.state source.old) (S.state source.new) result }
+    ensures too_long { words.now ≡ [] → WhenTooLong
+        (S.state source.old).left (S.state source.new).left (result ≡ Status.TooLong) }
     ensures complete { words.now ≡ [] → WhenComplete
         (S.state source.old) (S.state source.new) (K.state sink.old) (K.state sink.new) result }
     ensures demo { (n : ℕ) → IsDemo words.now n
@@ -133,8 +134,8 @@ pub fn calc_main<S: Source, K: Sink, E: Sink>(
         → result ≢ Status.WriteFault → result ≢ Status.Memory → sink.new ≡ sink.old }
     ensures script { words.now ≡ [] → IsEndOfScript
         (S.state source.old) (S.state source.new) (K.state sink.old) (K.state sink.new) result }
-    ensures too_long { words.now ≡ []
-        → WhenTooLong (S.state source.old) (S.state source.new) result }
+    ensures too_long { words.now ≡ [] → WhenTooLong
+        (S.state source.old).left (S.state source.new).left (result ≡ Status.TooLong) }
     ensures complete { words.now ≡ [] → WhenComplete
         (S.state source.old) (S.state source.new) (K.state sink.old) (K.state sink.new) result }
     ensures demo { (n : ℕ) → IsDemo words.now n

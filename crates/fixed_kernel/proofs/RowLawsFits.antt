@@ -1,5 +1,5 @@
 -- Which exact numbers fit: on unsigned words, and on signed words at all operands but the named ones.
-use Rattle.std.proofs.Common.{◌≡◌, ◌≢◌, ◌⊎◌, ◌+◌, ◌-◌, ◌*◌, ◌/◌, ◌^◌, ◌<◌, ◌≤◌, ◌≤ℤ◌, ◌<ℤ◌, ◌*ℤ◌, ℕ, ℤ, zero, suc, Bool, true, false, pos, negsuc, neg_ℤ, refl, ap, sym, subst, ◌∙◌, arith, inl, inr}
+use Rattle.std.proofs.Common.{◌-ℤ◌, ◌≡◌, ◌≢◌, ◌⊎◌, ◌+◌, ◌-◌, ◌*◌, ◌/◌, ◌^◌, ◌<◌, ◌≤◌, ◌≤ℤ◌, ◌<ℤ◌, ◌*ℤ◌, ℕ, ℤ, zero, suc, Bool, true, false, pos, negsuc, neg_ℤ, refl, ap, sym, subst, ◌∙◌, arith, inl, inr}
 use Rattle.std.specs.Prelude.{◌↔◌, unsigned_abs, neg_ℤ}
 use Rattle.std.proofs.lemmas.Int.{ints}
 use Rattle.std.proofs.lemmas.Nat.{div-add-mod', mul-le, pow_pos}
@@ -12,7 +12,7 @@ use Rattle.fixed_word.proofs.Nearest.{cases_int}
 use Rattle.fixed_word.proofs.Sides.{lowest_sign, highest_sign}
 use Rattle.fixed_root.specs.Root.{IsRoot, root_of}
 use Rattle.fixed_root.proofs.RootLaws.{root_of_is}
-use Rattle.fixed_kernel.specs.Rows.{exact_abs, exact_dist, exact_div_euclid, exact_signum, units}
+use Rattle.fixed_kernel.specs.Rows.{exact_abs, exact_div_euclid, exact_signum, units}
 use Rattle.fixed_kernel.specs.RowLaws.{Misses}
 
 -- ---- in and out of the range
@@ -77,7 +77,7 @@ sqrt_unsigned n f (negsuc a) l w = let z = w.0 in absurd (omega (arith, ints))
 
 -- ---- the other unsigned ones
 
-pub dist_unsigned : (n : ℕ) (a b : ℤ) → InRange false n a → InRange false n b → InRange false n (exact_dist a b)
+pub dist_unsigned : (n : ℕ) (a b : ℤ) → InRange false n a → InRange false n b → InRange false n (exact_abs (a -ℤ b))
 dist_unsigned n a b v w =
     let al = v.0 in
     let ah = v.1 in

@@ -1,9 +1,11 @@
 -- The exact number of each operation: a whole number of units of the result, without a bound.
 -- a, b, c and m are the operands' bits, k an integer, f the fraction of the operation's numbers, and g and h those of
 -- factors with a fraction of their own.
--- A row is that number, or nothing where the operation has none. A number that is one sum, product, quotient, remainder
--- or root of the operands is written so where it is used, and has no name here.
+-- A row is that number, or nothing where the operation has none. Sums, differences, products and quotients by an integer,
+-- Euclid's remainders and roots are written as such where they are used, and have no name here.
 use Rattle.std.specs.Prelude.{◌^◌, ◌+◌, ◌*◌, ◌+ℤ◌, ◌-ℤ◌, ◌*ℤ◌, ℕ, ℤ, pos, neg_ℤ, negsuc, zero, suc, unsigned_abs, nat_le, Option, Some, None, if◌then◌else◌}
+use Rattle.fixed_kernel.specs.RoundedRows.{rounded_add_prod_at}
+use Rattle.fixed_word.specs.declared.rounding.Rounding.TheVariants.{Down}
 use Rattle.fixed_word.specs.Quotient.{floor_quotient, truncated_quotient, euclidean_quotient, euclidean_remainder}
 
 -- x, where d is not 0: the row of an operation with a divisor
@@ -25,9 +27,6 @@ units k f = k *ℤ pos (2 ^ f)
 abbrev pub exact_abs : ℤ → ℤ
 exact_abs a = pos (unsigned_abs a)
 
-abbrev pub exact_dist : ℤ → ℤ → ℤ
-exact_dist a b = exact_abs (a -ℤ b)
-
 abbrev pub exact_signum : ℤ → ℕ → ℤ
 exact_signum (pos zero) f = pos 0
 exact_signum (pos (suc a)) f = pos (2 ^ f)
@@ -43,8 +42,7 @@ exact_mul_add a m c g = floor_quotient (a *ℤ m) (2 ^ g) +ℤ c
 
 -- the product moves down by s places, or up by -s, to the places of c
 abbrev pub exact_add_prod_at : ℤ → ℤ → ℤ → ℤ → ℤ
-exact_add_prod_at c a b (pos s) = floor_quotient (a *ℤ b) (2 ^ s) +ℤ c
-exact_add_prod_at c a b (negsuc t) = (a *ℤ b) *ℤ pos (2 ^ suc t) +ℤ c
+exact_add_prod_at c a b s = rounded_add_prod_at c a b s Down
 
 -- f is the fraction of c, g that of a and h that of b
 abbrev pub exact_add_prod : ℤ → ℤ → ℤ → ℕ → ℕ → ℕ → ℤ

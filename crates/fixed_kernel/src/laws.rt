@@ -4,7 +4,7 @@
 //! A number of the format is a whole number in the range of its word; n is the width and f the
 //! fraction.
 
-ghost use Rattle.std.specs.Prelude.{◌≡◌, ◌≢◌, ◌↔◌, ◌⊎◌, ◌-◌, ◌^◌, ◌≤◌, ◌≤ℤ◌, ◌<ℤ◌, ◌+ℤ◌, ◌*ℤ◌, ℕ, ℤ, Bool, true, false, pos, negsuc, unsigned_abs, neg_ℤ};
+ghost use Rattle.std.specs.Prelude.{◌-ℤ◌, ◌≡◌, ◌≢◌, ◌↔◌, ◌⊎◌, ◌-◌, ◌^◌, ◌≤◌, ◌≤ℤ◌, ◌<ℤ◌, ◌+ℤ◌, ◌*ℤ◌, ℕ, ℤ, Bool, true, false, pos, negsuc, unsigned_abs, neg_ℤ};
 ghost use Rattle.fixed_word.specs.Format.{InRange, IsWidth, lowest};
 ghost use Rattle.fixed_word.specs.Quotient.{euclidean_quotient, euclidean_remainder, truncated_quotient};
 ghost use Rattle.fixed_word.specs.declared.rounding.Rounding.{Rounding};
@@ -13,7 +13,7 @@ ghost use Rattle.fixed_root.specs.Root.{root_of};
 ghost use Rattle.fixed_kernel.specs.RowLaws.{IsFromZero, IsNextMultiple, IsNextPower, IsOffZero, Misses};
 ghost use Rattle.fixed_kernel.specs.Rounded.{IsRounded, rounded};
 ghost use Rattle.fixed_kernel.specs.RoundedRows.{rounded_add_prod, rounded_div, rounded_mul, rounded_mul_add, rounded_recip};
-ghost use Rattle.fixed_kernel.specs.Rows.{by_divisor, by_sign, exact_abs, exact_add_prod, exact_dist, exact_div, exact_div_euclid, exact_mul, exact_mul_add, exact_next_multiple_of, exact_next_power_of_two, exact_recip, exact_rem, exact_signum, units};
+ghost use Rattle.fixed_kernel.specs.Rows.{by_divisor, by_sign, exact_abs, exact_add_prod, exact_div, exact_div_euclid, exact_mul, exact_mul_add, exact_next_multiple_of, exact_next_power_of_two, exact_recip, exact_rem, exact_signum, units};
 
 /// `rem`, `rem_int` and `rem_euclid` fit on every word, though the integer of `rem_int` may be far outside
 /// the range as a number of units; a Euclidean remainder is at least 0 and below the magnitude of its
@@ -34,7 +34,7 @@ pub fn unsigned_law()
     ensures sqrt { (n f : ℕ) (a : ℤ)
         → f ≤ n → InRange false n a → InRange false n (root_of a f) }
     ensures dist { (n : ℕ) (a b : ℤ) → InRange false n a → InRange false n b
-        → InRange false n (exact_dist a b) }
+        → InRange false n (exact_abs (a -ℤ b)) }
     ensures div_int { (n : ℕ) (a k : ℤ) → InRange false n a → InRange false n k → k ≢ pos 0
         → InRange false n (truncated_quotient a k) }
     ensures div_euclid_int { (n f : ℕ) (a k : ℤ) → InRange false n a → InRange false n k

@@ -6,7 +6,7 @@ use Rattle.fixed_text.specs.declared.names.WordName.{WordName}
 use Rattle.fixed_script.specs.Text.{ScriptLine, SetTo, Apply, OneRegister, TwoRegisters, RegisterAndInt, ThreeRegisters}
 use Rattle.fixed_text.specs.Numerals.{cap}
 use Rattle.fixed_script.specs.Capped.{cap_whole, capped}
-use Rattle.fixed_machine.specs.Machine.{State, Cell, cause, answer, move, late_cause, is_unoffered, is_out_of_range, is_mismatched, is_value}
+use Rattle.fixed_machine.specs.Machine.{State, Cell, cause, answer, move, late_cause, is_unoffered, is_out_of_range, is_mismatched}
 use Rattle.fixed_machine.specs.CapLaw.{CapsAlike}
 use Rattle.fixed_machine.specs.Step.{IsStepOfLine}
 use Rattle.fixed_machine.specs.declared.answer.Answer.{Answer}
@@ -14,6 +14,7 @@ use Rattle.fixed_machine.specs.declared.cause.Cause.{Cause}
 use Rattle.fixed_machine.specs.declared.cause.Cause.TheVariants.{Syntax, OutOfRange, FractionMismatch}
 use Rattle.fixed_machine.proofs.Fits.{value_small}
 use Rattle.fixed_machine.proofs.Causes.{no_cause, either_false, set_value, integer_value}
+use Rattle.fixed_machine.specs.inside.Stepping.{is_value}
 
 cap_missing : (n r : ℕ) → n ≤ 2 ^ 64 → nat_le n (cap r) ≡ nat_le n r
 cap_missing n r h = grind (arith, nat_tests)

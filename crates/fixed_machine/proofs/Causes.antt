@@ -1,5 +1,6 @@
 -- The cause of a line, from its tests.
 use Rattle.std.proofs.Common.{◌≡◌, ◌^◌, ◌<◌, ℕ, ℤ, Bool, true, false, nat_le, List, pos, set, length, unsigned_abs, Option, Some, None, Result, Ok, Err, if◌then◌else◌, ◌||◌, not, refl, ap, ◌∙◌, sym, arith, neg_ℤ, subst, inl, inr}
+use Rattle.std.specs.Option.{option_map_or}
 use Rattle.std.proofs.lemmas.Bool.Decides.{nat_tests}
 use Rattle.std.specs.Bool.{⊤}
 use Rattle.std.proofs.lemmas.List.{get_or_past}
@@ -18,11 +19,11 @@ use Rattle.fixed_script.specs.declared.names.Op.{Op}
 use Rattle.fixed_machine.specs.declared.answer.Answer.{Answer}
 use Rattle.fixed_machine.specs.declared.answer.Answer.TheVariants.{Absent, Bits, Flagged}
 use Rattle.fixed_script.specs.Text.{ScriptLine, SetTo, Apply, Operands, OneRegister, TwoRegisters, RegisterAndInt, ThreeRegisters}
-use Rattle.fixed_machine.specs.Projection.{plain, project}
+use Rattle.fixed_machine.specs.Projection.{project}
 use Rattle.fixed_machine.specs.Offered.{is_offered}
-use Rattle.fixed_machine.specs.Machine.{State, Cell, cell_at, empty_cell, destination, registers_of, cause, integer, OperandValues, late_cause, row_cause, row_by, operand_values, is_unoffered, is_out_of_range, is_mismatched, is_value, answer}
+use Rattle.fixed_machine.specs.Machine.{State, Cell, cell_at, destination, registers_of, cause, integer, OperandValues, late_cause, row_cause, row_by, operand_values, is_unoffered, is_out_of_range, is_mismatched, answer}
 use Rattle.fixed_text.specs.Words.{is_signed, width}
-use Rattle.fixed_machine.specs.inside.Stepping.{IsAnswerOfLine, IsAnswerOfRow, IsApplied, HoldsOperands, values_of}
+use Rattle.fixed_machine.specs.inside.Stepping.{IsAnswerOfLine, IsAnswerOfRow, IsApplied, HoldsOperands, values_of, is_value}
 use Rattle.fixed_machine.specs.Step.{IsCell}
 use Rattle.fixed_machine.specs.declared.register.OperandRegisters.{OperandRegisters}
 use Rattle.fixed_machine.specs.declared.cause.Cause.{Cause}
@@ -123,10 +124,14 @@ no_overflow false k h = cc
 
 project_valued : (w : WordName) (policy : Policy) (op : Op) (row : Option ℤ) (k : ℕ) → row_cause (is_signed w) (width w) policy row op k ≡ None → IsValued w (project policy (is_signed w) (width w) row)
 unfolding row_cause
-project_valued w policy op None k h = tt
+project_valued w Checked op None k h = tt
+project_valued w Saturating op None k h = tt
+project_valued w Wrapping op None k h = tt
+project_valued w Overflowing op None k h = tt
+project_valued w Strict op None k h = tt
 project_valued w Checked op (Some x) k h = by_fit (is_value w x) refl
   where
-    by_fit : (b : Bool) → is_value w x ≡ b → IsValued w (plain (if b then Some x else None))
+    by_fit : (b : Bool) → is_value w x ≡ b → IsValued w (option_map_or Bits (if b then Some x else None) Absent)
     by_fit true is = is
     by_fit false is = tt
 project_valued w Saturating op (Some x) k h = clamp_fits w x
@@ -152,7 +157,7 @@ stores s line k a h = record {
 
 -- registers stay those of their word where one gets a value
 pub cells_stay : (w : WordName) (cells : List Cell) (dest : ℕ) (x : ℤ) → dest < length cells → All (IsCell w) cells → is_value w x ≡ true → All (IsCell w) (set cells dest (record { bits = x; fraction = (cell_at cells dest).fraction }))
-cells_stay w cells dest x there all fit = All-set (IsCell w) cells dest _ (record { value = fit; fraction = (all dest empty_cell there).fraction }) all
+cells_stay w cells dest x there all fit = All-set (IsCell w) cells dest _ (record { value = fit; fraction = (all dest (integer (pos 0)) there).fraction }) all
 
 pub zero_fits : (w : WordName) → is_value w (pos 0) ≡ true
 zero_fits I8 = refl
@@ -167,13 +172,13 @@ zero_fits U64 = refl
 pub integer_cell : (w : WordName) (x : ℤ) → is_value w x ≡ true → IsCell w (integer x)
 integer_cell w x h = record { value = h; fraction = omega arith }
 
-pub empty_is : (w : WordName) → IsCell w empty_cell
+pub empty_is : (w : WordName) → IsCell w (integer (pos 0))
 empty_is w = integer_cell w (pos 0) (zero_fits w)
 
 pub cell_is : (w : WordName) (cells : List Cell) (r : ℕ) → All (IsCell w) cells → IsCell w (cell_at cells r)
 cell_is w cells r all = elim (cases_lt r (length cells)) [
-  | inl l ↦ all r empty_cell l
-  | inr g ↦ rw (get_or_past cells r empty_cell g) (empty_is w)
+  | inl l ↦ all r (integer (pos 0)) l
+  | inr g ↦ rw (get_or_past cells r (integer (pos 0)) g) (empty_is w)
 ]
 
 -- three operands of a word

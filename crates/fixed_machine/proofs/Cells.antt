@@ -4,7 +4,7 @@ use Rattle.std.proofs.lemmas.Int.{ints}
 use Rattle.std.proofs.lemmas.List.{map-set, get_or-map}
 use lib.Signed.{lt_z}
 use Rattle.fixed_word.specs.Format.{with_sign}
-use Rattle.fixed_machine.specs.Machine.{empty_cell, cell_at}
+use Rattle.fixed_machine.specs.Machine.{cell_at, integer}
 use Rattle.fixed_machine.specs.Step.{cell_of, cells_of}
 use Rattle.fixed_machine.specs.declared.register.Register.{Register}
 
@@ -19,4 +19,4 @@ pub stored_cell : (rs : List Register) (dest : ℕ) (x : ℤ) (d : Register) →
     cells_of (set rs dest (record { magnitude = unsigned_abs x; fraction = (get_or rs dest d).fraction; below_zero = lt_z x (pos 0) })) ≡ set (cells_of rs) dest (record { bits = x; fraction = (cell_at (cells_of rs) dest).fraction })
 stored_cell rs dest x d there =
     map-set cell_of rs dest _
-    ∙ (λ i. set (cells_of rs) dest (record { bits = sign_and_size x i; fraction = (sym (get_or-map cell_of rs dest d empty_cell there) i).fraction }))
+    ∙ (λ i. set (cells_of rs) dest (record { bits = sign_and_size x i; fraction = (sym (get_or-map cell_of rs dest d (integer (pos 0)) there) i).fraction }))

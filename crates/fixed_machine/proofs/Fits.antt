@@ -6,8 +6,8 @@ use Rattle.fixed_word.proofs.Wraps.{wrap_in_range, width_pos}
 use Rattle.fixed_word.proofs.Sides.{lowest_sign, highest_sign}
 use Rattle.fixed_text.specs.declared.names.WordName.{WordName}
 use Rattle.fixed_text.specs.declared.names.WordName.TheVariants.{I8, I16, I32, I64, U8, U16, U32, U64}
-use Rattle.fixed_machine.specs.Machine.{is_value}
 use Rattle.fixed_text.specs.Words.{is_signed, width}
+use Rattle.fixed_machine.specs.inside.Stepping.{is_value}
 
 pub in_range : (s : Bool) (n : ℕ) (x : ℤ) → IsTrue (fits s n x) → InRange s n x
 in_range s n x h = grind (arith, ints)

@@ -9,7 +9,8 @@ use Rattle.fixed_script.specs.declared.names.Policy.TheVariants.{Checked, Satura
 use Rattle.fixed_script.specs.declared.names.Op.{Op}
 use Rattle.fixed_script.specs.declared.names.Op.TheVariants.{Neg, Add, Sub, Mul, Div, Recip, MulAdd, AddProd, MulInt, DivInt, DivEuclid, DivEuclidInt, RemEuclidInt, NextMultipleOf, Dist, Sqrt, Abs, Signum, Rem, RemInt, RemEuclid, NextPowerOfTwo}
 use Rattle.fixed_script.specs.Names.{policy_name, op_name}
-use Rattle.fixed_script.specs.Text.{ScriptLine, SetTo, Apply, Operands, OneRegister, TwoRegisters, RegisterAndInt, ThreeRegisters, operand_tokens, rounding_tokens, line_tokens, line_text}
+use Rattle.fixed_script.specs.Text.{ScriptLine, SetTo, Apply, Operands, OneRegister, TwoRegisters, RegisterAndInt, ThreeRegisters, operand_tokens, line_tokens, line_text}
+use Rattle.fixed_script.proofs.RoundingTokens.{rounding_tokens}
 use Rattle.fixed_text.proofs.Lacking.{lacks, natural_lacks, whole_lacks, joined_lack}
 
 policy_lacks : (p : Policy) → lacks 10 (policy_name p) ≡ true

@@ -1,5 +1,5 @@
 -- A line that was read quickly: its operands, its tests and its answer.
-use Rattle.std.proofs.Common.{◌≡◌, ◌<◌, ℕ, ℤ, Bool, true, false, nat_le, List, get_or, length, Option, None, Result, Ok, not, refl, ap, ◌∙◌, sym, arith, subst}
+use Rattle.std.proofs.Common.{pos, ◌≡◌, ◌<◌, ℕ, ℤ, Bool, true, false, nat_le, List, get_or, length, Option, None, Result, Ok, not, refl, ap, ◌∙◌, sym, arith, subst}
 use Rattle.std.proofs.lemmas.Bool.Decides.{nat_tests}
 use Rattle.std.specs.List.{All}
 use Rattle.std.proofs.lemmas.List.{length-map, get_or-map}
@@ -20,19 +20,19 @@ use Rattle.fixed_machine.specs.declared.register.Register.{Register}
 use Rattle.fixed_machine.specs.declared.register.OperandRegisters.{OperandRegisters}
 use Rattle.fixed_machine.specs.Rows.{exact}
 use Rattle.fixed_machine.specs.Offered.{is_offered}
-use Rattle.fixed_machine.specs.Machine.{State, Cell, OperandValues, cell_at, empty_cell, is_value, is_unoffered, is_out_of_range, is_mismatched, operand_values, row_of, row_by}
+use Rattle.fixed_machine.specs.Machine.{State, Cell, OperandValues, cell_at, is_unoffered, is_out_of_range, is_mismatched, operand_values, row_of, row_by, integer}
 use Rattle.fixed_machine.specs.Step.{FitsFormat, IsCell, cell_of, cells_of, state_in}
 use Rattle.fixed_machine.specs.inside.Quick.{quick_number, quick_operands}
 use Rattle.fixed_machine.specs.inside.QuickSteps.{IsSecond}
-use Rattle.fixed_machine.specs.inside.Stepping.{IsAnswerOfLine, IsAnswerOfRow, values_of}
+use Rattle.fixed_machine.specs.inside.Stepping.{IsAnswerOfLine, IsAnswerOfRow, values_of, is_value}
 use Rattle.fixed_machine.proofs.Causes.{PassesTests, apply_tells, set_tells, cell_is, integer_cell}
 
 -- ---- operands
 -- of three cells, those that an operation of that shape takes
 abbrev pub kept : Shape → Cell → Cell → Cell → OperandValues
-kept Unary x y z = record { a = x; b = empty_cell; c = empty_cell }
-kept Binary x y z = record { a = x; b = y; c = empty_cell }
-kept ByInteger x y z = record { a = x; b = y; c = empty_cell }
+kept Unary x y z = record { a = x; b = integer (pos 0); c = integer (pos 0) }
+kept Binary x y z = record { a = x; b = y; c = integer (pos 0) }
+kept ByInteger x y z = record { a = x; b = y; c = integer (pos 0) }
 kept Ternary x y z = record { a = x; b = y; c = z }
 
 -- a row is that of the operands that its operation takes
@@ -62,9 +62,9 @@ row_kept RemEuclid x y z = refl
 row_kept NextPowerOfTwo x y z = refl
 
 values_kept : (w : WordName) (cells : List Cell) (line : QuickLine) (kind : Shape) (x y z : Cell) → x ≡ cell_at cells line.a → IsSecond w cells line kind y → z ≡ cell_at cells line.c → kept kind x y z ≡ operand_values cells (quick_operands kind line)
-values_kept w cells line Unary x y z ea eb ec = λ i. record { a = ea i; b = empty_cell; c = empty_cell }
-values_kept w cells line Binary x y z ea eb ec = λ i. record { a = ea i; b = eb i; c = empty_cell }
-values_kept w cells line ByInteger x y z ea eb ec = λ i. record { a = ea i; b = eb.0 i; c = empty_cell }
+values_kept w cells line Unary x y z ea eb ec = λ i. record { a = ea i; b = integer (pos 0); c = integer (pos 0) }
+values_kept w cells line Binary x y z ea eb ec = λ i. record { a = ea i; b = eb i; c = integer (pos 0) }
+values_kept w cells line ByInteger x y z ea eb ec = λ i. record { a = ea i; b = eb.0 i; c = integer (pos 0) }
 values_kept w cells line Ternary x y z ea eb ec = λ i. record { a = ea i; b = eb i; c = ec i }
 
 pub second_cell : (w : WordName) (cells : List Cell) (line : QuickLine) (kind : Shape) (y : Cell) → All (IsCell w) cells → IsSecond w cells line kind y → IsCell w y
@@ -75,7 +75,7 @@ second_cell w cells line Ternary y all e = subst (IsCell w) (sym e) (cell_is w c
 
 -- what a register that is there holds
 pub held_is : (rs : List Register) (r : ℕ) (d : Register) → r < length rs → cell_of (get_or rs r d) ≡ cell_at (cells_of rs) r
-held_is rs r d h = sym (get_or-map cell_of rs r d empty_cell h)
+held_is rs r d h = sym (get_or-map cell_of rs r d (integer (pos 0)) h)
 
 pub held_cell : (w : WordName) (rs : List Register) (r : ℕ) (d : Register) → All (IsCell w) (cells_of rs) → r < length rs → IsCell w (cell_of (get_or rs r d))
 held_cell w rs r d all h = subst (IsCell w) (sym (held_is rs r d h)) (cell_is w (cells_of rs) r all)

@@ -1,5 +1,5 @@
 -- An answer is at most twice as long as its line, and a header has a space for each register.
-use Rattle.std.specs.Option.{option_and_then}
+use Rattle.std.specs.Option.{option_and_then, option_map_or}
 use Rattle.std.proofs.Common.{◌≡◌, ◌≤◌, ◌+◌, ◌*◌, ◌-◌, ◌==◌, if◌then◌else◌, cond, ℕ, ℤ, Bool, true, false, not, List, [], ◌∷◌, length, take, Option, Some, None, refl, ap, arith, length-append}
 use Rattle.std.specs.Prelude.{slice_index}
 use Rattle.std.proofs.lemmas.List.{length-take, length-map}
@@ -9,7 +9,7 @@ use Rattle.fixed_word.specs.declared.rounding.Rounding.{Rounding}
 use Rattle.fixed_script.specs.declared.names.Policy.{Policy}
 use Rattle.fixed_script.specs.declared.names.Policy.TheVariants.{Checked, Saturating, Wrapping, Overflowing, Strict}
 use Rattle.fixed_script.specs.declared.names.Op.{Op}
-use Rattle.fixed_machine.specs.declared.answer.Answer.TheVariants.{Bits, Flagged}
+use Rattle.fixed_machine.specs.declared.answer.Answer.TheVariants.{Absent, Bits, Flagged}
 use Rattle.fixed_word.specs.Decimal.{natural_text}
 use Rattle.fixed_machine.specs.Answers.{answer_text}
 use Rattle.fixed_script.specs.Names.{policy_name}
@@ -19,8 +19,8 @@ use Rattle.fixed_text.proofs.Lengths.{length_natural_some, length_whole}
 use Rattle.fixed_script.proofs.HeaderLaws.{tokens_of_header}
 use Rattle.std.proofs.lemmas.List.Sums.{sum_by-take-le}
 use Rattle.fixed_word.specs.Format.{wrap, clamp}
-use Rattle.fixed_machine.specs.Projection.{plain, project}
-use Rattle.fixed_machine.specs.Machine.{State, cause, answer, is_value, row_by, operand_values}
+use Rattle.fixed_machine.specs.Projection.{project}
+use Rattle.fixed_machine.specs.Machine.{State, cause, answer, row_by, operand_values}
 use Rattle.fixed_text.specs.Words.{is_signed, width}
 use Rattle.fixed_script.specs.Lines.{line_of, header_of, line_of_piece, header_of_piece}
 use Rattle.fixed_machine.specs.Meaning.{fractions_of}
@@ -28,6 +28,7 @@ use Rattle.fixed_machine.specs.Rooms.{spaces_in}
 use Rattle.fixed_machine.proofs.Fits.{value_small}
 use Rattle.fixed_machine.proofs.Causes.{IsValued, answer_valued}
 use Rattle.fixed_script.proofs.TextsRead.{reads_lines, reads_headers}
+use Rattle.fixed_machine.specs.inside.Stepping.{is_value}
 
 line_length : (dest : ℕ) (policy : Policy) (op : Op) (xs : Operands) (how : Option Rounding) → 6 + length (policy_name policy) ≤ length (line_text (Apply dest policy op xs how))
 line_length dest policy op (OneRegister a) None = simp length-append (omega (arith, length_natural_some dest, length_natural_some a))
@@ -47,10 +48,14 @@ flag_short w x true h = simp length-append (omega (arith, length_whole x (value_
 flag_short w x false h = simp length-append (omega (arith, length_whole x (value_small w x h)))
 
 project_short : (w : WordName) (policy : Policy) (row : Option ℤ) → IsValued w (project policy (is_signed w) (width w) row) → length (answer_text (project policy (is_signed w) (width w) row)) ≤ 2 * length (policy_name policy) + 14
-project_short w policy None h = omega arith
+project_short w Checked None h = omega arith
+project_short w Saturating None h = omega arith
+project_short w Wrapping None h = omega arith
+project_short w Overflowing None h = omega arith
+project_short w Strict None h = omega arith
 project_short w Checked (Some x) h = by_fit (is_value w x) h
   where
-    by_fit : (b : Bool) → IsValued w (plain (if b then Some x else None)) → length (answer_text (plain (if b then Some x else None))) ≤ 2 * length (policy_name Checked) + 14
+    by_fit : (b : Bool) → IsValued w (option_map_or Bits (if b then Some x else None) Absent) → length (answer_text (option_map_or Bits (if b then Some x else None) Absent)) ≤ 2 * length (policy_name Checked) + 14
     by_fit true h = omega (arith, bits_short w x h)
     by_fit false h = omega arith
 project_short w Saturating (Some x) h = omega (arith, bits_short w (clamp (is_signed w) (width w) x) h)

@@ -8,11 +8,8 @@ use Rattle.fixed_word.specs.Decimal.{whole_text}
 abbrev pub ended : List ℕ → List ℕ
 ended text = text ++ (10 ∷ [])
 
-abbrev pub verdict_text : Bool → List ℕ
-verdict_text verdict = if verdict then codes " true" else codes " false"
-
 -- the decimal or `none`, a verdict where there is one, and a newline
 abbrev pub answer_text : Answer → List ℕ
 answer_text Absent = codes "none" ++ (10 ∷ [])
 answer_text (Bits n) = whole_text n ++ (10 ∷ [])
-answer_text (Flagged n verdict) = whole_text n ++ verdict_text verdict ++ (10 ∷ [])
+answer_text (Flagged n verdict) = whole_text n ++ (if verdict then codes " true" else codes " false") ++ (10 ∷ [])

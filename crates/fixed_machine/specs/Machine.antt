@@ -12,14 +12,11 @@ use Rattle.fixed_machine.specs.declared.answer.Answer.{Answer}
 use Rattle.fixed_machine.specs.declared.answer.Answer.TheVariants.{Absent, Bits, Flagged}
 use Rattle.fixed_script.specs.Text.{ScriptLine, SetTo, Apply, Operands, OneRegister, TwoRegisters, RegisterAndInt, ThreeRegisters}
 use Rattle.fixed_word.specs.Format.{fits}
-use Rattle.fixed_machine.specs.Rows.{exact, exact_by}
+use Rattle.fixed_machine.specs.Rows.{exact, rounding_of}
 use Rattle.fixed_machine.specs.Projection.{project}
 use Rattle.fixed_machine.specs.Offered.{is_offered}
 use Rattle.fixed_machine.specs.declared.cause.Cause.{Cause}
 use Rattle.fixed_machine.specs.declared.cause.Cause.TheVariants.{Syntax, OutOfRange, FractionMismatch, ZeroDivisor, NegativeRoot, Overflow}
-
-abbrev pub is_value : WordName → ℤ → Bool
-is_value word x = fits (is_signed word) (width word) x
 
 -- ---- states
 -- a register: its bits as a whole number, and its fraction
@@ -31,11 +28,12 @@ pub record State : Type 0 where
   pub word : WordName
   pub registers : List Cell
 
-abbrev pub empty_cell : Cell
-empty_cell = record { bits = pos 0; fraction = 0 }
+-- an integer has no fraction
+abbrev pub integer : ℤ → Cell
+integer k = record { bits = k; fraction = 0 }
 
 abbrev pub cell_at : List Cell → ℕ → Cell
-cell_at cells r = slice_index_or cells r empty_cell
+cell_at cells r = slice_index_or cells r (integer (pos 0))
 
 -- ---- what a line names
 abbrev pub destination : ScriptLine → ℕ
@@ -63,32 +61,25 @@ tied (ThreeRegisters c a b) AddProd = c ∷ []
 tied (ThreeRegisters a m c) op = a ∷ c ∷ []
 tied xs op = operand_registers xs
 
-abbrev pub tied_registers : ScriptLine → List ℕ
-tied_registers (SetTo dest k) = []
-tied_registers (Apply dest policy op xs rounding) = tied xs op
-
 -- ---- the row of a line
--- three operands, of which a line takes the first ones; an integer has no fraction
+-- three operands, of which a line takes the first ones
 pub record OperandValues : Type 0 where
   pub a : Cell
   pub b : Cell
   pub c : Cell
 
-abbrev pub integer : ℤ → Cell
-integer k = record { bits = k; fraction = 0 }
-
 abbrev pub operand_values : List Cell → Operands → OperandValues
-operand_values cells (OneRegister a) = record { a = cell_at cells a; b = empty_cell; c = empty_cell }
-operand_values cells (TwoRegisters a b) = record { a = cell_at cells a; b = cell_at cells b; c = empty_cell }
-operand_values cells (RegisterAndInt a k) = record { a = cell_at cells a; b = integer k; c = empty_cell }
+operand_values cells (OneRegister a) = record { a = cell_at cells a; b = integer (pos 0); c = integer (pos 0) }
+operand_values cells (TwoRegisters a b) = record { a = cell_at cells a; b = cell_at cells b; c = integer (pos 0) }
+operand_values cells (RegisterAndInt a k) = record { a = cell_at cells a; b = integer k; c = integer (pos 0) }
 operand_values cells (ThreeRegisters a b c) = record { a = cell_at cells a; b = cell_at cells b; c = cell_at cells c }
-
-abbrev pub row_of : Op → OperandValues → Option ℤ
-row_of op t = exact op t.a.bits t.b.bits t.c.bits t.a.fraction t.b.fraction t.c.fraction
 
 -- with the rounding that a line names, if it names one
 abbrev pub row_by : Option Rounding → Op → OperandValues → Option ℤ
-row_by rounding op t = exact_by rounding op t.a.bits t.b.bits t.c.bits t.a.fraction t.b.fraction t.c.fraction
+row_by rounding op t = exact op (rounding_of op rounding) t.a.bits t.b.bits t.c.bits t.a.fraction t.b.fraction t.c.fraction
+
+abbrev pub row_of : Op → OperandValues → Option ℤ
+row_of op t = row_by None op t
 
 -- ---- causes
 unfoldable pub is_unoffered : WordName → ScriptLine → Bool
@@ -96,10 +87,11 @@ is_unoffered word (SetTo dest k) = false
 is_unoffered word (Apply dest policy op xs rounding) = not (is_offered (is_signed word) policy op)
 
 unfoldable pub is_out_of_range : State → ScriptLine → Bool
-is_out_of_range s line = list_any (λ r. nat_le (length s.registers) r) (registers_of line) || list_any (λ k. not (is_value s.word k)) (literals_of line)
+is_out_of_range s line = list_any (λ r. nat_le (length s.registers) r) (registers_of line) || list_any (λ k. not (fits (is_signed s.word) (width s.word) k)) (literals_of line)
 
 unfoldable pub is_mismatched : State → ScriptLine → Bool
-is_mismatched s line = list_any (λ r. not ((cell_at s.registers r).fraction == (cell_at s.registers (destination line)).fraction)) (tied_registers line)
+is_mismatched s (SetTo dest k) = false
+is_mismatched s (Apply dest policy op xs rounding) = list_any (λ r. not ((cell_at s.registers r).fraction == (cell_at s.registers dest).fraction)) (tied xs op)
 
 -- the cause of a row that is undefined, or that a strict policy does not answer
 unfoldable pub row_cause : Bool → ℕ → Policy → Option ℤ → Op → ℕ → Option Cause

@@ -1,6 +1,7 @@
 -- What a script means: a fold over its pieces.
 use Rattle.std.specs.Prelude.{ℕ, ◌+◌, nat_lt, Bool, pos, List, [], ◌∷◌, ◌++◌, map, Option, Some, None, if◌then◌else◌}
 use Rattle.std.specs.List.{list_any}
+use Rattle.std.specs.Option.{option_map_or}
 use Rattle.fixed_text.specs.declared.names.WordName.{WordName}
 use Rattle.fixed_script.specs.Text.{ScriptHeader, ScriptLine}
 use Rattle.fixed_script.specs.Lines.{line_of_piece, header_of_piece}
@@ -26,8 +27,7 @@ after bytes r = record { state = r.state; output = bytes ++ r.output; fault = r.
 
 -- the first cause, or the answer's text and then the rest
 abbrev pub by_cause : Option Cause → State → List ℕ → Run → Run
-by_cause (Some c) s text rest = stopped (Some s) c
-by_cause None s text rest = after text rest
+by_cause found s text rest = option_map_or (stopped (Some s)) found (after text rest)
 
 -- one piece, and then what comes after its move
 abbrev pub step_then : State → ℕ → Option ScriptLine → (State → Run) → Run
@@ -67,9 +67,6 @@ pub data Meaning : Type 0 where
   Output : (bytes : List ℕ) → Meaning
   Fault : (cause : Cause) → Meaning
 
-abbrev pub meaning_with : List ℕ → Option Cause → Meaning
-meaning_with output None = Output output
-meaning_with output (Some cause) = Fault cause
-
+-- the first cause, or all answers where there is none
 abbrev pub meaning : List ℕ → Meaning
-meaning script = meaning_with (run_of script).output (run_of script).fault
+meaning script = option_map_or Fault (run_of script).fault (Output (run_of script).output)

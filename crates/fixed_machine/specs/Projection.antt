@@ -1,5 +1,5 @@
 -- What a policy makes of a row.
-use Rattle.std.specs.Prelude.{ℕ, ℤ, Bool, Option, Some, None}
+use Rattle.std.specs.Prelude.{ℕ, ℤ, Bool, Option}
 use Rattle.std.specs.Option.{option_map_or}
 use Rattle.fixed_word.specs.Policies.{checked, saturating, wrapping, overflowing}
 use Rattle.fixed_script.specs.declared.names.Policy.{Policy}
@@ -7,17 +7,10 @@ use Rattle.fixed_script.specs.declared.names.Policy.TheVariants.{Checked, Satura
 use Rattle.fixed_machine.specs.declared.answer.Answer.{Answer}
 use Rattle.fixed_machine.specs.declared.answer.Answer.TheVariants.{Absent, Bits, Flagged}
 
--- the answer of a number, and of a number with its verdict
-abbrev pub plain : Option ℤ → Answer
-plain row = option_map_or Bits row Absent
-
-abbrev pub flagged : Option (ℤ × Bool) → Answer
-flagged row = option_map_or (λ p. Flagged p.0 p.1) row Absent
-
+-- a number, or a number and a verdict; Absent where there is none
 abbrev pub project : Policy → Bool → ℕ → Option ℤ → Answer
-project policy signed n None = Absent
-project Checked signed n (Some x) = plain (checked signed n (Some x))
-project Saturating signed n (Some x) = plain (saturating signed n (Some x))
-project Wrapping signed n (Some x) = plain (wrapping signed n (Some x))
-project Overflowing signed n (Some x) = flagged (overflowing signed n (Some x))
-project Strict signed n (Some x) = Bits x
+project Checked signed n row = option_map_or Bits (checked signed n row) Absent
+project Saturating signed n row = option_map_or Bits (saturating signed n row) Absent
+project Wrapping signed n row = option_map_or Bits (wrapping signed n row) Absent
+project Overflowing signed n row = option_map_or (λ p. Flagged p.0 p.1) (overflowing signed n row) Absent
+project Strict signed n row = option_map_or Bits row Absent

@@ -6,11 +6,11 @@ ghost use Rattle.std.specs.List.{All};
 ghost use Rattle.fixed_script.specs.Names.{shape};
 ghost use Rattle.fixed_script.specs.Text.{Apply};
 ghost use Rattle.fixed_text.specs.Words.{is_signed as signed, width as width_in};
-ghost use Rattle.fixed_machine.specs.Machine.{cell_at as cell_in, is_mismatched as mismatched, is_value};
+ghost use Rattle.fixed_machine.specs.Machine.{cell_at as cell_in, is_mismatched as mismatched};
 ghost use Rattle.fixed_machine.specs.Step.{IsCell, IsStepOfLine, cell_of, cells_of, state_in};
 ghost use Rattle.fixed_machine.specs.inside.Quick.{quick_number, quick_operands, script_line_of_quick};
 ghost use Rattle.fixed_machine.specs.inside.QuickSteps.{IsSecond};
-ghost use Rattle.fixed_machine.specs.inside.Stepping.{IsAnswerOfLine};
+ghost use Rattle.fixed_machine.specs.inside.Stepping.{IsAnswerOfLine, is_value};
 
 use crate::answer::Answer;
 use crate::projected::answer_as;

@@ -1,8 +1,8 @@
 //! The row of an operation, over one word.
 
-ghost use Rattle.std.specs.Prelude.{◌≡◌, ◌≢◌, ◌≤◌, ℕ, ℤ, pos, true};
+ghost use Rattle.std.specs.Prelude.{◌≡◌, ◌≢◌, ◌≤◌, None, ℕ, ℤ, pos, true};
 ghost use Rattle.fixed_kernel.specs.Rounded.{rounded};
-ghost use Rattle.fixed_machine.specs.Rows.{exact as exact_row, exact_by, exact_rounded};
+ghost use Rattle.fixed_machine.specs.Rows.{exact as exact_row, rounding_of};
 ghost use Rattle.fixed_kernel.specs.Rows.{by_divisor};
 ghost use Rattle.fixed_kernel.specs.RoundedRows.{rounded_div, rounded_recip};
 ghost use Rattle.fixed_script.specs.Text.{takes_rounding as rounds};
@@ -68,7 +68,7 @@ fn outcome_of_one<T: Word>(policy: Policy, op: Op, x: T, frac: u32) -> Option<Ou
     requires offered { is_offered T.SIGNED policy op ≡ true }
     requires frac { frac ≤ T.BITS }
     ensures { (b c : ℤ) (g h : ℕ) → IsOutcomeOfRow T.value T.SIGNED T.BITS
-        (exact_row op (T.value x) b c frac g h) result }
+        (exact_row op (rounding_of op None) (T.value x) b c frac g h) result }
 {
     match op {
         Op::Neg => Some(neg_of(x)),
@@ -107,7 +107,8 @@ fn outcome_of_sum_or_product<T: Word>(
     requires b { b.fraction ≤ T.BITS }
     requires c { c.fraction ≤ T.BITS }
     ensures { IsOutcomeOfRow T.value T.SIGNED T.BITS
-        (exact_row op (T.value a.bits) (T.value b.bits) (T.value c.bits) a.fraction b.fraction c.fraction) result }
+        (exact_row op (rounding_of op None) (T.value a.bits) (T.value b.bits) (T.value c.bits)
+        a.fraction b.fraction c.fraction) result }
 {
     match op {
         Op::Add => Some(add_of(a.bits, b.bits)),
@@ -130,7 +131,7 @@ fn outcome_of_quotient<T: Word>(op: Op, x: T, y: T, frac: u32) -> Option<Outcome
     requires divisor { T.value y ≢ pos 0 }
     requires frac { frac ≤ T.BITS }
     ensures { (c : ℤ) (g h : ℕ) → IsOutcomeOfRow T.value T.SIGNED T.BITS
-        (exact_row op (T.value x) (T.value y) c frac g h) result }
+        (exact_row op (rounding_of op None) (T.value x) (T.value y) c frac g h) result }
 {
     match op {
         Op::Div => Some(div_of(x, y, frac)),
@@ -152,7 +153,7 @@ fn outcome_by_divisor<T: Word>(op: Op, x: T, y: T, frac: u32) -> Option<Outcome<
     requires group { group op ≡ ByDivisor }
     requires frac { frac ≤ T.BITS }
     ensures { (c : ℤ) (g h : ℕ) → IsOutcomeOfRow T.value T.SIGNED T.BITS
-        (exact_row op (T.value x) (T.value y) c frac g h) result }
+        (exact_row op (rounding_of op None) (T.value x) (T.value y) c frac g h) result }
 {
     if y == T::ZERO {
         return None;
@@ -175,7 +176,8 @@ fn outcome_as<T: Word>(
     requires b { b.fraction ≤ T.BITS }
     requires c { c.fraction ≤ T.BITS }
     ensures { IsOutcomeOfRow T.value T.SIGNED T.BITS
-        (exact_row op (T.value a.bits) (T.value b.bits) (T.value c.bits) a.fraction b.fraction c.fraction) result }
+        (exact_row op (rounding_of op None) (T.value a.bits) (T.value b.bits) (T.value c.bits)
+        a.fraction b.fraction c.fraction) result }
 {
     match group_of(op) {
         Group::OfOne => outcome_of_one(policy, op, a.bits, a.fraction),
@@ -221,7 +223,7 @@ fn rounded_reciprocal<T: Word>(a: Operand<T>, rounding: Rounding) -> Option<Outc
 
 /// The outcome of the operation's row with the rounding that is named, where it is defined.
 #[inline(never)]
-#[tactic(auto, unfolding(crate::specs::Rows::exact_rounded))]
+#[tactic(auto, unfolding(crate::specs::Rows::exact))]
 fn rounded_outcome_as<T: Word>(
     rounding: Rounding,
     op: Op,
@@ -234,7 +236,8 @@ fn rounded_outcome_as<T: Word>(
     requires b { b.fraction ≤ T.BITS }
     requires c { c.fraction ≤ T.BITS }
     ensures { IsOutcomeOfRow T.value T.SIGNED T.BITS
-        (exact_rounded rounding op (T.value a.bits) (T.value b.bits) (T.value c.bits) a.fraction b.fraction c.fraction) result }
+        (exact_row op rounding (T.value a.bits) (T.value b.bits) (T.value c.bits)
+        a.fraction b.fraction c.fraction) result }
 {
     match op {
         Op::Mul => Some(mul_round_of(a.bits, b.bits, a.fraction, rounding)),
@@ -265,7 +268,8 @@ pub(crate) fn outcome_by<T: Word>(
     requires b { b.fraction ≤ T.BITS }
     requires c { c.fraction ≤ T.BITS }
     ensures { IsOutcomeOfRow T.value T.SIGNED T.BITS
-        (exact_by rounding op (T.value a.bits) (T.value b.bits) (T.value c.bits) a.fraction b.fraction c.fraction) result }
+        (exact_row op (rounding_of op rounding) (T.value a.bits) (T.value b.bits) (T.value c.bits)
+        a.fraction b.fraction c.fraction) result }
 {
     match rounding {
         Some(rounding) if takes_rounding(op) => rounded_outcome_as(rounding, op, a, b, c),

@@ -6,9 +6,9 @@ ghost use Rattle.fixed_script.specs.Capped.{checked_script_line, literal_value};
 ghost use Rattle.fixed_script.specs.Text.{may_round as rounds};
 ghost use Rattle.fixed_word.specs.Format.{fits};
 ghost use Rattle.fixed_machine.specs.Offered.{is_offered as offered};
-ghost use Rattle.fixed_machine.specs.Machine.{is_value, cell_at as cell_in, destination as destination_of, is_unoffered as unoffered, is_out_of_range as out_of_range, is_mismatched as mismatched, stored, integer};
+ghost use Rattle.fixed_machine.specs.Machine.{cell_at as cell_in, destination as destination_of, is_unoffered as unoffered, is_out_of_range as out_of_range, is_mismatched as mismatched, stored, integer};
 ghost use Rattle.fixed_text.specs.Words.{is_signed as signed};
-ghost use Rattle.fixed_machine.specs.inside.Stepping.{IsAnswerOfLine, IsApplied, HoldsOperands, script_line_of, values_of};
+ghost use Rattle.fixed_machine.specs.inside.Stepping.{IsAnswerOfLine, IsApplied, HoldsOperands, script_line_of, values_of, is_value};
 ghost use Rattle.fixed_machine.specs.Step.{IsCell, IsStepOfLine, cell_of, cells_of, state_in};
 
 use crate::answer::Answer;

@@ -5,7 +5,7 @@ ghost use Rattle.fixed_word.specs.Format.{wrap};
 ghost use Rattle.fixed_word.specs.Policies.{checked};
 ghost use Rattle.fixed_word.specs.Quotient.{euclidean_remainder, floor_quotient, truncated_quotient};
 ghost use Rattle.fixed_kernel.specs.Root.{root_of};
-ghost use Rattle.fixed_kernel.specs.Rows.{by_divisor, by_sign, exact_abs, exact_dist, exact_div, exact_div_euclid, exact_mul, exact_next_multiple_of, exact_next_power_of_two, exact_recip, exact_rem, exact_signum, units};
+ghost use Rattle.fixed_kernel.specs.Rows.{by_divisor, by_sign, exact_abs, exact_div, exact_div_euclid, exact_mul, exact_next_multiple_of, exact_next_power_of_two, exact_recip, exact_rem, exact_signum, units};
 
 use crate::numbers::checked_number;
 use fixed_kernel::{
@@ -74,7 +74,7 @@ pub trait Checked: Number {
     /// The distance of both numbers; None exactly where it does not fit.
     fn checked_dist(self, other: Self) -> Option<Self>
         ensures { option_map Self.number result ≡ checked Self.SIGNED Self.BITS
-            (Some (exact_dist (Self.number self) (Self.number other))) };
+            (Some (exact_abs (Self.number self -ℤ Self.number other))) };
 
     /// The next multiple of `other`, upward where it is above zero and downward where it is below;
     /// None exactly on a zero `other` or where it does not fit.

@@ -5,7 +5,7 @@ ghost use Rattle.fixed_word.specs.Format.{wrap};
 ghost use Rattle.fixed_word.specs.Policies.{wrapping};
 ghost use Rattle.fixed_word.specs.Quotient.{euclidean_remainder, floor_quotient, truncated_quotient};
 ghost use Rattle.fixed_kernel.specs.Root.{root_of};
-ghost use Rattle.fixed_kernel.specs.Rows.{exact_abs, exact_dist, exact_div, exact_div_euclid, exact_mul, exact_next_multiple_of, exact_next_power_of_two, exact_recip, exact_signum, units};
+ghost use Rattle.fixed_kernel.specs.Rows.{exact_abs, exact_div, exact_div_euclid, exact_mul, exact_next_multiple_of, exact_next_power_of_two, exact_recip, exact_signum, units};
 
 use crate::numbers::wrapping_number;
 use fixed_kernel::{
@@ -64,7 +64,7 @@ pub trait Wrapping: Number {
     /// The distance of both numbers, wrapped.
     fn wrapping_dist(self, other: Self) -> Self
         ensures { Some (Self.number result) ≡ wrapping Self.SIGNED Self.BITS
-            (Some (exact_dist (Self.number self) (Self.number other))) };
+            (Some (exact_abs (Self.number self -ℤ Self.number other))) };
 
     /// The next multiple of `other`, upward where it is above zero and downward where it is below,
     /// wrapped; condition that `other` is not zero.

@@ -8,7 +8,8 @@ use Rattle.fixed_script.specs.declared.names.Policy.TheVariants.{Checked, Satura
 use Rattle.fixed_script.specs.declared.names.Op.{Op}
 use Rattle.fixed_script.specs.declared.names.Op.TheVariants.{Neg, Add, Sub, Mul, Div, Recip, MulAdd, AddProd, MulInt, DivInt, DivEuclid, DivEuclidInt, RemEuclidInt, NextMultipleOf, Dist, Sqrt, Abs, Signum, Rem, RemInt, RemEuclid, NextPowerOfTwo}
 use Rattle.fixed_script.specs.Names.{policy_name, op_name}
-use Rattle.fixed_script.specs.Text.{ScriptLine, SetTo, Apply, Operands, OneRegister, TwoRegisters, RegisterAndInt, ThreeRegisters, line_tokens, line_text, operand_tokens, rounding_tokens}
+use Rattle.fixed_script.specs.Text.{ScriptLine, SetTo, Apply, Operands, OneRegister, TwoRegisters, RegisterAndInt, ThreeRegisters, line_tokens, line_text, operand_tokens}
+use Rattle.fixed_script.proofs.RoundingTokens.{rounding_tokens}
 use Rattle.fixed_text.specs.Tokens.{tokens_of}
 use Rattle.fixed_text.proofs.Joined.{no_space, all_no_space, split_joined, natural_no_space, whole_no_space}
 

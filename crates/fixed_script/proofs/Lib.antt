@@ -1,3 +1,4 @@
+pub mod RoundingTokens
 pub mod Readers
 pub mod Fronts
 pub mod Joined

@@ -11,7 +11,8 @@ use Rattle.fixed_text.specs.declared.names.WordName.{WordName}
 use Rattle.fixed_word.specs.Decimal.{natural_text, whole_text}
 use Rattle.fixed_text.specs.Words.{word_name, word_named}
 use Rattle.fixed_script.specs.Names.{policy_name, policy_named, op_name, op_named, rounding_name, rounding_named}
-use Rattle.fixed_script.specs.Text.{ScriptHeader, header_tokens, ScriptLine, SetTo, Apply, Operands, OneRegister, TwoRegisters, RegisterAndInt, ThreeRegisters, register_text, line_tokens, operand_tokens, rounding_tokens}
+use Rattle.fixed_script.specs.Text.{ScriptHeader, header_tokens, ScriptLine, SetTo, Apply, Operands, OneRegister, TwoRegisters, RegisterAndInt, ThreeRegisters, register_text, line_tokens, operand_tokens}
+use Rattle.fixed_script.proofs.RoundingTokens.{rounding_tokens}
 use Rattle.fixed_text.specs.Tokens.{tokens_of}
 use Rattle.fixed_text.specs.Numerals.{is_decimal, has_minus}
 use Rattle.fixed_script.specs.TextLaws.{OneWholeNumber, OneLine, OneHeader}

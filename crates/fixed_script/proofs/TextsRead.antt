@@ -13,7 +13,8 @@ use Rattle.fixed_script.specs.declared.line.Shape.{Shape}
 use Rattle.fixed_script.specs.declared.line.Shape.TheVariants.{Unary, Binary, ByInteger, Ternary}
 use Rattle.fixed_word.specs.Decimal.{natural_text, whole_text}
 use Rattle.fixed_script.specs.Names.{policy_named, op_named, rounding_named, shape}
-use Rattle.fixed_script.specs.Text.{ScriptHeader, header_text, header_tokens, ScriptLine, SetTo, Apply, Operands, OneRegister, TwoRegisters, RegisterAndInt, ThreeRegisters, takes_rounding, may_round, IsLine, line_text, line_tokens, operand_tokens, rounding_tokens, shape_of}
+use Rattle.fixed_script.specs.Text.{ScriptHeader, header_text, header_tokens, ScriptLine, SetTo, Apply, Operands, OneRegister, TwoRegisters, RegisterAndInt, ThreeRegisters, takes_rounding, may_round, IsLine, line_text, line_tokens, operand_tokens, shape_of}
+use Rattle.fixed_script.proofs.RoundingTokens.{rounding_tokens}
 use Rattle.fixed_text.specs.Tokens.{tokens_of}
 use Rattle.fixed_text.proofs.Decimals.{decimal_of_text}
 use Rattle.fixed_script.proofs.Readers.{policy_again, op_again}
@@ -63,14 +64,14 @@ rounding_back : (op : Op) (xs : Operands) (r : Option Rounding) → may_round op
 rounding_back op xs r m = ap (λ (q : Option Rounding). if takes_rounding op then q else None) (last_names xs r) ∙ named_back (takes_rounding op) op r refl m
 
 applied_back : (dest : ℕ) (policy : Policy) (op : Op) (xs : Operands) (r : Option Rounding) → shape op ≡ shape_of xs → may_round op r ≡ true
-    → apply_in dest (Some policy) (Some op) (operand_tokens xs ++ rounding_tokens r) ≡ Some (Apply dest policy op xs r)
+    → apply_in dest policy op (operand_tokens xs ++ rounding_tokens r) ≡ Apply dest policy op xs r
 applied_back dest policy op xs r is m =
-    ap (λ (ys : Operands). Some (Apply dest policy op ys (rounding_in op (operand_tokens xs ++ rounding_tokens r)))) (operands_back op xs r is)
-    ∙ ap (λ (q : Option Rounding). Some (Apply dest policy op xs q)) (rounding_back op xs r m)
+    ap (λ (ys : Operands). Apply dest policy op ys (rounding_in op (operand_tokens xs ++ rounding_tokens r))) (operands_back op xs r is)
+    ∙ ap (λ (q : Option Rounding). Apply dest policy op xs q) (rounding_back op xs r m)
 
 pub line_back : (l : ScriptLine) → IsLine l → line_in (line_tokens l) ≡ Some l
 line_back (SetTo dest k) is = rw (natural_back dest, whole_back k) refl
-line_back (Apply dest policy op xs r) is = rw (not_set policy, policy_again policy, op_again op, natural_back dest) (applied_back dest policy op xs r is.0 is.1)
+line_back (Apply dest policy op xs r) is = rw (not_set policy, policy_again policy, op_again op, natural_back dest) (ap (λ l. Some l) (applied_back dest policy op xs r is.0 is.1))
 
 naturals_back : (ns : List ℕ) → map (digits_value 10) (map natural_text ns) ≡ ns
 naturals_back [] = refl
@@ -94,17 +95,23 @@ may false op r is = refl
 may true op None is = refl
 may true op (Some r) is = is
 
-apply_is : (dest : ℕ) (p : Option Policy) (o : Option Op) (ts : List (List ℕ)) (l : ScriptLine) → apply_in dest p o ts ≡ Some l → IsLine l
-apply_is dest None o ts l e = cc
-apply_is dest (Some p) None ts l e = cc
-apply_is dest (Some p) (Some o) ts l e = subst IsLine (same_Some (Apply dest p o (operands_in (shape o) ts) (rounding_in o ts)) l e) (shaped (shape o) ts, may (takes_rounding o) o (rounding_named (token ts (length ts - 1))) refl)
+apply_is : (dest : ℕ) (p : Policy) (o : Op) (ts : List (List ℕ)) → IsLine (apply_in dest p o ts)
+apply_is dest p o ts = (shaped (shape o) ts, may (takes_rounding o) o (rounding_named (token ts (length ts - 1))) refl)
 
 pub line_is : (ts : List (List ℕ)) (l : ScriptLine) → line_in ts ≡ Some l → IsLine l
 line_is ts l e = by_name (bytes_eq (token ts 1) (codes "set")) e
   where
-    by_name : (b : Bool) → (if b then Some (SetTo (register_in (token ts 0)) (whole_in (token ts 2))) else apply_in (register_in (token ts 0)) (policy_named (token ts 1)) (op_named (token ts 2)) (drop 3 ts)) ≡ Some l → IsLine l
-    by_name true e = subst IsLine (same_Some (SetTo (register_in (token ts 0)) (whole_in (token ts 2))) l e) tt
-    by_name false e = apply_is (register_in (token ts 0)) (policy_named (token ts 1)) (op_named (token ts 2)) (drop 3 ts) l e
+    dest : ℕ
+    dest = register_in (token ts 0)
+    applied : Option Policy → Option Op → Option ScriptLine
+    applied p o = option_and_then (λ policy. option_map (λ op. apply_in dest policy op (drop 3 ts)) o) p
+    by_parts : (p : Option Policy) (o : Option Op) → applied p o ≡ Some l → IsLine l
+    by_parts None o e = cc
+    by_parts (Some p) None e = cc
+    by_parts (Some p) (Some o) e = subst IsLine (same_Some (apply_in dest p o (drop 3 ts)) l e) (apply_is dest p o (drop 3 ts))
+    by_name : (b : Bool) → (if b then Some (SetTo dest (whole_in (token ts 2))) else applied (policy_named (token ts 1)) (op_named (token ts 2))) ≡ Some l → IsLine l
+    by_name true e = subst IsLine (same_Some (SetTo dest (whole_in (token ts 2))) l e) tt
+    by_name false e = by_parts (policy_named (token ts 1)) (op_named (token ts 2)) e
 
 -- ---- what has the text of the piece
 pub its_text : {A : Type 0} (text : A → List ℕ) (piece : List ℕ) (read : Option A) (x : A) → if_its_text text piece read ≡ Some x → (read ≡ Some x) × (text x ≡ piece)

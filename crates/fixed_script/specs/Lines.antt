@@ -36,15 +36,13 @@ operands_in Ternary ts = ThreeRegisters (register_in (token ts 0)) (register_in 
 abbrev pub rounding_in : Op → List (List ℕ) → Option Rounding
 rounding_in op ts = if takes_rounding op then rounding_named (token ts (length ts - 1)) else None
 
-abbrev pub apply_in : ℕ → Option Policy → Option Op → List (List ℕ) → Option ScriptLine
-apply_in dest None op ts = None
-apply_in dest (Some policy) None ts = None
-apply_in dest (Some policy) (Some op) ts = Some (Apply dest policy op (operands_in (shape op) ts) (rounding_in op ts))
+abbrev pub apply_in : ℕ → Policy → Op → List (List ℕ) → ScriptLine
+apply_in dest policy op ts = Apply dest policy op (operands_in (shape op) ts) (rounding_in op ts)
 
 abbrev pub line_in : List (List ℕ) → Option ScriptLine
 line_in ts =
     if bytes_eq (token ts 1) (codes "set") then Some (SetTo (register_in (token ts 0)) (whole_in (token ts 2)))
-    else apply_in (register_in (token ts 0)) (policy_named (token ts 1)) (op_named (token ts 2)) (drop 3 ts)
+    else option_and_then (λ policy. option_map (λ op. apply_in (register_in (token ts 0)) policy op (drop 3 ts)) (op_named (token ts 2))) (policy_named (token ts 1))
 
 abbrev pub header_in : List (List ℕ) → Option ScriptHeader
 header_in ts = option_map (λ w. record { word = w; first = digits_value 10 (token ts 1); others = map (digits_value 10) (drop 2 ts) }) (word_named (token ts 0))
@@ -52,8 +50,7 @@ header_in ts = option_map (λ w. record { word = w; first = digits_value 10 (tok
 -- ---- the line whose text the bytes are
 -- what was read, if its text is these bytes again
 abbrev pub if_its_text : {A : Type 0} → (A → List ℕ) → List ℕ → Option A → Option A
-if_its_text text piece None = None
-if_its_text text piece (Some x) = if bytes_eq (text x) piece then Some x else None
+if_its_text text piece found = option_and_then (λ x. if bytes_eq (text x) piece then Some x else None) found
 
 unfoldable pub line_of : List ℕ → Option ScriptLine
 line_of piece = if_its_text line_text piece (line_in (tokens_of piece))

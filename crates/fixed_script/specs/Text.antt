@@ -1,5 +1,5 @@
 -- What a script can say, with numbers of any size, and the bytes that say it.
-use Rattle.std.specs.Prelude.{◌≡◌, ℕ, ℤ, Bool, true, List, [], ◌∷◌, ◌++◌, map, is_some, Option, Some, None, codes}
+use Rattle.std.specs.Prelude.{◌≡◌, ℕ, ℤ, Bool, true, List, [], ◌∷◌, ◌++◌, map, is_some, Option, Some, None, option_to_list, codes}
 use Rattle.std.specs.List.{join_with_byte}
 use Rattle.fixed_text.specs.declared.names.WordName.{WordName}
 use Rattle.fixed_word.specs.declared.rounding.Rounding.{Rounding}
@@ -58,14 +58,10 @@ operand_tokens (TwoRegisters a b) = register_text a ∷ register_text b ∷ []
 operand_tokens (RegisterAndInt a k) = register_text a ∷ whole_text k ∷ []
 operand_tokens (ThreeRegisters a b c) = register_text a ∷ register_text b ∷ register_text c ∷ []
 
-abbrev pub rounding_tokens : Option Rounding → List (List ℕ)
-rounding_tokens None = []
-rounding_tokens (Some rounding) = rounding_name rounding ∷ []
-
 abbrev pub line_tokens : ScriptLine → List (List ℕ)
 line_tokens (SetTo dest value) = register_text dest ∷ codes "set" ∷ whole_text value ∷ []
 line_tokens (Apply dest policy op operands rounding) =
-    register_text dest ∷ policy_name policy ∷ op_name op ∷ (operand_tokens operands ++ rounding_tokens rounding)
+    register_text dest ∷ policy_name policy ∷ op_name op ∷ (operand_tokens operands ++ map rounding_name (option_to_list rounding))
 
 abbrev pub header_tokens : ScriptHeader → List (List ℕ)
 header_tokens h = word_name h.word ∷ natural_text h.first ∷ map natural_text h.others

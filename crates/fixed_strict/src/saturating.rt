@@ -4,7 +4,7 @@ ghost use Rattle.std.specs.Prelude.{◌≡◌, ◌≤◌, ◌≢◌, ◌≤ℤ�
 ghost use Rattle.fixed_word.specs.Policies.{saturating};
 ghost use Rattle.fixed_word.specs.Quotient.{euclidean_remainder, truncated_quotient};
 ghost use Rattle.fixed_kernel.specs.Root.{root_of};
-ghost use Rattle.fixed_kernel.specs.Rows.{exact_abs, exact_dist, exact_div, exact_div_euclid, exact_mul, exact_next_multiple_of, exact_recip, exact_signum, units};
+ghost use Rattle.fixed_kernel.specs.Rows.{exact_abs, exact_div, exact_div_euclid, exact_mul, exact_next_multiple_of, exact_recip, exact_signum, units};
 
 use crate::numbers::{clamped_number, held_number, saturating_number};
 use fixed_kernel::{
@@ -65,7 +65,7 @@ pub trait Saturating: Number {
     /// The distance of both numbers, held at the ends.
     fn saturating_dist(self, other: Self) -> Self
         ensures { Some (Self.number result) ≡ saturating Self.SIGNED Self.BITS
-            (Some (exact_dist (Self.number self) (Self.number other))) };
+            (Some (exact_abs (Self.number self -ℤ Self.number other))) };
 
     /// The next multiple of `other`, upward where it is above zero and downward where it is below,
     /// held at the ends; condition that `other` is not zero.

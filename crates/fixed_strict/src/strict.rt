@@ -4,7 +4,7 @@ ghost use Rattle.std.specs.Prelude.{◌<◌, ◌%◌, ◌^◌, ◌*ℤ◌, ◌�
 ghost use Rattle.fixed_word.specs.Format.{InRange, wrap};
 ghost use Rattle.fixed_word.specs.Quotient.{euclidean_remainder, floor_quotient, truncated_quotient};
 ghost use Rattle.fixed_kernel.specs.Root.{root_of};
-ghost use Rattle.fixed_kernel.specs.Rows.{exact_abs, exact_dist, exact_div, exact_div_euclid, exact_mul, exact_next_multiple_of, exact_next_power_of_two, exact_recip, exact_rem, exact_signum, units};
+ghost use Rattle.fixed_kernel.specs.Rows.{exact_abs, exact_div, exact_div_euclid, exact_mul, exact_next_multiple_of, exact_next_power_of_two, exact_recip, exact_rem, exact_signum, units};
 
 use fixed_kernel::{
     abs_of, add_of, dist_of, div_euclid_int_of, div_euclid_of, div_int_of, div_of, mixed_add_of,
@@ -87,8 +87,8 @@ pub trait Strict: Number {
     /// The distance of both numbers; condition that the answer fits.
     fn strict_dist(self, other: Self) -> Self
         requires { InRange Self.SIGNED Self.BITS
-            (exact_dist (Self.number self) (Self.number other)) }
-        ensures { Self.number result ≡ exact_dist (Self.number self) (Self.number other) };
+            (exact_abs (Self.number self -ℤ Self.number other)) }
+        ensures { Self.number result ≡ exact_abs (Self.number self -ℤ Self.number other) };
 
     /// The next multiple of `other`, upward where it is above zero and downward where it is below;
     /// condition that `other` is not zero and the answer fits.

@@ -3,9 +3,10 @@ use Rattle.std.specs.Prelude.{◌≡◌, List, true}
 use Rattle.fixed_script.specs.declared.line.Shape.{Shape}
 use Rattle.fixed_script.specs.declared.line.Shape.TheVariants.{ByInteger}
 use Rattle.fixed_text.specs.declared.names.WordName.{WordName}
-use Rattle.fixed_machine.specs.Machine.{Cell, cell_at, integer, is_value}
+use Rattle.fixed_machine.specs.Machine.{Cell, cell_at, integer}
 use Rattle.fixed_machine.specs.declared.quick.QuickLine.{QuickLine}
 use Rattle.fixed_machine.specs.inside.Quick.{quick_number}
+use Rattle.fixed_machine.specs.inside.Stepping.{is_value}
 
 -- the second operand of an operation of that shape: the number of the line, which is a value of the word, or what its register holds
 abbrev pub IsSecond : WordName → List Cell → QuickLine → Shape → Cell → Type 0

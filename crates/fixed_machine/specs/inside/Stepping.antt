@@ -8,13 +8,20 @@ use Rattle.fixed_script.specs.declared.line.Line.{Line}
 use Rattle.fixed_script.specs.declared.line.Line.TheVariants.{Set, One, Two, Int, Three}
 use Rattle.fixed_script.specs.Text.{ScriptLine, SetTo, Apply, OneRegister, TwoRegisters, RegisterAndInt, ThreeRegisters}
 use Rattle.fixed_script.specs.Capped.{literal_value}
+use Rattle.fixed_word.specs.Format.{fits}
 use Rattle.fixed_word.specs.Standing.{StandsFor}
+use Rattle.fixed_text.specs.declared.names.WordName.{WordName}
+use Rattle.fixed_text.specs.Words.{is_signed, width}
 use Rattle.fixed_word.specs.declared.outcome.Outcome.{Outcome}
 use Rattle.fixed_machine.specs.Projection.{project}
 use Rattle.fixed_machine.specs.Machine.{Cell, State, OperandValues, operand_values, row_cause, cause, answer}
 use Rattle.fixed_machine.specs.declared.cause.Cause.{Cause}
 use Rattle.fixed_machine.specs.declared.register.OperandRegisters.{OperandRegisters}
 use Rattle.fixed_machine.specs.Step.{cell_of}
+
+-- x is a number of the word
+abbrev pub is_value : WordName → ℤ → Bool
+is_value word x = fits (is_signed word) (width word) x
 
 abbrev pub values_of : OperandRegisters → OperandValues
 values_of t = record { a = cell_of t.a; b = cell_of t.b; c = cell_of t.c }

@@ -4,10 +4,9 @@ use Rattle.std.proofs.lemmas.Int.{to_z-of_z}
 use mir.Val.{SFits}
 use Rattle.fixed_machine.specs.declared.answer.Answer.TheVariants.{Bits}
 use Rattle.fixed_machine.specs.declared.quick.Applied.{Applied}
-use Rattle.fixed_machine.specs.Machine.{is_value}
 use Rattle.fixed_machine.specs.Step.{cells_of, state_in}
 use Rattle.fixed_machine.specs.inside.Quick.{applied_or_set, quick_number}
-use Rattle.fixed_machine.specs.inside.Stepping.{IsAnswerOfLine}
+use Rattle.fixed_machine.specs.inside.Stepping.{IsAnswerOfLine, is_value}
 use Rattle.fixed_machine.proofs.QuickSteps.{are_there, set_answer_quickly}
 use Rattle.fixed_machine.proofs.quick_step.quick_answer.Goals as goal
 
