@@ -1,12 +1,12 @@
 -- The letters of answers: `none` alone has an `o`, and a verdict that is true alone a `t`.
-use Rattle.std.proofs.Common.{◌≡◌, ◌+◌, ℕ, ℤ, Bool, true, false, eqb, cond, List, [], ◌∷◌, ◌++◌, append_assoc, zero-add, refl, sym, ap, ◌∙◌}
+use Rattle.std.proofs.Common.{◌≡◌, ◌+◌, ℕ, ℤ, Bool, true, false, eqb, cond, if◌then◌else◌, List, [], ◌∷◌, ◌++◌, append_assoc, zero-add, refl, sym, ap, ◌∙◌, codes}
 use Rattle.std.specs.Char.{is_ascii_digit}
 use Rattle.std.specs.List.{count_by, flat_map}
 use Rattle.std.proofs.lemmas.List.Sums.{sum_by-append, sum_by-cons}
 use Rattle.fixed_word.specs.Decimal.{whole_text}
 use Rattle.fixed_machine.specs.declared.answer.Answer.{Answer}
 use Rattle.fixed_machine.specs.declared.answer.Answer.TheVariants.{Absent, Bits, Flagged}
-use Rattle.fixed_machine.specs.Answers.{answer_text, verdict_text}
+use Rattle.fixed_machine.specs.Answers.{answer_text}
 use Rattle.fixed_calc.specs.Demo.{is_absent, has_true_verdict}
 use Rattle.fixed_text.proofs.Lacking.{whole_lacks, count_lacks}
 
@@ -17,6 +17,9 @@ letter c b = cond (eqb b c) 1 0
 after_whole : (c : ℕ) (x : ℤ) (t : List ℕ) → is_ascii_digit c ≡ false → eqb 45 c ≡ false → count_by (λ b. eqb b c) (whole_text x ++ t) ≡ count_by (λ b. eqb b c) t
 after_whole c x t other minus =
     sum_by-append (letter c) (whole_text x) t ∙ ap (λ n. n + count_by (λ b. eqb b c) t) (count_lacks c (whole_text x) (whole_lacks c x other minus)) ∙ zero-add _
+
+abbrev verdict_text : Bool → List ℕ
+verdict_text verdict = if verdict then codes " true" else codes " false"
 
 after_verdict : (c : ℕ) (x : ℤ) (verdict : Bool) → is_ascii_digit c ≡ false → eqb 45 c ≡ false → count_by (λ b. eqb b c) (answer_text (Flagged x verdict)) ≡ count_by (λ b. eqb b c) (verdict_text verdict ++ (10 ∷ []))
 after_verdict c x verdict other minus =

@@ -1,6 +1,7 @@
 -- A line on a wider word: no cause comes, and the answer stays, where its row is undefined or fits.
 use Rattle.std.proofs.Common.{◌≡◌, ◌-◌, ◌≤◌, ℕ, ℤ, Bool, true, false, not, nat_le, ◌||◌, List, [], ◌∷◌, length, Option, Some, None, if◌then◌else◌, refl, sym, ap, ◌∙◌, arith}
 use Rattle.std.specs.List.{list_any}
+use Rattle.std.specs.Option.{option_map_or}
 use Rattle.std.proofs.lemmas.Int.{ints}
 use Rattle.std.proofs.Math.Pow.{pow_mono}
 use Rattle.fixed_word.specs.Format.{InRange, IsWidth, fits}
@@ -10,6 +11,7 @@ use Rattle.fixed_script.specs.declared.names.Policy.TheVariants.{Checked, Satura
 use Rattle.fixed_script.specs.declared.names.Op.{Op}
 use Rattle.fixed_script.specs.declared.names.Op.TheVariants.{Sqrt}
 use Rattle.fixed_machine.specs.declared.answer.Answer.{Answer}
+use Rattle.fixed_machine.specs.declared.answer.Answer.TheVariants.{Absent, Bits, Flagged}
 use Rattle.fixed_machine.specs.declared.cause.Cause.TheVariants.{Overflow}
 use Rattle.fixed_script.specs.Text.{ScriptLine, SetTo, Apply}
 use Rattle.fixed_machine.specs.Offered.{is_offered}
@@ -58,7 +60,11 @@ module _ (s : Bool) (n m : ℕ) (more : n ≤ m) where
 
   -- whichever policy answers a number that fits
   pub same_projection : (policy : Policy) (row : Option ℤ) → IsWidth n → IsWidth m → exceeds s n row ≡ false → project policy s m row ≡ project policy s n row
-  same_projection policy None a b e = refl
+  same_projection Checked None a b e = refl
+  same_projection Saturating None a b e = refl
+  same_projection Wrapping None a b e = refl
+  same_projection Overflowing None a b e = refl
+  same_projection Strict None a b e = refl
   same_projection policy (Some x) a b e =
       let fit = not_false (fits s n x) e in
       by_policy policy (where_it_fits s n x a fit) (where_it_fits s m x b (wider_fits x fit))
