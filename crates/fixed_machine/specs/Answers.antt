@@ -1,5 +1,5 @@
 -- The text of an answer, and how a line of text ends.
-use Rattle.std.specs.Prelude.{ℕ, Bool, if◌then◌else◌, List, [], ◌∷◌, ◌++◌, codes}
+use Rattle.std.specs.Prelude.{ℕ, if◌then◌else◌, List, [], ◌∷◌, ◌++◌, codes}
 use Rattle.fixed_machine.specs.declared.answer.Answer.{Answer}
 use Rattle.fixed_machine.specs.declared.answer.Answer.TheVariants.{Absent, Bits, Flagged}
 use Rattle.fixed_word.specs.Decimal.{whole_text}

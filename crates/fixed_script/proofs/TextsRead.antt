@@ -103,12 +103,15 @@ line_is ts l e = by_name (bytes_eq (token ts 1) (codes "set")) e
   where
     dest : ℕ
     dest = register_in (token ts 0)
+
     applied : Option Policy → Option Op → Option ScriptLine
     applied p o = option_and_then (λ policy. option_map (λ op. apply_in dest policy op (drop 3 ts)) o) p
+
     by_parts : (p : Option Policy) (o : Option Op) → applied p o ≡ Some l → IsLine l
     by_parts None o e = cc
     by_parts (Some p) None e = cc
     by_parts (Some p) (Some o) e = subst IsLine (same_Some (apply_in dest p o (drop 3 ts)) l e) (apply_is dest p o (drop 3 ts))
+
     by_name : (b : Bool) → (if b then Some (SetTo dest (whole_in (token ts 2))) else applied (policy_named (token ts 1)) (op_named (token ts 2))) ≡ Some l → IsLine l
     by_name true e = subst IsLine (same_Some (SetTo dest (whole_in (token ts 2))) l e) tt
     by_name false e = by_parts (policy_named (token ts 1)) (op_named (token ts 2)) e
