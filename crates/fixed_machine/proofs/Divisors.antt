@@ -1,5 +1,6 @@
 -- The rows of operations that have a divisor.
-use Rattle.std.proofs.Common.{◌≡◌, ◌≢◌, ℕ, ℤ, pos, negsuc, zero, suc, Bool, false, Some, None, refl}
+use Rattle.std.proofs.Common.{◌≡◌, ◌≢◌, ℕ, ℤ, pos, negsuc, zero, suc, Bool, true, false, Some, None, ◌↔◌, ◌∙◌, refl, sym}
+use Rattle.std.proofs.lemmas.Bool.{false≢true}
 use Rattle.fixed_word.specs.declared.rounding.Rounding.{Rounding}
 use Rattle.fixed_script.specs.declared.names.Op.{Op}
 use Rattle.fixed_script.specs.declared.names.Op.TheVariants.{Neg, Add, Sub, Mul, Div, Recip, MulAdd, AddProd, MulInt, DivInt, DivEuclid, DivEuclidInt, RemEuclidInt, NextMultipleOf, Dist, Sqrt, Abs, Signum, Rem, RemInt, RemEuclid, NextPowerOfTwo}
@@ -16,6 +17,10 @@ pub divided : {T : Type 0} (value : T → ℤ) (signed : Bool) (n : ℕ) (d x : 
 divided value signed n (pos zero) x outcome some stands = absurd (some refl)
 divided value signed n (pos (suc d)) x outcome some stands = (x, refl, stands)
 divided value signed n (negsuc d) x outcome some stands = (x, refl, stands)
+
+-- a word that is not the word 0 holds no 0
+pub not_zero : (same : Bool) (x zero_word : ℤ) → ((same ≡ true) ↔ (x ≡ zero_word)) → zero_word ≡ pos 0 → same ≡ false → x ≢ pos 0
+not_zero same x zero_word law is other none = false≢true (sym other ∙ law.1 (none ∙ sym is))
 
 -- where it is 0, there is none
 pub no_row : (d x : ℤ) → d ≡ pos 0 → by_divisor d x ≡ None

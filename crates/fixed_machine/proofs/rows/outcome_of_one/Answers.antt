@@ -1,6 +1,6 @@
-use Rattle.std.proofs.Common.{◌≡◌, ◌≢◌, pos, arith, refl, sym, ap, ◌∙◌}
+use Rattle.std.proofs.Common.{◌≡◌, pos, refl, sym, ap, ◌∙◌}
 use Rattle.fixed_machine.specs.Rows.{exact}
-use Rattle.fixed_machine.proofs.Divisors.{divided, no_row}
+use Rattle.fixed_machine.proofs.Divisors.{divided, no_row, not_zero}
 use Rattle.fixed_machine.proofs.rows.outcome_of_one.Goals as goal
 
 pub returns-in-Neg : goal.returns-in-Neg
@@ -27,5 +27,5 @@ pub returns-else-eq : goal.returns-else-eq
 unfolding exact
 returns-else-eq g c = λ y z h k.
     let zero_is : g.T.Valued.value c.ZERO.result ≡ pos 0 = ap g.T.Valued.value c.ZERO.ensures ∙ g.met.T.RawWord.zero_law in
-    let some : g.T.Valued.value c.args.x ≢ pos 0 = λ none. grind (arith, c.eq.ensures, c.if-eq.false, (g.met.T.RawWord.eq_law _ _).1 (none ∙ sym zero_is)) in
+    let some = not_zero _ _ _ (g.met.T.RawWord.eq_law _ _) zero_is (sym c.eq.ensures ∙ c.if-eq.false) in
     rw c.in-Recip.is (divided _ _ _ _ _ _ some c.recip_of.ensures)

@@ -1,5 +1,5 @@
-use Rattle.std.proofs.Common.{◌≡◌, ◌≢◌, pos, arith, sym, ap, ◌∙◌}
-use Rattle.fixed_machine.proofs.Divisors.{divided, no_row}
+use Rattle.std.proofs.Common.{◌≡◌, pos, sym, ap, ◌∙◌}
+use Rattle.fixed_machine.proofs.Divisors.{divided, no_row, not_zero}
 use Rattle.fixed_machine.proofs.rows.rounded_reciprocal.Goals as goal
 
 pub returns-then-eq : goal.returns-then-eq
@@ -9,5 +9,5 @@ returns-then-eq g c =
 pub returns : goal.returns
 returns g c =
     let zero_is : g.T.Valued.value c.ZERO.result ≡ pos 0 = ap g.T.Valued.value c.ZERO.ensures ∙ g.met.T.RawWord.zero_law in
-    let some : g.T.Valued.value c.args.a.bits ≢ pos 0 = λ none. grind (arith, c.eq.ensures, c.if-eq.false, (g.met.T.RawWord.eq_law _ _).1 (none ∙ sym zero_is)) in
+    let some = not_zero _ _ _ (g.met.T.RawWord.eq_law _ _) zero_is (sym c.eq.ensures ∙ c.if-eq.false) in
     divided _ _ _ _ _ _ some c.recip_round_of.ensures
