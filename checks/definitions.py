@@ -296,7 +296,8 @@ def public_places(reading, names):
 
 
 def headline_places(reading):
-    return reading.reached(cited_by(reading, "fixed_calc", lambda item: item.name in ("calc_main", "Source", "Sink")))
+    call = cited_by(reading, "fixed_calc", lambda item: item.name == "calc_main")
+    return reading.reached(call | cited_by(reading, "fixed_stream", lambda item: item.name in ("Source", "Sink")))
 
 
 def private_places(reading):

@@ -12,7 +12,7 @@ import sys
 from pathlib import Path
 
 TOP = Path(__file__).resolve().parent.parent
-CRATES = "word bits root logs kernel num policy strict ops text script machine calc prog poly filter interval c".split()
+CRATES = "word bits root logs kernel num policy strict ops stream text script machine calc prog poly filter interval c".split()
 FORMS = {
     "sizes and layouts of values": r"size_of|align_of|transmute|offset_of",
     "a drop of one's own, and patterns that take self apart": r"impl.* Drop for|let (Self|[A-Z]\w*)\b.*= self\b(?!\.)",

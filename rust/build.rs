@@ -9,7 +9,7 @@ use script::modules::{LIBRARY, write};
 const TESTS: [&str; 4] = ["guide", "tests_kernel", "tests_num", "tests_policy"];
 
 /// The crates of the calculator, and the adapters of its program.
-const PROGRAM: [&str; 5] = ["text", "script", "machine", "calc", "prog"];
+const PROGRAM: [&str; 6] = ["stream", "text", "script", "machine", "calc", "prog"];
 
 /// The crates of the runs over text, for benches and the example.
 const RUNS: [&str; 4] = ["text", "poly", "filter", "interval"];

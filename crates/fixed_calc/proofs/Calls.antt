@@ -1,8 +1,8 @@
 -- How many calls a run makes of a source and a sink in memory.
 use Rattle.std.proofs.Common.{◌≡◌, ◌≤◌, ◌<◌, ◌+◌, ◌-◌, ◌*◌, ◌⊎◌, ◌∙◌, ℕ, zero, suc, List, length, min, Ok, inl, inr, ap, arith, length-drop}
 use Rattle.fixed_calc.specs.Calls.{GaveBytes, ReadsUntil, TookBytes, buffer_size}
-use Rattle.fixed_calc.specs.Memory.{IsCallsFor, MemoryInput, MemoryOutput, MemoryReadGives, MemoryWriteGives}
-use Rattle.fixed_calc.specs.Outside.{last_count}
+use Rattle.fixed_stream.specs.Memory.{IsCallsFor, MemoryInput, MemoryOutput, MemoryReadGives, MemoryWriteGives}
+use Rattle.fixed_stream.specs.Outside.{last_count}
 
 -- so far each call moved `most`, or none is left
 abbrev pub MovedSoFar : ℕ → ℕ → ℕ → ℕ → Type 0

@@ -1,9 +1,9 @@
 -- Which calls a run makes of its source, its sink and its errors, in words of what one read or write may do.
 use Rattle.std.specs.Prelude.{◌≡◌, ℕ, zero, suc, ◌+◌, ◌<◌, ◌≤◌, ◌⊎◌, List, length, drop, Result, Ok, Err}
 use Rattle.fixed_calc.specs.Headline.{limit}
-use Rattle.fixed_calc.specs.declared.outside.Failed.{Failed}
-use Rattle.fixed_calc.specs.declared.outside.Refusal.{Refusal}
-use Rattle.fixed_calc.specs.declared.outside.Refusal.TheVariants.{Failed as RefusedFailed, Memory as RefusedMemory}
+use Rattle.fixed_stream.specs.declared.outside.Failed.{Failed}
+use Rattle.fixed_stream.specs.declared.outside.Refusal.{Refusal}
+use Rattle.fixed_stream.specs.declared.outside.Refusal.TheVariants.{Failed as RefusedFailed, Memory as RefusedMemory}
 use Rattle.fixed_calc.specs.declared.status.Status.{Status}
 use Rattle.fixed_calc.specs.declared.status.Status.TheVariants.{Done, ReadFault, WriteFault, TooLong, Memory}
 

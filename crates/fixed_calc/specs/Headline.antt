@@ -5,7 +5,7 @@ use Rattle.std.specs.Prelude.{codes, ◌≡◌, ℕ, ◌+◌, ◌<◌, ◌≤◌
 use Rattle.std.specs.Io.KnownBytes.{Appends, Keeps}
 use Rattle.fixed_word.specs.Decimal.{natural_text}
 use Rattle.fixed_machine.specs.Meaning.{Meaning, Output, Fault, meaning}
-use Rattle.fixed_calc.specs.Outside.{SourceState, SinkState, RoseOrLast, last_count}
+use Rattle.fixed_stream.specs.Outside.{SourceState, SinkState, RoseOrLast, last_count}
 use Rattle.fixed_machine.specs.declared.cause.Cause.TheVariants.{Syntax, OutOfRange, FractionMismatch, ZeroDivisor, NegativeRoot, Overflow}
 use Rattle.fixed_calc.specs.declared.status.Status.{Status}
 use Rattle.fixed_calc.specs.declared.status.Status.TheVariants.{Done, Script, Usage, ReadFault, WriteFault, TooLong, Memory}

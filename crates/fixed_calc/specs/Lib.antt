@@ -1,5 +1,3 @@
-pub mod Outside
-pub mod Memory
 pub mod Headline
 pub mod Calls
 pub mod PolicyLaws
@@ -9,6 +7,8 @@ pub mod Spelled
 pub mod Demo
 pub mod CommandLine
 pub mod inside
+pub use Rattle.fixed_stream.specs.Outside
+pub use Rattle.fixed_stream.specs.Memory
 pub use Rattle.fixed_machine.specs.Answers
 pub use Rattle.fixed_machine.specs.Rows
 pub use Rattle.fixed_machine.specs.Projection

@@ -8,18 +8,17 @@ ghost use Rattle.fixed_calc.specs.Calls.{ReadsUntil, TookBytes, buffer_size};
 ghost use Rattle.fixed_machine.specs.CapLaw.{CapsAlike};
 ghost use Rattle.fixed_calc.specs.Demo.{demo_answers, demo_text};
 ghost use Rattle.fixed_machine.specs.Meaning.{Output, meaning, run_of, start};
-ghost use Rattle.fixed_calc.specs.Memory.{IsCallsFor, MemoryInput, MemoryOutput};
+ghost use Rattle.fixed_stream.specs.Memory.{IsCallsFor, MemoryInput, MemoryOutput};
 ghost use Rattle.fixed_calc.specs.PolicyLaws.{WhereItFits, WhereItMisses};
-ghost use Rattle.fixed_calc.specs.Outside.{last_count};
+ghost use Rattle.fixed_stream.specs.Outside.{last_count};
 ghost use Rattle.fixed_calc.specs.Spelled.{KeepsMeaning};
 ghost use Rattle.fixed_calc.specs.Widening.{IsWider, rows_fit, script_of, with_word};
 ghost use Rattle.fixed_script.specs.Text.{ScriptHeader};
 ghost use Rattle.fixed_text.specs.declared.names.WordName.{WordName};
 ghost use Rattle.fixed_word.specs.Pieces.{pieces};
 
-use crate::memory::{MemorySink, MemorySource};
-use crate::outside::{Sink, Source};
 pub use fixed_script::laws::{reading_law, text_law};
+use fixed_stream::{MemorySink, MemorySource, Sink, Source};
 
 /// Numbers of `2^64` or more, held as `2^64`, change neither the cause of a line nor its move.
 pub fn cap_law()

@@ -7,18 +7,14 @@
 #![tactic(auto)]
 
 mod command;
-mod copy;
 mod demo;
 mod error_line;
 pub mod laws;
-mod memory;
-mod outside;
 mod reading;
 mod short_text;
 mod spelled;
 mod status;
 mod summary;
-mod sure;
 mod top;
 mod writing;
 
@@ -27,9 +23,9 @@ pub use fixed_machine::{Answer, Answers, Cause, Room, RunFault, run, run_in, ste
 pub use fixed_script::{
     Fractions, Header, Line, Literal, Op, Policy, Rounding, WordName, parse_header, parse_line,
 };
-pub use memory::{MemorySink, MemorySource};
-pub use outside::{Failed, Refusal, Sink, Source};
+pub use fixed_stream::{
+    Failed, MemorySink, MemorySource, Refusal, Sink, Source, SureSink, SureSource,
+};
 pub use spelled::{ExplicitFault, explicit};
 pub use status::Status;
-pub use sure::{SureSink, SureSource};
 pub use top::calc_main;

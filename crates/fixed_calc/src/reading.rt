@@ -4,7 +4,7 @@ ghost use Rattle.std.specs.Prelude.{◌≡◌, IfOk, IsErrOf};
 ghost use Rattle.fixed_calc.specs.Headline.{ReadWhole, WhenTooLong};
 ghost use Rattle.fixed_calc.specs.inside.ReadFaults.{RoseIfFailed, ReadsAs};
 
-use crate::outside::Source;
+use fixed_stream::Source;
 use std::alloc::Global;
 
 /// How many bytes a script has at most.

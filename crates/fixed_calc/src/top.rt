@@ -8,12 +8,12 @@ ghost use Rattle.fixed_calc.specs.CommandLine.{IsDemo, IsNoCommand, most_lines};
 
 use crate::command::{Command, command_of};
 use crate::error_line::error_line_of;
-use crate::outside::{Refusal, Sink, Source};
 use crate::reading::{Stop, read_all};
 use crate::status::Status;
 use crate::summary::demo_summary;
 use crate::writing::write_all;
 use fixed_machine::{RunFault, run};
+use fixed_stream::{Refusal, Sink, Source};
 use std::alloc::Global;
 
 /// Reads, runs and writes.

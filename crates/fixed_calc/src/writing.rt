@@ -3,10 +3,10 @@
 ghost use Rattle.std.specs.Prelude.{MatchResult, ℕ, length};
 ghost use Rattle.std.specs.Io.KnownBytes.{Appends};
 ghost use Rattle.fixed_calc.specs.Calls.{TookBytes, WritesToRefusal};
-ghost use Rattle.fixed_calc.specs.Outside.{CountsAfterWrite};
+ghost use Rattle.fixed_stream.specs.Outside.{CountsAfterWrite};
 ghost use Rattle.fixed_calc.specs.Headline.{AppendsProperPrefix};
 
-use crate::outside::{Refusal, Sink};
+use fixed_stream::{Refusal, Sink};
 
 /// Offers all that is left, until none is left or a write is refused.
 pub(crate) fn write_all<K: Sink>(bytes: &[u8], sink: &mut K) -> Result<(), Refusal>

@@ -2,7 +2,7 @@
 
 ghost use Rattle.std.specs.Prelude.{◌≡◌, ◌≤◌, ◌<◌, [], drop, length, IfErr, IfOk, IsErrOf, IsOk, Some};
 ghost use Rattle.std.specs.Io.KnownBytes.{ReadConsumes, WriteAppends};
-ghost use Rattle.fixed_calc.specs.Outside.{FaultsAfterRead, CountsAfterWrite, next_count};
+ghost use Rattle.fixed_stream.specs.Outside.{FaultsAfterRead, CountsAfterWrite, next_count};
 
 use crate::copy::copy_front;
 use crate::outside::{Failed, Refusal, Sink, Source};

@@ -2,10 +2,10 @@
 -- Their calls are numbered from 1. A call fails exactly where its number is listed.
 use Rattle.std.specs.Prelude.{◌≡◌, ◌==◌, ◌↔◌, ◌+◌, ◌*◌, ◌<◌, ◌≤◌, ◌++◌, ℕ, Bool, List, Result, MatchResult, IsErr, IsErrOf, IsTrue, length, min, take, drop}
 use Rattle.std.specs.List.{list_any}
-use Rattle.fixed_calc.specs.Outside.{next_count}
-use Rattle.fixed_calc.specs.declared.outside.Failed.{Failed}
-use Rattle.fixed_calc.specs.declared.outside.Refusal.{Refusal}
-use Rattle.fixed_calc.specs.declared.outside.Refusal.TheVariants.{Failed as RefusedFailed}
+use Rattle.fixed_stream.specs.Outside.{next_count}
+use Rattle.fixed_stream.specs.declared.outside.Failed.{Failed}
+use Rattle.fixed_stream.specs.declared.outside.Refusal.{Refusal}
+use Rattle.fixed_stream.specs.declared.outside.Refusal.TheVariants.{Failed as RefusedFailed}
 
 -- the bytes left, how many a read gives at most, the numbers of the calls that fail, and how many calls there were and
 -- how many of them failed, each held at its last value

@@ -1,7 +1,7 @@
 -- What contracts see of a source and of a sink, and what a read and a write say of it.
 use Rattle.std.specs.Prelude.{◌≡◌, ℕ, ◌+◌, ◌-◌, ◌^◌, ◌<◌, ◌≤◌, ◌⊎◌, min, List, Option, Result, Ok, Err}
-use Rattle.fixed_calc.specs.declared.outside.Refusal.{Refusal}
-use Rattle.fixed_calc.specs.declared.outside.Refusal.TheVariants.{Failed as RefusedFailed, Memory}
+use Rattle.fixed_stream.specs.declared.outside.Refusal.{Refusal}
+use Rattle.fixed_stream.specs.declared.outside.Refusal.TheVariants.{Failed as RefusedFailed, Memory}
 
 -- the bytes left, where it says which they are, and a count of faults
 pub record SourceState : Type 0 where

@@ -6,8 +6,8 @@
 
 ghost use Rattle.std.specs.Prelude.{◌≡◌, ◌≤◌, ◌<◌, [], length, min, IfOk, IsErr, IsErrOf, IsTrue, ◌↔◌, OnErr, OnOk, Some};
 ghost use Rattle.std.specs.Io.KnownBytes.{ReadConsumes, WriteAppends};
-ghost use Rattle.fixed_calc.specs.Memory.{MemoryReadGives, MemoryWriteGives, is_listed};
-ghost use Rattle.fixed_calc.specs.Outside.{SinkState, SourceState, FaultsAfterRead, CountsAfterWrite, next_count};
+ghost use Rattle.fixed_stream.specs.Memory.{MemoryReadGives, MemoryWriteGives, is_listed};
+ghost use Rattle.fixed_stream.specs.Outside.{SinkState, SourceState, FaultsAfterRead, CountsAfterWrite, next_count};
 
 use crate::copy::copy_front;
 use crate::outside::{Failed, Refusal, Sink, Source};
@@ -27,7 +27,7 @@ pub struct MemorySource {
 
 impl Model for MemorySource {
     ghost use Rattle.std.specs.Prelude.{◌≤◌, drop, length};
-    ghost use Rattle.fixed_calc.specs.Memory.{MemoryInput};
+    ghost use Rattle.fixed_stream.specs.Memory.{MemoryInput};
 
     ghost Value = { MemoryInput };
 
@@ -96,7 +96,7 @@ pub struct MemorySink {
 
 impl Model for MemorySink {
     ghost use Rattle.std.specs.Prelude.{◌≤◌};
-    ghost use Rattle.fixed_calc.specs.Memory.{MemoryOutput};
+    ghost use Rattle.fixed_stream.specs.Memory.{MemoryOutput};
 
     ghost Value = { MemoryOutput };
 

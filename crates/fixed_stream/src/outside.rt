@@ -2,9 +2,9 @@
 
 ghost use Rattle.std.specs.Prelude.{◌≤◌, ◌<◌, length, IfOk, List, ℕ, Result};
 ghost use Rattle.std.specs.Io.KnownBytes.{ReadConsumes, WriteAppends};
-ghost use Rattle.fixed_calc.specs.Outside.{SinkState, SourceState, FaultsAfterRead, CountsAfterWrite};
-ghost use Rattle.fixed_calc.specs.declared.outside.Failed.{Failed};
-ghost use Rattle.fixed_calc.specs.declared.outside.Refusal.{Refusal};
+ghost use Rattle.fixed_stream.specs.Outside.{SinkState, SourceState, FaultsAfterRead, CountsAfterWrite};
+ghost use Rattle.fixed_stream.specs.declared.outside.Failed.{Failed};
+ghost use Rattle.fixed_stream.specs.declared.outside.Refusal.{Refusal};
 
 /// A read that failed. It took nothing.
 #[derive(Clone, Copy, Debug, PartialEq, Eq)]
