@@ -1,5 +1,5 @@
 -- A script without a rounding word has the meaning that it had before.
-use Rattle.std.proofs.Common.{◌≡◌, ◌+◌, ℕ, suc, Bool, true, false, List, [], ◌∷◌, ◌++◌, Option, Some, None, if◌then◌else◌, refl, sym, ap, subst, ◌∙◌, arith, append_assoc}
+use Rattle.std.proofs.Common.{◌≡◌, ◌+◌, ℕ, suc, ℤ, Bool, true, false, List, [], ◌∷◌, ◌++◌, Option, Some, None, if◌then◌else◌, refl, sym, ap, subst, ◌∙◌, arith, append_assoc}
 use Rattle.std.specs.Option.{option_map, option_and_then, option_map_or}
 use Rattle.std.specs.List.{All, join_with_byte}
 use Rattle.std.specs.Str.{bytes_eq}
@@ -9,18 +9,22 @@ use Rattle.std.proofs.lemmas.Option.{same_Some}
 use Rattle.fixed_word.specs.declared.rounding.Rounding.{Rounding}
 use Rattle.fixed_word.specs.Pieces.{pieces, body}
 use Rattle.fixed_text.specs.Tokens.{tokens_of}
+use Rattle.fixed_text.specs.Words.{is_signed, width}
 use Rattle.fixed_script.specs.declared.names.Policy.{Policy}
 use Rattle.fixed_script.specs.declared.names.Op.{Op}
+use Rattle.fixed_script.specs.declared.names.Op.TheVariants.{Neg, Add, Sub, Mul, Div, Recip, MulAdd, AddProd, MulInt, DivInt, DivEuclid, DivEuclidInt, RemEuclidInt, NextMultipleOf, Dist, Sqrt, Abs, Signum, Rem, RemInt, RemEuclid, NextPowerOfTwo}
 use Rattle.fixed_script.specs.Names.{policy_name, op_name, rounding_name}
 use Rattle.fixed_script.specs.Text.{ScriptHeader, ScriptLine, SetTo, Apply, Operands, IsLine, register_text, operand_tokens, line_text}
 use Rattle.fixed_script.specs.Lines.{line_in, if_its_text, line_of, line_of_piece, header_of_piece}
 use Rattle.fixed_script.proofs.Joined.{tokens_of_line}
 use Rattle.fixed_script.proofs.TextsRead.{line_back, line_is, its_text, has_text}
 use Rattle.fixed_machine.specs.Answers.{answer_text}
-use Rattle.fixed_machine.specs.Machine.{State, cause, answer, move}
+use Rattle.fixed_machine.specs.Projection.{project}
+use Rattle.fixed_machine.specs.Rows.{exact}
+use Rattle.fixed_machine.specs.Machine.{State, OperandValues, operand_values, row_of, row_cause, is_unoffered, is_out_of_range, is_mismatched, stored, cause, answer, move}
 use Rattle.fixed_machine.specs.Meaning.{Run, by_cause, step_then, run_lines, run_from, run_pieces, run_of, start, fractions_of, has_wide, stopped, Output, Fault}
-use Rattle.fixed_machine.specs.declared.cause.Cause.TheVariants.{OutOfRange}
-use Rattle.fixed_calc.specs.Before.{names_none, without_rounding, old_line_of, old_line_of_piece, old_step_then, old_run_lines, old_run_from, old_run_pieces, ReadsOldLines, EndsInRounding, MeansAsBefore}
+use Rattle.fixed_machine.specs.declared.cause.Cause.TheVariants.{Syntax, OutOfRange, FractionMismatch}
+use Rattle.fixed_calc.specs.Before.{old_row, names_none, without_rounding, old_line_of, old_line_of_piece, old_step_then, old_run_lines, old_run_from, old_run_pieces, ReadsOldLines, EndsInRounding, MeansAsBefore}
 use Rattle.fixed_calc.proofs.Headed.{body_by}
 
 -- ---- the old reading
@@ -123,12 +127,49 @@ unfolding old_line_of_piece
 piece_free piece l e = old_free piece (body piece) l e
 
 -- ---- and moves as before
+same_row : (op : Op) (t : OperandValues) → row_of op t ≡ old_row op t
+unfolding exact
+same_row Neg t = refl
+same_row Add t = refl
+same_row Sub t = refl
+same_row Mul t = refl
+same_row Div t = refl
+same_row Recip t = refl
+same_row MulAdd t = refl
+same_row AddProd t = refl
+same_row MulInt t = refl
+same_row DivInt t = refl
+same_row DivEuclid t = refl
+same_row DivEuclidInt t = refl
+same_row RemEuclidInt t = refl
+same_row NextMultipleOf t = refl
+same_row Dist t = refl
+same_row Sqrt t = refl
+same_row Abs t = refl
+same_row Signum t = refl
+same_row Rem t = refl
+same_row RemInt t = refl
+same_row RemEuclid t = refl
+same_row NextPowerOfTwo t = refl
+
+-- what follows a line that names no rounding, by its row
+abbrev after_row : State → ℕ → ℕ → Policy → Op → Operands → (State → Run) → Option ℤ → Run
+after_row s k dest policy op xs next row =
+    let line = Apply dest policy op xs None in
+    let given = project policy (is_signed s.word) (width s.word) row in
+    by_cause
+    (if is_unoffered s.word line then Some (Syntax k) else if is_out_of_range s line then Some (OutOfRange k) else if is_mismatched s line then Some (FractionMismatch k) else row_cause (is_signed s.word) (width s.word) policy row op k)
+    s
+    (answer_text given)
+    (next (record { word = s.word; registers = stored s.registers dest given }))
+
 same_step : (s : State) (k : ℕ) (l : ScriptLine) (next before : State → Run) → names_none l ≡ true → ((t : State) → next t ≡ before t) → step_then s k (Some l) next ≡ old_step_then s k (Some l) before
 unfolding answer
 same_step s k (SetTo dest x) next before free same = ap (by_cause (cause s (SetTo dest x) k) s (answer_text (answer s (SetTo dest x)))) (same (move s (SetTo dest x)))
 same_step s k (Apply dest policy op xs None) next before free same =
     let l = Apply dest policy op xs None in
     ap (by_cause (cause s l k) s (answer_text (answer s l))) (same (move s l))
+    ∙ ap (after_row s k dest policy op xs before) (same_row op (operand_values s.registers xs))
 same_step s k (Apply dest policy op xs (Some r)) next before free same = cc
 
 step_alike : (s : State) (k : ℕ) (o : Option ScriptLine) (next before : State → Run) → ((l : ScriptLine) → o ≡ Some l → names_none l ≡ true) → ((t : State) → next t ≡ before t) → step_then s k o next ≡ old_step_then s k o before

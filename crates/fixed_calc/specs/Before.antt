@@ -1,11 +1,15 @@
 -- What a script meant before a line could name its rounding: the same fold, over lines without a rounding, whose rows
--- have none.
-use Rattle.std.specs.Prelude.{◌≡◌, ◌↔◌, ◌+◌, ◌++◌, ℕ, Bool, true, false, List, [], ◌∷◌, Option, Some, None, if◌then◌else◌}
+-- look at none.
+use Rattle.std.specs.Prelude.{◌≡◌, ◌↔◌, ◌+◌, ◌++◌, ℕ, ℤ, Bool, true, false, List, [], ◌∷◌, Option, Some, None, if◌then◌else◌}
 use Rattle.std.specs.Option.{option_map, option_and_then, option_map_or}
 use Rattle.std.specs.List.{All}
 use Rattle.fixed_word.specs.declared.rounding.Rounding.{Rounding}
 use Rattle.fixed_word.specs.Pieces.{pieces, body}
+use Rattle.fixed_word.specs.Quotient.{truncated_quotient}
+use Rattle.fixed_kernel.specs.Rows.{by_divisor, exact_mul, exact_div, exact_recip, exact_mul_add, exact_add_prod}
 use Rattle.fixed_text.specs.Tokens.{tokens_of}
+use Rattle.fixed_script.specs.declared.names.Op.{Op}
+use Rattle.fixed_script.specs.declared.names.Op.TheVariants.{Mul, Div, Recip, MulAdd, AddProd, DivInt}
 use Rattle.fixed_script.specs.Names.{rounding_name}
 use Rattle.fixed_script.specs.Text.{ScriptHeader, ScriptLine, SetTo, Apply, IsLine, line_text}
 use Rattle.fixed_script.specs.Lines.{line_in, if_its_text, header_of_piece}
@@ -15,7 +19,7 @@ use Rattle.fixed_machine.specs.declared.cause.Cause.{Cause}
 use Rattle.fixed_machine.specs.declared.cause.Cause.TheVariants.{Syntax, OutOfRange, FractionMismatch}
 use Rattle.fixed_machine.specs.Answers.{answer_text}
 use Rattle.fixed_machine.specs.Projection.{project}
-use Rattle.fixed_machine.specs.Machine.{State, operand_values, row_of, row_cause, is_unoffered, is_out_of_range, is_mismatched, destination, stored}
+use Rattle.fixed_machine.specs.Machine.{State, OperandValues, operand_values, row_of, row_cause, is_unoffered, is_out_of_range, is_mismatched, destination, stored}
 use Rattle.fixed_text.specs.Words.{is_signed, width}
 use Rattle.fixed_machine.specs.Meaning.{Run, Meaning, stopped, by_cause, start, fractions_of, has_wide, meaning, Output, Fault}
 
@@ -37,9 +41,19 @@ unfoldable pub old_line_of_piece : List ℕ → Option ScriptLine
 old_line_of_piece piece = option_and_then old_line_of (body piece)
 
 -- ---- the machine
+-- the six rows that round now did so in one way each; the other rows have not changed
+abbrev pub old_row : Op → OperandValues → Option ℤ
+old_row Mul t = Some (exact_mul t.a.bits t.b.bits t.a.fraction)
+old_row Div t = by_divisor t.b.bits (exact_div t.a.bits t.b.bits t.a.fraction)
+old_row Recip t = by_divisor t.a.bits (exact_recip t.a.bits t.a.fraction)
+old_row MulAdd t = Some (exact_mul_add t.a.bits t.b.bits t.c.bits t.b.fraction)
+old_row AddProd t = Some (exact_add_prod t.a.bits t.b.bits t.c.bits t.a.fraction t.b.fraction t.c.fraction)
+old_row DivInt t = by_divisor t.b.bits (truncated_quotient t.a.bits t.b.bits)
+old_row op t = row_of op t
+
 abbrev pub old_late_cause : State → ScriptLine → ℕ → Option Cause
 old_late_cause s (SetTo dest x) k = None
-old_late_cause s (Apply dest policy op xs rounding) k = row_cause (is_signed s.word) (width s.word) policy (row_of op (operand_values s.registers xs)) op k
+old_late_cause s (Apply dest policy op xs rounding) k = row_cause (is_signed s.word) (width s.word) policy (old_row op (operand_values s.registers xs)) op k
 
 abbrev pub old_cause : State → ScriptLine → ℕ → Option Cause
 old_cause s line k =
@@ -50,7 +64,7 @@ old_cause s line k =
 
 abbrev pub old_answer : State → ScriptLine → Answer
 old_answer s (SetTo dest k) = Bits k
-old_answer s (Apply dest policy op xs rounding) = project policy (is_signed s.word) (width s.word) (row_of op (operand_values s.registers xs))
+old_answer s (Apply dest policy op xs rounding) = project policy (is_signed s.word) (width s.word) (old_row op (operand_values s.registers xs))
 
 abbrev pub old_move : State → ScriptLine → State
 old_move s line = record { word = s.word; registers = stored s.registers (destination line) (old_answer s line) }
