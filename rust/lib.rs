@@ -39,7 +39,7 @@
 //!
 //! # What is trusted
 //!
-//! The proofs are those of the kit `rattle-kit-13f logic dac8208d650f15bf` and speak of its language. That rustc's
+//! The proofs are those of the kit `rattle-kit-13b logic dac8208d650f15bf` and speak of its language. That rustc's
 //! code does the same stands on rustc itself, on the build script, and on the kit's table of forms that compile in
 //! both languages and act apart: none of them is used here (`docs/DECISIONS.md` says how that was seen). The tests
 //! of the proved crates run here too.

@@ -2,11 +2,14 @@
 
 ghost use Rattle.std.specs.Prelude.{◌≡◌, ◌≤◌, ◌++◌, codes, length};
 ghost use Rattle.fixed_word.specs.Decimal.{natural_text};
-ghost use Rattle.fixed_calc.specs.Headline.{error_line};
+ghost use Rattle.fixed_calc.specs.Calls.{WritesOfLine};
+ghost use Rattle.fixed_calc.specs.Headline.{WritesErrorLine, error_line};
 
 use crate::short_text::ShortText;
 use crate::status::Status;
+use crate::writing::write_all;
 use fixed_machine::Cause;
+use fixed_stream::Sink;
 
 fn cause_text(number: u64, words: &[u8]) -> ShortText
     requires { length words.now ≤ 30 }
@@ -42,7 +45,7 @@ fn cause_line(cause: Cause) -> ShortText
 }
 
 /// The line for a status; none for `Done`.
-pub(crate) fn error_line_of(status: Status) -> ShortText
+fn error_line_of(status: Status) -> ShortText
     ensures { result ≡ error_line status }
 {
     match status {
@@ -54,4 +57,12 @@ pub(crate) fn error_line_of(status: Status) -> ShortText
         Status::TooLong => plain_text(b"too long\n"),
         Status::Memory => plain_text(b"out of memory\n"),
     }
+}
+
+/// Writes the line for a status to the errors, as far as they take it.
+pub(crate) fn write_error_line<E: Sink>(status: Status, errors: &mut E)
+    ensures line { WritesErrorLine (E.state errors.old) (E.state errors.new) status }
+    ensures line_writes { WritesOfLine E.write_gives (error_line status) errors.old errors.new }
+{
+    let _told = write_all(error_line_of(status).as_bytes(), errors);
 }

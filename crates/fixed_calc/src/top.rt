@@ -7,7 +7,7 @@ ghost use Rattle.fixed_calc.specs.Demo.{summary};
 ghost use Rattle.fixed_calc.specs.CommandLine.{IsDemo, IsNoCommand, most_lines};
 
 use crate::command::{Command, command_of};
-use crate::error_line::error_line_of;
+use crate::error_line::write_error_line;
 use crate::reading::{Stop, read_all};
 use crate::status::Status;
 use crate::summary::demo_summary;
@@ -149,6 +149,6 @@ pub fn calc_main<S: Source, K: Sink, E: Sink>(
     ensures line_writes { WritesOfLine E.write_gives (error_line result) errors.old errors.new }
 {
     let status = status_of(alloc, words, source, sink);
-    let _told = write_all(error_line_of(status).as_bytes(), errors);
+    write_error_line(status, errors);
     status
 }

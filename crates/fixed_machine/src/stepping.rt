@@ -1,13 +1,13 @@
 //! One line of a script, over the registers.
 
-ghost use Rattle.std.specs.Prelude.{◌≡◌, ◌≤◌, ◌<◌, ◌^◌, nat_le, length, set, Some, None, true, false, IsTrue, unsigned_abs};
+ghost use Rattle.std.specs.Prelude.{◌≡◌, ◌≤◌, ◌<◌, ◌^◌, nat_le, length, set, Some, None, true, false, IsTrue, unsigned_abs, if◌then◌else◌};
 ghost use Rattle.std.specs.List.{All};
 ghost use Rattle.fixed_script.specs.Capped.{checked_script_line, literal_value};
 ghost use Rattle.fixed_script.specs.Text.{may_round as rounds};
-ghost use Rattle.fixed_word.specs.Format.{fits};
+ghost use Rattle.fixed_word.specs.Format.{highest, lowest, with_sign};
 ghost use Rattle.fixed_machine.specs.Offered.{is_offered as offered};
 ghost use Rattle.fixed_machine.specs.Machine.{cell_at as cell_in, destination as destination_of, is_unoffered as unoffered, is_out_of_range as out_of_range, is_mismatched as mismatched, stored, integer};
-ghost use Rattle.fixed_text.specs.Words.{is_signed as signed};
+ghost use Rattle.fixed_text.specs.Words.{is_signed as signed, width};
 ghost use Rattle.fixed_machine.specs.inside.Stepping.{IsAnswerOfLine, IsApplied, HoldsOperands, script_line_of, values_of, is_value};
 ghost use Rattle.fixed_machine.specs.Step.{IsCell, IsStepOfLine, cell_of, cells_of, state_in};
 
@@ -17,7 +17,7 @@ use crate::projected::answer_in_word;
 use crate::register::{OperandRegisters, Register, with_sign};
 use fixed_script::{Line, Literal, Op, Policy, Shape, shape_of, takes_rounding};
 use fixed_text::WordName;
-use fixed_word::{Rounding, Side, Word, outcome_of};
+use fixed_word::Rounding;
 
 /// Whether the operation may name that rounding.
 fn may_round(op: Op, rounding: Option<Rounding>) -> bool
@@ -92,11 +92,32 @@ fn is_unoffered(word: WordName, line: &Line) -> bool
     }
 }
 
+/// The greatest magnitude of the values of the word that are below 0, or of the others.
 #[inline(always)]
-fn fits_as<T: Word>(literal: Literal) -> bool
-    ensures { result ≡ fits T.SIGNED T.BITS (literal_value literal) }
+fn greatest_magnitude(word: WordName, below_zero: bool) -> u64
+    ensures { with_sign below_zero result
+        ≡ (if below_zero then lowest (signed word) (width word) else highest (signed word) (width word)) }
 {
-    outcome_of::<T>(literal.below_zero, literal.magnitude).side == Side::Fits
+    if below_zero {
+        match word {
+            WordName::I8 => 1 << 7,
+            WordName::I16 => 1 << 15,
+            WordName::I32 => 1 << 31,
+            WordName::I64 => 1 << 63,
+            WordName::U8 | WordName::U16 | WordName::U32 | WordName::U64 => 0,
+        }
+    } else {
+        match word {
+            WordName::I8 => (1 << 7) - 1,
+            WordName::I16 => (1 << 15) - 1,
+            WordName::I32 => (1 << 31) - 1,
+            WordName::I64 => (1 << 63) - 1,
+            WordName::U8 => (1 << 8) - 1,
+            WordName::U16 => (1 << 16) - 1,
+            WordName::U32 => (1 << 32) - 1,
+            WordName::U64 => u64::MAX,
+        }
+    }
 }
 
 /// Whether a literal is a value of the word.
@@ -104,16 +125,7 @@ fn fits_as<T: Word>(literal: Literal) -> bool
 pub(crate) fn is_literal(word: WordName, literal: Literal) -> bool
     ensures { result ≡ is_value word (literal_value literal) }
 {
-    match word {
-        WordName::I8 => fits_as::<i8>(literal),
-        WordName::I16 => fits_as::<i16>(literal),
-        WordName::I32 => fits_as::<i32>(literal),
-        WordName::I64 => fits_as::<i64>(literal),
-        WordName::U8 => fits_as::<u8>(literal),
-        WordName::U16 => fits_as::<u16>(literal),
-        WordName::U32 => fits_as::<u32>(literal),
-        WordName::U64 => fits_as::<u64>(literal),
-    }
+    literal.magnitude <= u128::from(greatest_magnitude(word, literal.below_zero))
 }
 
 /// Whether a register was not declared.
