@@ -61,13 +61,13 @@ row_kept RemInt x y z = refl
 row_kept RemEuclid x y z = refl
 row_kept NextPowerOfTwo x y z = refl
 
-values_kept : (w : WordName) (cells : List Cell) (line : QuickLine) (kind : Shape) (x y z : Cell) → x ≡ cell_at cells line.a → IsSecond w cells line kind y → z ≡ cell_at cells line.c → kept kind x y z ≡ operand_values cells (quick_operands kind line)
+values_kept : (w : WordName) (cells : List Cell) (line : QuickLine) (kind : Shape) (x y z : Cell) → x ≡ cell_at cells line.a → IsSecond (is_signed w) (width w) cells line kind y → z ≡ cell_at cells line.c → kept kind x y z ≡ operand_values cells (quick_operands kind line)
 values_kept w cells line Unary x y z ea eb ec = λ i. record { a = ea i; b = integer (pos 0); c = integer (pos 0) }
 values_kept w cells line Binary x y z ea eb ec = λ i. record { a = ea i; b = eb i; c = integer (pos 0) }
 values_kept w cells line ByInteger x y z ea eb ec = λ i. record { a = ea i; b = eb.0 i; c = integer (pos 0) }
 values_kept w cells line Ternary x y z ea eb ec = λ i. record { a = ea i; b = eb i; c = ec i }
 
-pub second_cell : (w : WordName) (cells : List Cell) (line : QuickLine) (kind : Shape) (y : Cell) → All (IsCell w) cells → IsSecond w cells line kind y → IsCell w y
+pub second_cell : (w : WordName) (cells : List Cell) (line : QuickLine) (kind : Shape) (y : Cell) → All (IsCell w) cells → IsSecond (is_signed w) (width w) cells line kind y → IsCell w y
 second_cell w cells line Unary y all e = subst (IsCell w) (sym e) (cell_is w cells line.b all)
 second_cell w cells line Binary y all e = subst (IsCell w) (sym e) (cell_is w cells line.b all)
 second_cell w cells line ByInteger y all e = subst (IsCell w) (sym e.0) (integer_cell w (quick_number line) e.1)
@@ -87,6 +87,9 @@ in_format s n w x e d h = subst (λ (b : Bool). FitsFormat b n x) (sym e) (subst
 row_in_word : (s : Bool) (n : ℕ) (w : WordName) (policy : Policy) (op : Op) (row : Option ℤ) (k : ℕ) (r : Result Answer Cause) → s ≡ is_signed w → n ≡ width w → IsAnswerOfRow s n policy op row k r → IsAnswerOfRow (is_signed w) (width w) policy op row k r
 row_in_word s n w policy op row k r e d h = subst (λ (m : ℕ). IsAnswerOfRow (is_signed w) m policy op row k r) d (subst (λ (b : Bool). IsAnswerOfRow b n policy op row k r) e h)
 
+pub second_in_word : (s : Bool) (n : ℕ) (w : WordName) (cells : List Cell) (line : QuickLine) (kind : Shape) (y : Cell) → s ≡ is_signed w → n ≡ width w → IsSecond s n cells line kind y → IsSecond (is_signed w) (width w) cells line kind y
+second_in_word s n w cells line kind y e d h = subst (λ (m : ℕ). IsSecond (is_signed w) m cells line kind y) d (subst (λ (b : Bool). IsSecond b n cells line kind y) e h)
+
 -- ---- tests
 -- all registers of a line are there
 pub record AreThere (cells : List Cell) (line : QuickLine) : Type 0 where
@@ -102,7 +105,7 @@ are_there rs line dest a b c =
 there : (n r : ℕ) → r < n → nat_le n r ≡ false
 there n r h = grind (arith, nat_tests)
 
-in_range : (w : WordName) (cells : List Cell) (line : QuickLine) (policy : Policy) (op : Op) (kind : Shape) (y : Cell) → AreThere cells line → IsSecond w cells line kind y → is_out_of_range (state_in w cells) (Apply line.dest policy op (quick_operands kind line) None) ≡ false
+in_range : (w : WordName) (cells : List Cell) (line : QuickLine) (policy : Policy) (op : Op) (kind : Shape) (y : Cell) → AreThere cells line → IsSecond (is_signed w) (width w) cells line kind y → is_out_of_range (state_in w cells) (Apply line.dest policy op (quick_operands kind line) None) ≡ false
 unfolding is_out_of_range
 in_range w cells line policy op Unary y t e = rw (there (length cells) line.dest t.dest, there (length cells) line.a t.a) refl
 in_range w cells line policy op Binary y t e = rw (there (length cells) line.dest t.dest, there (length cells) line.a t.a, there (length cells) line.b t.b) refl
@@ -116,7 +119,7 @@ offered w line policy op h = ap not h
 -- ---- answers
 pub applied_answer : (s : Bool) (n : ℕ) (w : WordName) (cells : List Cell) (line : QuickLine) (policy : Policy) (op : Op) (t : OperandRegisters) (k : ℕ) (a : Answer) → s ≡ is_signed w → n ≡ width w → AreThere cells line
     → is_offered (is_signed w) policy op ≡ true → is_mismatched (state_in w cells) (Apply line.dest policy op (quick_operands (shape op) line) None) ≡ false
-    → cell_of t.a ≡ cell_at cells line.a → IsSecond w cells line (shape op) (cell_of t.b) → cell_of t.c ≡ cell_at cells line.c
+    → cell_of t.a ≡ cell_at cells line.a → IsSecond (is_signed w) (width w) cells line (shape op) (cell_of t.b) → cell_of t.c ≡ cell_at cells line.c
     → IsAnswerOfRow s n policy op (row_by None op (values_of t)) k (Ok a) → IsAnswerOfLine (state_in w cells) (Apply line.dest policy op (quick_operands (shape op) line) None) k (Ok a)
 applied_answer s n w cells line policy op t k a e d all is_offered matched ea eb ec h =
     let xs = quick_operands (shape op) line in

@@ -3,6 +3,7 @@
 
 ghost use Rattle.std.specs.Prelude.{◌≡◌, ◌<◌, ◌≤◌, length, Some, None, Ok, IfSome, true, false};
 ghost use Rattle.std.specs.List.{All};
+ghost use Rattle.fixed_word.specs.Format.{fits};
 ghost use Rattle.fixed_script.specs.Names.{shape};
 ghost use Rattle.fixed_script.specs.Text.{Apply};
 ghost use Rattle.fixed_text.specs.Words.{is_signed as signed, width as width_in};
@@ -10,27 +11,23 @@ ghost use Rattle.fixed_machine.specs.Machine.{cell_at as cell_in, is_mismatched 
 ghost use Rattle.fixed_machine.specs.Step.{IsCell, IsStepOfLine, cell_of, cells_of, state_in};
 ghost use Rattle.fixed_machine.specs.inside.Quick.{quick_number, quick_operands, script_line_of_quick};
 ghost use Rattle.fixed_machine.specs.inside.QuickSteps.{IsSecond};
-ghost use Rattle.fixed_machine.specs.inside.Stepping.{IsAnswerOfLine, is_value};
+ghost use Rattle.fixed_machine.specs.inside.Stepping.{IsAnswerOfLine};
 
 use crate::answer::Answer;
 use crate::projected::answer_as;
 use crate::quick::{Applied, QuickLine};
 use crate::register::{OperandRegisters, Register, with_sign};
-use crate::stepping::{is_literal, is_offered, store};
-use fixed_script::{Literal, Op, Shape, shape_of};
+use crate::stepping::{is_offered, store};
+use fixed_script::{Op, Shape, shape_of};
 use fixed_text::WordName;
-use fixed_word::Word;
+use fixed_word::{Side, Word, outcome_of};
 
 /// Whether the number of the line is a value of the word.
 #[inline(always)]
-fn is_number(word: WordName, line: QuickLine) -> bool
-    ensures { result ≡ is_value word (quick_number line) }
+fn is_number<T: Word>(line: QuickLine) -> bool
+    ensures { result ≡ fits T.SIGNED T.BITS (quick_number line) }
 {
-    let literal = Literal {
-        below_zero: line.below_zero,
-        magnitude: u128::from(line.magnitude),
-    };
-    is_literal(word, literal)
+    outcome_of::<T>(line.below_zero, u128::from(line.magnitude)).side == Side::Fits
 }
 
 /// Whether the operands have the fractions that the operation asks for.
@@ -55,14 +52,14 @@ fn is_matched(word: WordName, registers: &[Register], line: QuickLine, applied: 
 
 /// The second operand: a register, or the number of the line, if it is a value of the word.
 #[inline(always)]
-fn second_of(word: WordName, registers: &[Register], line: QuickLine, op: Op) -> Option<Register>
+fn second_of<T: Word>(registers: &[Register], line: QuickLine, op: Op) -> Option<Register>
     requires b { line.b < length registers.now }
     ensures { IfSome result
-        (λ second. IsSecond word (cells_of registers.now) line (shape op) (cell_of second)) }
+        (λ second. IsSecond T.SIGNED T.BITS (cells_of registers.now) line (shape op) (cell_of second)) }
 {
     match shape_of(op) {
         Shape::ByInteger => {
-            if is_number(word, line) {
+            if is_number::<T>(line) {
                 Some(Register {
                     magnitude: line.magnitude,
                     fraction: 0,
@@ -98,7 +95,7 @@ fn answer_of_applied<T: Word>(
     if !is_offered(word, applied.policy, applied.op) {
         return None;
     }
-    let b = match second_of(word, registers, line, applied.op) {
+    let b = match second_of::<T>(registers, line, applied.op) {
         Some(second) => second,
         None => return None,
     };
@@ -136,7 +133,7 @@ fn quick_answer<T: Word>(
 {
     match line.applied {
         None => {
-            if is_number(word, line) {
+            if is_number::<T>(line) {
                 Some(Answer::Bits(with_sign(line.below_zero, line.magnitude)))
             } else {
                 None

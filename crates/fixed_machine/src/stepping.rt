@@ -93,7 +93,6 @@ fn is_unoffered(word: WordName, line: &Line) -> bool
 }
 
 /// The greatest magnitude of the values of the word that are below 0, or of the others.
-#[inline(always)]
 fn greatest_magnitude(word: WordName, below_zero: bool) -> u64
     ensures { with_sign below_zero result
         ≡ (if below_zero then lowest (signed word) (width word) else highest (signed word) (width word)) }
@@ -121,8 +120,7 @@ fn greatest_magnitude(word: WordName, below_zero: bool) -> u64
 }
 
 /// Whether a literal is a value of the word.
-#[inline(always)]
-pub(crate) fn is_literal(word: WordName, literal: Literal) -> bool
+fn is_literal(word: WordName, literal: Literal) -> bool
     ensures { result ≡ is_value word (literal_value literal) }
 {
     literal.magnitude <= u128::from(greatest_magnitude(word, literal.below_zero))
