@@ -6,7 +6,13 @@ mod script;
 use script::modules::{LIBRARY, write};
 
 /// The tests of the library, and the example that they test.
-const TESTS: [&str; 4] = ["guide", "tests_kernel", "tests_num", "tests_policy"];
+const TESTS: [&str; 5] = [
+    "guide",
+    "tests_kernel",
+    "tests_num",
+    "tests_float",
+    "tests_policy",
+];
 
 /// The crates of the calculator, and the adapters of its program.
 const PROGRAM: [&str; 6] = ["stream", "text", "script", "machine", "calc", "prog"];

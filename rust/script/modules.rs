@@ -5,17 +5,21 @@ use crate::script::erasing::Erasing;
 use std::{env, fs};
 
 /// The crates of the library, lowest first, without the `fixed_` in front.
-pub const LIBRARY: [&str; 12] = [
-    "word", "bits", "root", "logs", "kernel", "num", "policy", "strict", "ops", "poly", "filter",
-    "interval",
+pub const LIBRARY: [&str; 17] = [
+    "word", "bits", "root", "logs", "kernel", "convert", "text", "decimal", "num", "float", "cast",
+    "policy", "strict", "ops", "poly", "filter", "interval",
 ];
 
 /// The files that no crate offers: their public calls are made by the proved code beside them alone.
-const INSIDE: [&str; 3] = ["kernel/whole", "kernel/wide", "logs/exact"];
+const INSIDE: [&str; 10] = [
+    "decimal/halves", "decimal/numeral", "decimal/tens", "kernel/whole", "kernel/wide",
+    "logs/exact", "text/numerals", "text/pieces", "text/tokens", "text/written",
+];
 
 /// The modules that take memory, or serve the runs that do, and so are left out where there is none.
-const LEFT_OUT: [&str; 9] = [
+const LEFT_OUT: [&str; 12] = [
     "arriving", "bank", "channel", "desk", "fault", "header", "line", "op", "running",
+    "text/added", "text/numbers", "text/output",
 ];
 
 /// Writes crates as the modules of one file, each with the line `memory`, which is empty where they take none.
@@ -50,7 +54,9 @@ fn file(krate: &str, name: &str, memory: &str, erasing: &mut Erasing) -> Result<
         let item = item.strip_prefix("pub ").unwrap_or(item);
         let (kind, path) = item.split_once(' ').unwrap_or_default();
         let (module, offered) = path.split_once("::").unwrap_or((path, ""));
-        if memory.is_empty() && LEFT_OUT.contains(&module) {
+        let path = format!("{krate}/{module}");
+        let is_left_out = LEFT_OUT.contains(&module) || LEFT_OUT.contains(&path.as_str());
+        if memory.is_empty() && is_left_out {
             // No link leads to what the module would offer.
             out = out.replace(&format!("[`{offered}`]"), &format!("`{offered}`"));
         } else if kind == "mod" {

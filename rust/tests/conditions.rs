@@ -1,7 +1,9 @@
 //! Each kind of condition stops the call, at each layer that has it.
 
 use zugyelmas::prelude::*;
-use zugyelmas::{bits, filter, interval, kernel, logs, num, ops, policy, poly, root, strict, word};
+use zugyelmas::{
+    bits, filter, float, interval, kernel, logs, num, ops, policy, poly, root, strict, word,
+};
 
 type Byte = FixedI8<4>;
 type Unsigned = FixedU8<4>;
@@ -55,6 +57,13 @@ stops! {
     word_strict_of, "the number fits", word::strict_of(kernel::add_of(127_i8, 1));
     bits_shift_left, "the shift is below the width", bits::BitWord::shift_left(1_u8, 8);
     bits_shift_right, "the shift is below the width", bits::BitWord::shift_right(-1_i64, 64);
+    float_bits, "the bits are no NaN's", f64::of_pattern(0x7ff8_0000_0000_0000);
+    float_width, "the bits are those of a float", f32::of_pattern(1 << 32);
+    float_quotient, "the number has so few bits", f32::quotient(1 << 16, 0);
+    float_divisor, "it is divided by at most 2^64", f64::quotient(1, 65);
+    float_fraction, "the fraction frac is at most the width", float::to_float_of::<i8, f64>(1, 9);
+    float_infinite, "the float is finite", Byte::wrapping_from_float(f64::INFINITY);
+    float_nan, "the float is no NaN", Byte::saturating_from_float(f32::NAN);
     root_fraction, "the fraction frac is at most the width",
         root::root(1_u8, 9, &mut word::Steps::new(word::Silent::new()));
     logs_zero, "the number is not 0", logs::int_log10_part(0_u8, &mut word::Steps::new(word::Silent::new()));
@@ -118,6 +127,7 @@ stops! {
 }
 
 stops_when_debugging! {
+    float_past, "the number fits", Byte::from_float(8.0_f64), byte(-128);
     word_sum, "overflow", word::Integer::plus(i16::MAX, 1), i16::MIN;
     word_up, "the number fits", word::Integer::scaled(i16::MAX, 1), -2;
     word_euclid, "the number fits", word::Integer::euclid_quotient(i16::MIN, -1), i16::MIN;

@@ -7,9 +7,9 @@ use std::path::{Path, PathBuf};
 
 const LIBRARY: &str = include_str!(concat!(env!("OUT_DIR"), "/library.rs"));
 
-const MODULES: [&str; 12] = [
-    "word", "bits", "root", "logs", "kernel", "num", "policy", "strict", "ops", "poly", "filter",
-    "interval",
+const MODULES: [&str; 17] = [
+    "word", "bits", "root", "logs", "kernel", "convert", "text", "decimal", "num", "float", "cast",
+    "policy", "strict", "ops", "poly", "filter", "interval",
 ];
 
 /// How often each line of code stands in a text.
@@ -55,11 +55,14 @@ fn written(line: &str) -> String {
         .fold(line, one)
 }
 
-/// The lines of code of a text, without comments and what has nothing but brackets. A `Clone` by hand is derived.
+/// The lines of code of a text, without comments and what has nothing but brackets. A `Clone` by hand is derived,
+/// and what an error and a formatter have for the prover goes.
 fn lines(text: &str, named: fn(&str) -> String, counted: &mut Lines) {
     for line in text.lines() {
         let code = named(head_of(line.split("//").next().unwrap_or_default()));
         let code = code.replace("derive(Clone, Copy", "derive(Copy");
+        let code = code.replace(", Error)]", ")]");
+        let code = code.replace("fmt<W: fmt::Write>(", "fmt(").replace("Formatter<W>", "Formatter<'_>");
         if code.chars().any(char::is_alphanumeric) {
             *counted.entry(code).or_default() += 1;
         }

@@ -4,3 +4,4 @@ pub mod Ranges
 pub mod Roots
 pub mod Sized
 pub mod Wides
+pub mod Prints

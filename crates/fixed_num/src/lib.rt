@@ -9,7 +9,9 @@
 mod bit_calls;
 mod bit_operators;
 mod counted;
+mod display;
 mod format;
+mod from_decimal;
 mod from_outcome;
 mod integer_operators;
 pub mod laws;
@@ -24,4 +26,5 @@ pub use format::{
     Constants, Fixed, FixedI8, FixedI16, FixedI32, FixedI64, FixedU8, FixedU16, FixedU32, FixedU64,
     Held, Number,
 };
+pub use from_decimal::FromDecimal;
 pub use from_outcome::exact_number;

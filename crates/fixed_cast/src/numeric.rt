@@ -1,0 +1,209 @@
+//! Numbers of any format, and integers as numbers with no bit behind the point.
+
+ghost use Rattle.std.specs.Prelude.{◌≡◌, ℕ, ℤ, pos};
+
+use fixed_convert::Castable;
+use fixed_num::Fixed;
+use fixed_word::RawWord;
+
+/// A number of a format, or an integer: a whole number of units of `2^-FRACTION` (this project's own).
+pub trait Numeric: Copy {
+    /// The word that holds the number.
+    type Word: Castable;
+
+    /// How many bits stand behind the point.
+    const FRACTION: u32;
+
+    ghost FRACTION: { ℕ };
+
+    // the number of units
+    ghost units: { Self → ℤ };
+
+    /// The number of as many units as the word has.
+    fn from_word(word: Self::Word) -> Self
+        ensures { units result ≡ Self.Word.value word };
+
+    /// The word that has the number of units.
+    fn to_word(self) -> Self::Word
+        ensures { Self.Word.value result ≡ units self };
+}
+
+impl<T: Castable, const F: u32> Numeric for Fixed<T, F> {
+    type Word = T;
+
+    const FRACTION: u32 = F;
+
+    ghost FRACTION = { F };
+
+    ghost units = { λ x. T.value x.bits };
+
+    #[inline]
+    fn from_word(word: T) -> Self {
+        Fixed { bits: word }
+    }
+
+    #[inline]
+    fn to_word(self) -> T {
+        self.bits
+    }
+}
+
+impl Numeric for u8 {
+    type Word = u8;
+
+    const FRACTION: u32 = 0;
+
+    ghost FRACTION = { 0 };
+
+    ghost units = { λ x. pos x };
+
+    #[inline]
+    fn from_word(word: u8) -> u8 {
+        word
+    }
+
+    #[inline]
+    fn to_word(self) -> u8 {
+        self
+    }
+}
+
+impl Numeric for u16 {
+    type Word = u16;
+
+    const FRACTION: u32 = 0;
+
+    ghost FRACTION = { 0 };
+
+    ghost units = { λ x. pos x };
+
+    #[inline]
+    fn from_word(word: u16) -> u16 {
+        word
+    }
+
+    #[inline]
+    fn to_word(self) -> u16 {
+        self
+    }
+}
+
+impl Numeric for u32 {
+    type Word = u32;
+
+    const FRACTION: u32 = 0;
+
+    ghost FRACTION = { 0 };
+
+    ghost units = { λ x. pos x };
+
+    #[inline]
+    fn from_word(word: u32) -> u32 {
+        word
+    }
+
+    #[inline]
+    fn to_word(self) -> u32 {
+        self
+    }
+}
+
+impl Numeric for u64 {
+    type Word = u64;
+
+    const FRACTION: u32 = 0;
+
+    ghost FRACTION = { 0 };
+
+    ghost units = { λ x. pos x };
+
+    #[inline]
+    fn from_word(word: u64) -> u64 {
+        word
+    }
+
+    #[inline]
+    fn to_word(self) -> u64 {
+        self
+    }
+}
+
+impl Numeric for i8 {
+    type Word = i8;
+
+    const FRACTION: u32 = 0;
+
+    ghost FRACTION = { 0 };
+
+    ghost units = { λ x. x };
+
+    #[inline]
+    fn from_word(word: i8) -> i8 {
+        word
+    }
+
+    #[inline]
+    fn to_word(self) -> i8 {
+        self
+    }
+}
+
+impl Numeric for i16 {
+    type Word = i16;
+
+    const FRACTION: u32 = 0;
+
+    ghost FRACTION = { 0 };
+
+    ghost units = { λ x. x };
+
+    #[inline]
+    fn from_word(word: i16) -> i16 {
+        word
+    }
+
+    #[inline]
+    fn to_word(self) -> i16 {
+        self
+    }
+}
+
+impl Numeric for i32 {
+    type Word = i32;
+
+    const FRACTION: u32 = 0;
+
+    ghost FRACTION = { 0 };
+
+    ghost units = { λ x. x };
+
+    #[inline]
+    fn from_word(word: i32) -> i32 {
+        word
+    }
+
+    #[inline]
+    fn to_word(self) -> i32 {
+        self
+    }
+}
+
+impl Numeric for i64 {
+    type Word = i64;
+
+    const FRACTION: u32 = 0;
+
+    ghost FRACTION = { 0 };
+
+    ghost units = { λ x. x };
+
+    #[inline]
+    fn from_word(word: i64) -> i64 {
+        word
+    }
+
+    #[inline]
+    fn to_word(self) -> i64 {
+        self
+    }
+}

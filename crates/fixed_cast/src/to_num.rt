@@ -1,0 +1,132 @@
+//! The same conversions, called on what they take.
+
+ghost use Rattle.std.specs.Prelude.{◌≡◌, Some, IsSome, option_map};
+ghost use Rattle.fixed_word.specs.Policies.{checked, overflowing, saturating, wrapping};
+
+use crate::numeric::Numeric;
+use crate::policies::{
+    checked_num, exact_num, overflowing_num, saturating_num, strict_num, wrapping_num,
+};
+use crate::source::Source;
+use fixed_word::Rounding;
+
+/// Conversions of a number to one of another format or to an integer, by each policy.
+pub trait ToNum: Source {
+    /// The number; condition that there is one and that it fits.
+    fn to_num<N: Numeric>(self) -> N
+        requires { IsSome (checked N.Word.SIGNED N.Word.BITS (Self.exact self N.FRACTION Self.DEFAULT)) }
+        ensures { Some (N.units result) ≡ Self.exact self N.FRACTION Self.DEFAULT };
+
+    /// The number; None exactly where there is none or it does not fit.
+    fn checked_to_num<N: Numeric>(self) -> Option<N>
+        ensures { option_map N.units result
+            ≡ checked N.Word.SIGNED N.Word.BITS (Self.exact self N.FRACTION Self.DEFAULT) };
+
+    /// The wrapped number, and whether the number does not fit; condition that there is one.
+    fn overflowing_to_num<N: Numeric>(self) -> (N, bool)
+        requires { IsSome (Self.exact self N.FRACTION Self.DEFAULT) }
+        ensures { Some (N.units result.0, result.1)
+            ≡ overflowing N.Word.SIGNED N.Word.BITS (Self.exact self N.FRACTION Self.DEFAULT) };
+
+    /// The number without what lies past the width; condition that there is one.
+    fn wrapping_to_num<N: Numeric>(self) -> N
+        requires { IsSome (Self.exact self N.FRACTION Self.DEFAULT) }
+        ensures { Some (N.units result)
+            ≡ wrapping N.Word.SIGNED N.Word.BITS (Self.exact self N.FRACTION Self.DEFAULT) };
+
+    /// The number, held at the ends; condition that there is one.
+    fn saturating_to_num<N: Numeric>(self) -> N
+        requires { IsSome (Self.exact self N.FRACTION Self.DEFAULT) }
+        ensures { Some (N.units result)
+            ≡ saturating N.Word.SIGNED N.Word.BITS (Self.exact self N.FRACTION Self.DEFAULT) };
+
+    /// The number; condition that there is one and that it fits.
+    fn strict_to_num<N: Numeric>(self) -> N
+        requires { IsSome (checked N.Word.SIGNED N.Word.BITS (Self.exact self N.FRACTION Self.DEFAULT)) }
+        ensures { Some (N.units result) ≡ Self.exact self N.FRACTION Self.DEFAULT };
+
+    /// The number; condition that there is one and that it fits.
+    fn unwrapped_to_num<N: Numeric>(self) -> N
+        requires { IsSome (checked N.Word.SIGNED N.Word.BITS (Self.exact self N.FRACTION Self.DEFAULT)) }
+        ensures { Some (N.units result) ≡ Self.exact self N.FRACTION Self.DEFAULT };
+
+    /// The same, rounded as named.
+    fn checked_to_num_round<N: Numeric>(self, rounding: Rounding) -> Option<N>
+        ensures { option_map N.units result
+            ≡ checked N.Word.SIGNED N.Word.BITS (Self.exact self N.FRACTION rounding) };
+
+    /// The same, rounded as named.
+    fn overflowing_to_num_round<N: Numeric>(self, rounding: Rounding) -> (N, bool)
+        requires { IsSome (Self.exact self N.FRACTION rounding) }
+        ensures { Some (N.units result.0, result.1)
+            ≡ overflowing N.Word.SIGNED N.Word.BITS (Self.exact self N.FRACTION rounding) };
+
+    /// The same, rounded as named.
+    fn wrapping_to_num_round<N: Numeric>(self, rounding: Rounding) -> N
+        requires { IsSome (Self.exact self N.FRACTION rounding) }
+        ensures { Some (N.units result)
+            ≡ wrapping N.Word.SIGNED N.Word.BITS (Self.exact self N.FRACTION rounding) };
+
+    /// The same, rounded as named.
+    fn saturating_to_num_round<N: Numeric>(self, rounding: Rounding) -> N
+        requires { IsSome (Self.exact self N.FRACTION rounding) }
+        ensures { Some (N.units result)
+            ≡ saturating N.Word.SIGNED N.Word.BITS (Self.exact self N.FRACTION rounding) };
+}
+
+impl<S: Source> ToNum for S {
+    #[inline]
+    fn to_num<N: Numeric>(self) -> N {
+        exact_num(self.outcome(N::FRACTION, Self::DEFAULT))
+    }
+
+    #[inline]
+    fn checked_to_num<N: Numeric>(self) -> Option<N> {
+        checked_num(self.outcome(N::FRACTION, Self::DEFAULT))
+    }
+
+    #[inline]
+    fn overflowing_to_num<N: Numeric>(self) -> (N, bool) {
+        overflowing_num(self.outcome(N::FRACTION, Self::DEFAULT))
+    }
+
+    #[inline]
+    fn wrapping_to_num<N: Numeric>(self) -> N {
+        wrapping_num(self.outcome(N::FRACTION, Self::DEFAULT))
+    }
+
+    #[inline]
+    fn saturating_to_num<N: Numeric>(self) -> N {
+        saturating_num(self.outcome(N::FRACTION, Self::DEFAULT))
+    }
+
+    #[inline]
+    fn strict_to_num<N: Numeric>(self) -> N {
+        strict_num(self.outcome(N::FRACTION, Self::DEFAULT))
+    }
+
+    #[inline]
+    fn unwrapped_to_num<N: Numeric>(self) -> N {
+        strict_num(self.outcome(N::FRACTION, Self::DEFAULT))
+    }
+
+    #[inline]
+    fn checked_to_num_round<N: Numeric>(self, rounding: Rounding) -> Option<N> {
+        checked_num(self.outcome(N::FRACTION, rounding))
+    }
+
+    #[inline]
+    fn overflowing_to_num_round<N: Numeric>(self, rounding: Rounding) -> (N, bool) {
+        overflowing_num(self.outcome(N::FRACTION, rounding))
+    }
+
+    #[inline]
+    fn wrapping_to_num_round<N: Numeric>(self, rounding: Rounding) -> N {
+        wrapping_num(self.outcome(N::FRACTION, rounding))
+    }
+
+    #[inline]
+    fn saturating_to_num_round<N: Numeric>(self, rounding: Rounding) -> N {
+        saturating_num(self.outcome(N::FRACTION, rounding))
+    }
+}

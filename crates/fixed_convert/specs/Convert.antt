@@ -1,0 +1,19 @@
+-- The number a / 2 ^ f, in units of 2 ^ -g and beside the number b / 2 ^ g.
+use Rattle.std.specs.Prelude.{◌^◌, ◌*ℤ◌, ℕ, ℤ, pos}
+use Rattle.std.specs.Ordering.{int_cmp}
+use Rattle.std.specs.declared.cmp.Ordering.{Ordering}
+use Rattle.fixed_word.specs.Quotient.{floor_quotient}
+use Rattle.fixed_word.specs.declared.rounding.Rounding.{Rounding}
+use Rattle.fixed_kernel.specs.Rounded.{rounded}
+
+-- rounded down
+abbrev pub exact_convert : ℤ → ℕ → ℕ → ℤ
+exact_convert a f g = floor_quotient (a *ℤ pos (2 ^ g)) (2 ^ f)
+
+-- with that rounding
+abbrev pub rounded_convert : ℤ → ℕ → ℕ → Rounding → ℤ
+rounded_convert a f g r = rounded (a *ℤ pos (2 ^ g)) (pos (2 ^ f)) r
+
+-- both are brought to units of 2 ^ -(f + g)
+abbrev pub exact_order : ℤ → ℕ → ℤ → ℕ → Ordering
+exact_order a f b g = int_cmp (a *ℤ pos (2 ^ g)) (b *ℤ pos (2 ^ f))

@@ -1,0 +1,114 @@
+//! Words and the integer of 128 bits in which words of each sign and width meet.
+
+ghost use Rattle.std.specs.Prelude.{◌≡◌};
+ghost use Rattle.fixed_word.specs.Format.{InRange, wrap};
+
+use fixed_word::{RawWord, Valued, Word};
+
+/// A word that goes into an integer of 128 bits and comes back.
+pub trait Castable: Word {
+    /// The same value.
+    fn to_wide(self) -> i128
+        ensures value { result ≡ Self.value self }
+        ensures in_range { InRange Self.SIGNED Self.BITS (Self.value self) };
+
+    /// The word whose value differs by a multiple of `2^n`.
+    fn from_wide(number: i128) -> Self
+        ensures { Self.value result ≡ wrap Self.SIGNED Self.BITS number };
+}
+
+impl Castable for u8 {
+    #[inline]
+    fn to_wide(self) -> i128 {
+        i128::from(self)
+    }
+
+    #[inline]
+    fn from_wide(number: i128) -> u8 {
+        (number.cast_unsigned() % (1 << 8)) as u8
+    }
+}
+
+impl Castable for u16 {
+    #[inline]
+    fn to_wide(self) -> i128 {
+        i128::from(self)
+    }
+
+    #[inline]
+    fn from_wide(number: i128) -> u16 {
+        (number.cast_unsigned() % (1 << 16)) as u16
+    }
+}
+
+impl Castable for u32 {
+    #[inline]
+    fn to_wide(self) -> i128 {
+        i128::from(self)
+    }
+
+    #[inline]
+    fn from_wide(number: i128) -> u32 {
+        (number.cast_unsigned() % (1 << 32)) as u32
+    }
+}
+
+impl Castable for u64 {
+    #[inline]
+    fn to_wide(self) -> i128 {
+        i128::from(self)
+    }
+
+    #[inline]
+    fn from_wide(number: i128) -> u64 {
+        (number.cast_unsigned() % (1 << 64)) as u64
+    }
+}
+
+impl Castable for i8 {
+    #[inline]
+    fn to_wide(self) -> i128 {
+        i128::from(self)
+    }
+
+    #[inline]
+    fn from_wide(number: i128) -> i8 {
+        u8::from_wide(number).cast_signed()
+    }
+}
+
+impl Castable for i16 {
+    #[inline]
+    fn to_wide(self) -> i128 {
+        i128::from(self)
+    }
+
+    #[inline]
+    fn from_wide(number: i128) -> i16 {
+        u16::from_wide(number).cast_signed()
+    }
+}
+
+impl Castable for i32 {
+    #[inline]
+    fn to_wide(self) -> i128 {
+        i128::from(self)
+    }
+
+    #[inline]
+    fn from_wide(number: i128) -> i32 {
+        u32::from_wide(number).cast_signed()
+    }
+}
+
+impl Castable for i64 {
+    #[inline]
+    fn to_wide(self) -> i128 {
+        i128::from(self)
+    }
+
+    #[inline]
+    fn from_wide(number: i128) -> i64 {
+        u64::from_wide(number).cast_signed()
+    }
+}

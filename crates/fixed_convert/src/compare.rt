@@ -1,0 +1,39 @@
+//! Comparisons of numbers of two formats.
+
+ghost use Rattle.std.specs.Prelude.{◌≡◌, ℤ};
+ghost use Rattle.std.specs.Ordering.{int_cmp};
+ghost use Rattle.fixed_word.specs.Standing.{StandsFor};
+ghost use Rattle.fixed_convert.specs.Convert.{exact_order};
+
+use crate::castable::Castable;
+use crate::moved::raised;
+use fixed_word::{Outcome, RawWord, Side};
+use std::cmp::Ordering;
+
+/// How `a / 2^a_frac` stands to `b / 2^b_frac`. The number of the greater unit is brought to the format of the other,
+/// where it need not fit.
+#[inline(always)]
+pub fn compare_of<A: Castable, B: Castable>(a: A, a_frac: u32, b: B, b_frac: u32) -> Ordering
+    ensures { result ≡ exact_order (A.value a) a_frac (B.value b) b_frac }
+{
+    if b_frac <= a_frac {
+        beside(a, raised(b, a_frac - b_frac))
+    } else {
+        beside(b, raised(a, b_frac - a_frac)).reverse()
+    }
+}
+
+/// How a word stands to the number of an outcome.
+#[inline(always)]
+fn beside<T: Castable>(word: T, outcome: Outcome<T>) -> Ordering
+    ensures { (x : ℤ) → StandsFor T.value T.SIGNED T.BITS x outcome
+        → result ≡ int_cmp (T.value word) x }
+{
+    // That it is in range bounds the word.
+    let _sign = word.is_below_zero();
+    match outcome.side {
+        Side::Above => Ordering::Less,
+        Side::Below => Ordering::Greater,
+        Side::Fits => word.cmp(&outcome.wrapped),
+    }
+}

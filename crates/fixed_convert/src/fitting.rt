@@ -1,0 +1,63 @@
+//! The outcome of a number that an integer of 128 bits holds.
+//!
+//! Both functions answer the same. In loops the first is faster for numbers that were moved up, where its ends become
+//! ends of what was moved; the second can become one instruction for those that were moved down.
+
+ghost use Rattle.std.specs.Prelude.{◌≡◌};
+ghost use Rattle.fixed_word.specs.Format.{wrap};
+ghost use Rattle.fixed_word.specs.Standing.{StandsFor, side_of};
+
+use crate::castable::Castable;
+use fixed_word::{Outcome, RawWord, Side};
+
+/// The outcome, by the ends of the range.
+#[inline(always)]
+pub(crate) fn fitted_by_ends<T: Castable>(number: i128) -> Outcome<T>
+    ensures { StandsFor T.value T.SIGNED T.BITS number result }
+{
+    Outcome {
+        wrapped: T::from_wide(number),
+        side: side_by_ends::<T>(number),
+    }
+}
+
+/// Where the number lies, by the ends of the range.
+#[inline(always)]
+fn side_by_ends<T: Castable>(number: i128) -> Side
+    ensures { result ≡ side_of T.SIGNED T.BITS number }
+{
+    if T::MAX.to_wide() < number {
+        Side::Above
+    } else if number < T::MIN.to_wide() {
+        Side::Below
+    } else {
+        Side::Fits
+    }
+}
+
+/// The outcome, by what the word keeps of the number.
+#[inline(always)]
+pub(crate) fn fitted_by_bits<T: Castable>(number: i128) -> Outcome<T>
+    ensures { StandsFor T.value T.SIGNED T.BITS number result }
+{
+    let wrapped = T::from_wide(number);
+    Outcome {
+        wrapped,
+        side: side_by_bits(number, wrapped),
+    }
+}
+
+/// Where the number lies, by what the word keeps of it.
+#[inline(always)]
+fn side_by_bits<T: Castable>(number: i128, wrapped: T) -> Side
+    requires { T.value wrapped ≡ wrap T.SIGNED T.BITS number }
+    ensures { result ≡ side_of T.SIGNED T.BITS number }
+{
+    if wrapped.to_wide() == number {
+        Side::Fits
+    } else if number < 0 {
+        Side::Below
+    } else {
+        Side::Above
+    }
+}

@@ -1,0 +1,16 @@
+pub mod Powers
+pub mod Runs
+pub mod Halved
+pub mod Heldness
+pub mod Parts
+pub mod Points
+pub mod Shown
+pub mod Backs
+pub mod Decided
+pub mod PlacesPut
+pub mod Enough
+pub mod Trips
+pub mod Exact
+pub mod Texts
+pub mod Readings
+pub mod Shorts

@@ -1,0 +1,18 @@
+use Rattle.std.proofs.Common.{◌≡◌, ◌+◌, ◌-◌, ◌^◌, ◌<◌, ◌≤◌, length, drop, take}
+use Rattle.std.specs.Char.{is_ascii_digit}
+use Rattle.std.specs.List.{prefix_len}
+use Rattle.std.specs.Str.Parse.{digits_value_after}
+use Rattle.fixed_decimal.proofs.numeral.run_from.Given as goal
+
+abbrev pub invariant-loop-at : goal.invariant-loop-at
+invariant-loop-at l =
+    record {
+      after : l.from ≤ l.at;
+      within : l.at ≤ length l.bytes;
+      so_far : l.at + prefix_len is_ascii_digit (drop l.at l.bytes) ≡ l.from + prefix_len is_ascii_digit (drop l.from l.bytes);
+      small : l.value < 10 ^ l.at;
+      value : l.value ≡ digits_value_after 10 l.before (take (l.at - l.from) (drop l.from l.bytes));
+    }
+
+abbrev pub decreases-loop-at : goal.decreases-loop-at
+decreases-loop-at l = length l.bytes - l.at

@@ -1,0 +1,40 @@
+-- The texts that are decimals, and the number of units that each stands for.
+use Rattle.std.specs.Prelude.{ℕ, ℤ, pos, ◌==◌, ◌^◌, ◌*ℤ◌, ◌++◌, Bool, not, List, [], ◌∷◌, length, Option, Some, None, Result, Ok, Err, if◌then◌else◌, find}
+use Rattle.std.specs.Option.{option_map}
+use Rattle.std.specs.Char.{is_ascii_digit}
+use Rattle.std.specs.List.{after_first, before_first}
+use Rattle.std.specs.Str.Parse.{digits_value, starts_with_minus, without_leading_sign}
+use Rattle.fixed_word.specs.Format.{with_sign}
+use Rattle.fixed_word.specs.declared.rounding.Rounding.{Rounding}
+use Rattle.fixed_kernel.specs.Rounded.{rounded}
+use Rattle.fixed_decimal.specs.declared.error.DecimalError.{DecimalError}
+use Rattle.fixed_decimal.specs.declared.error.DecimalError.TheVariants.{NoDigits, InvalidDigit, TooManyPoints}
+
+abbrev pub is_point : ℕ → Bool
+is_point b = b == 46
+
+-- behind the sign: all bytes but the first point, and those behind it
+abbrev pub digits_in : List ℕ → List ℕ
+digits_in bytes = before_first is_point bytes ++ after_first is_point bytes
+
+abbrev pub places_in : List ℕ → ℕ
+places_in bytes = length (after_first is_point bytes)
+
+-- why the bytes are not digits alone, at least one: the first that is no digit, or that there is none
+abbrev pub fault_at : ℕ → DecimalError
+fault_at b = if is_point b then TooManyPoints else InvalidDigit
+
+abbrev pub fault_of : List ℕ → Option DecimalError
+fault_of [] = Some NoDigits
+fault_of (b ∷ bs) = option_map fault_at (find (λ c. not (is_ascii_digit c)) (b ∷ bs))
+
+abbrev pub unless : {A E : Type 0} → Option E → A → Result A E
+unless None x = Ok x
+unless (Some e) x = Err e
+
+-- a text's number in units of 2 ^ -f, rounded: its digits over a power of ten, times 2 ^ f
+abbrev pub decimal_row : List ℕ → ℕ → Rounding → Result ℤ DecimalError
+decimal_row text f r =
+    let bytes = without_leading_sign text in
+    let number = with_sign (starts_with_minus text) (digits_value 10 (digits_in bytes)) in
+    unless (fault_of (digits_in bytes)) (rounded (number *ℤ pos (2 ^ f)) (pos (10 ^ places_in bytes)) r)

@@ -1,0 +1,4 @@
+pub mod Decimal
+pub mod Rows
+pub mod Text
+pub mod inside

@@ -1,0 +1,31 @@
+-- What each policy makes of the row of a text: of a number without a bound, or of an error.
+use Rattle.std.specs.Prelude.{◌≡◌, ℕ, ℤ, Bool, not, Result, Ok, Err, if◌then◌else◌}
+use Rattle.fixed_word.specs.Format.{clamp, fits, wrap}
+use Rattle.fixed_word.specs.Standing.{StandsFor}
+use Rattle.fixed_word.specs.declared.outcome.Outcome.{Outcome}
+use Rattle.fixed_decimal.specs.declared.error.DecimalError.{DecimalError}
+use Rattle.fixed_decimal.specs.declared.error.DecimalError.TheVariants.{Overflow}
+
+abbrev pub result_map : {A B E : Type 0} → (A → B) → Result A E → Result B E
+result_map f (Ok x) = Ok (f x)
+result_map f (Err e) = Err e
+
+-- the outcome stands for the row's number, or the error is the row's
+abbrev pub IsOutcomeOf : {T E : Type 0} → (T → ℤ) → Bool → ℕ → Result ℤ E → Result (Outcome T) E → Type 0
+IsOutcomeOf value signed n (Ok x) (Ok outcome) = StandsFor value signed n x outcome
+IsOutcomeOf value signed n (Err e) (Err fault) = fault ≡ e
+IsOutcomeOf value signed n (Ok x) (Err fault) = ⊥
+IsOutcomeOf value signed n (Err e) (Ok outcome) = ⊥
+
+abbrev pub checked_decimal : Bool → ℕ → Result ℤ DecimalError → Result ℤ DecimalError
+checked_decimal signed n (Ok x) = if fits signed n x then Ok x else Err Overflow
+checked_decimal signed n (Err e) = Err e
+
+abbrev pub saturating_decimal : Bool → ℕ → Result ℤ DecimalError → Result ℤ DecimalError
+saturating_decimal signed n row = result_map (clamp signed n) row
+
+abbrev pub wrapping_decimal : Bool → ℕ → Result ℤ DecimalError → Result ℤ DecimalError
+wrapping_decimal signed n row = result_map (wrap signed n) row
+
+abbrev pub overflowing_decimal : Bool → ℕ → Result ℤ DecimalError → Result (ℤ × Bool) DecimalError
+overflowing_decimal signed n row = result_map (λ x. (wrap signed n x, not (fits signed n x))) row

@@ -1,0 +1,41 @@
+-- The text of a number a / 2 ^ f.
+use Rattle.std.specs.Prelude.{◌≡◌, ◌≤◌, ◌+◌, ◌*◌, ◌/◌, ◌%◌, ◌^◌, ◌*ℤ◌, ◌++◌, ℕ, ℤ, zero, suc, pos, negsuc, nat_abs, List, [], ◌∷◌}
+use Rattle.fixed_word.specs.Decimal.{natural_text}
+use Rattle.fixed_word.specs.declared.rounding.Rounding.{Rounding}
+use Rattle.fixed_word.specs.declared.rounding.Rounding.TheVariants.{Even}
+use Rattle.fixed_kernel.specs.Rounded.{rounded}
+
+-- the last p digits of n
+unfoldable pub places_text : ℕ → ℕ → List ℕ
+places_text n zero = []
+places_text n (suc p) = places_text (n / 10) p ++ (48 + n % 10) ∷ []
+
+-- n / 10 ^ p with p digits behind the point
+abbrev pub magnitude_text : ℕ → ℕ → List ℕ
+magnitude_text n zero = natural_text n
+magnitude_text n (suc p) = natural_text (n / 10 ^ suc p) ++ 46 ∷ places_text n (suc p)
+
+-- a minus before the text of a number below 0
+abbrev pub after_sign : ℤ → List ℕ → List ℕ
+after_sign (pos n) text = text
+after_sign (negsuc n) text = 45 ∷ text
+
+-- a / 2 ^ f in units of 10 ^ -p, rounded
+abbrev pub to_places : ℤ → ℕ → ℕ → Rounding → ℤ
+to_places a f p r = rounded (a *ℤ pos (10 ^ p)) (pos (2 ^ f)) r
+
+abbrev pub text_of : ℤ → ℕ → ℕ → Rounding → List ℕ
+text_of a f p r = after_sign a (magnitude_text (nat_abs (to_places a f p r)) p)
+
+-- p digits behind the point are exact
+abbrev pub IsExactAt : ℤ → ℕ → ℕ → Type 0
+IsExactAt a f p = (nat_abs a * 10 ^ p) % 2 ^ f ≡ 0
+
+-- p digits behind the point, to the nearest, are read as a
+abbrev pub ReadsBack : ℤ → ℕ → ℕ → Type 0
+ReadsBack a f p = rounded (to_places a f p Even *ℤ pos (2 ^ f)) (pos (10 ^ p)) Even ≡ a
+
+-- m is the least number of which P holds
+pub record IsLeast (P : ℕ → Type 0) (m : ℕ) : Type 0 where
+  pub holds : P m
+  pub least : (k : ℕ) → P k → m ≤ k

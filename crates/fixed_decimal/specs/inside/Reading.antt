@@ -1,0 +1,33 @@
+-- What the reader's steps answer.
+use Rattle.std.specs.Prelude.{◌≡◌, ◌<◌, ◌≤◌, ◌+◌, ◌%◌, ◌^◌, ◌==◌, ℕ, true, nat_lt, List, drop, slice_index, Some, None, Result, Ok, Err, if◌then◌else◌}
+use Rattle.std.specs.Char.{is_ascii_digit}
+use Rattle.std.specs.List.{list_all, position_or_len, prefix_len}
+use Rattle.fixed_decimal.specs.declared.error.DecimalError.{DecimalError}
+use Rattle.std.specs.Str.Parse.{digits_value}
+use Rattle.fixed_decimal.specs.Decimal.{digits_in, fault_of, is_point, places_in}
+
+-- a number below 2 ^ 64, or one from there on that ends in the same 64 bits
+abbrev pub held : ℕ → ℕ
+held n = if nat_lt n (2 ^ 64) then n else 2 ^ 64 + n % 2 ^ 64
+
+-- where the digits end that stand behind a point at a place, or that place if there is none
+abbrev pub part_end : List ℕ → ℕ → ℕ
+part_end bytes at = if slice_index bytes at == 46 then at + 1 + prefix_len is_ascii_digit (drop (at + 1) bytes) else at
+
+-- digits alone, and where the point stands or they end
+pub record IsPointAt (bytes : List ℕ) (at : ℕ) : Type 0 where
+  pub place : position_or_len is_point bytes ≡ at
+  pub digits : list_all is_ascii_digit (digits_in bytes) ≡ true
+  pub free : fault_of (digits_in bytes) ≡ None
+
+abbrev pub IsPoint : List ℕ → Result ℕ DecimalError → Type 0
+IsPoint bytes (Ok at) = IsPointAt bytes at
+IsPoint bytes (Err e) = fault_of (digits_in bytes) ≡ Some e
+
+-- the number of all digits, and how many of them stand behind the point
+pub record IsShort (bytes : List ℕ) (value places : ℕ) : Type 0 where
+  pub free : fault_of (digits_in bytes) ≡ None
+  pub number : value ≡ digits_value 10 (digits_in bytes)
+  pub behind : places ≡ places_in bytes
+  pub small : value < 2 ^ 60
+  pub few : places ≤ 18

@@ -1,0 +1,15 @@
+-- The magnitude of a rounded quotient.
+use Rattle.std.specs.Prelude.{◌+◌, ◌/◌, ◌%◌, ◌&&◌, ◌||◌, ℕ, Bool, false}
+use Rattle.fixed_word.specs.declared.rounding.Rounding.{Rounding}
+use Rattle.fixed_word.specs.declared.rounding.Rounding.TheVariants.{Down, Zero, Even}
+use Rattle.fixed_kernel.specs.inside.Steps.{rounding_step}
+
+-- of n over d, that has a minus where `below`
+abbrev pub stepped : Rounding → Bool → ℕ → ℕ → ℕ
+stepped k below n d = n / d + rounding_step k below (n / d) (n % d) d
+
+-- the same step, from whether the whole number is odd, and what is behind it: a half, and a rest
+abbrev pub moves_past : Rounding → Bool → Bool → Bool → Bool → Bool
+moves_past Down below odd half rest = below && (half || rest)
+moves_past Zero below odd half rest = false
+moves_past Even below odd half rest = half && (odd || rest)

@@ -1,0 +1,20 @@
+//! Why a text has no number in a format.
+
+use thiserror::Error;
+
+/// Why a text has no number in a format. The first three say that it is no decimal.
+#[derive(Clone, Copy, Debug, PartialEq, Eq, Error)]
+pub enum DecimalError {
+    /// No digit stands in it.
+    #[error("no digits")]
+    NoDigits,
+    /// Behind the sign a byte is neither a digit nor a point.
+    #[error("invalid digit")]
+    InvalidDigit,
+    /// A second point stands in it.
+    #[error("more than one point")]
+    TooManyPoints,
+    /// Its number does not fit.
+    #[error("overflow")]
+    Overflow,
+}

@@ -1,0 +1,132 @@
+//! The form of a decimal, and the numbers of its digits.
+
+ghost use Rattle.std.specs.Prelude.{◌≡◌, ◌≤◌, ◌<◌, ◌+◌, ◌-◌, ◌^◌, IfSome, length, drop, take, true};
+ghost use Rattle.std.specs.Char.{is_ascii_digit};
+ghost use Rattle.std.specs.List.{list_all, prefix_len};
+ghost use Rattle.std.specs.Str.Parse.{digits_value, digits_value_after, starts_with_minus, without_leading_sign};
+ghost use Rattle.fixed_decimal.specs.inside.Reading.{IsPoint, IsShort, part_end};
+
+use crate::error::DecimalError;
+
+/// How many digits a part has at most, of which the number is taken at once.
+pub const PART: usize = 18;
+
+/// Whether a minus stands in front, and what stands behind a sign.
+#[inline]
+pub fn sign_of(text: &[u8]) -> (bool, &[u8])
+    ensures minus { result.0 ≡ starts_with_minus text.now }
+    ensures rest { result.1.now ≡ without_leading_sign text.now }
+{
+    match text {
+        [b'-', rest @ ..] => (true, rest),
+        [b'+', rest @ ..] => (false, rest),
+        _ => (false, text),
+    }
+}
+
+/// Where the digits from a place on end.
+#[inline]
+fn digits_end(bytes: &[u8], from: usize) -> usize
+    requires { from ≤ length bytes.now }
+    ensures end { result ≡ from + prefix_len is_ascii_digit (drop from bytes.now) }
+    ensures within { result ≤ length bytes.now }
+{
+    let mut at = from;
+    while at < bytes.len() && bytes[at].is_ascii_digit() {
+        at += 1;
+    }
+    at
+}
+
+/// Where the digits end that stand behind a point at a place, or that place if there is none.
+#[inline]
+fn part_end(bytes: &[u8], at: usize) -> usize
+    requires { at ≤ length bytes.now }
+    ensures end { result ≡ part_end bytes.now at }
+    ensures from { at ≤ result }
+    ensures within { result ≤ length bytes.now }
+{
+    if at < bytes.len() && bytes[at] == b'.' {
+        digits_end(bytes, at + 1)
+    } else {
+        at
+    }
+}
+
+/// Where the point stands, or where the digits end if there is none. An error where the bytes are no decimal without
+/// its sign.
+#[inline]
+pub fn point_of(bytes: &[u8]) -> Result<usize, DecimalError>
+    ensures { IsPoint bytes.now result }
+{
+    let point = digits_end(bytes, 0);
+    let end = part_end(bytes, point);
+    if end < bytes.len() {
+        if bytes[end] == b'.' {
+            Err(DecimalError::TooManyPoints)
+        } else {
+            Err(DecimalError::InvalidDigit)
+        }
+    } else if end == (end - point).min(1) {
+        Err(DecimalError::NoDigits)
+    } else {
+        Ok(point)
+    }
+}
+
+/// The number of a run of digits from a place on, after those of a number before it, and where the run ends.
+#[inline]
+fn run_from(bytes: &[u8], from: usize, before: u64) -> (u64, usize)
+    requires from { from ≤ length bytes.now }
+    requires room { length bytes.now ≤ 18 }
+    requires before { before < 10 ^ from }
+    ensures end { result.1 ≡ from + prefix_len is_ascii_digit (drop from bytes.now) }
+    ensures within { result.1 ≤ length bytes.now }
+    ensures small { result.0 < 10 ^ result.1 }
+    ensures value { result.0 ≡ digits_value_after 10 before (take (result.1 - from) (drop from bytes.now)) }
+{
+    let mut value = before;
+    let mut at = from;
+    while at < bytes.len() && bytes[at].is_ascii_digit() {
+        value = value * 10 + u64::from(bytes[at] - b'0');
+        at += 1;
+    }
+    (value, at)
+}
+
+/// A decimal of at most 18 bytes without its sign, in one pass: the number of all its digits, and how many of them
+/// stand behind the point. None for other bytes.
+#[inline]
+pub fn short_decimal(bytes: &[u8]) -> Option<(u64, usize)>
+    ensures { IfSome result (λ found. IsShort bytes.now found.0 found.1) }
+{
+    if bytes.len() > PART {
+        return None;
+    }
+    let (whole, point) = run_from(bytes, 0, 0);
+    if point == bytes.len() {
+        return if point > 0 { Some((whole, 0)) } else { None };
+    }
+    if bytes[point] != b'.' {
+        return None;
+    }
+    let (value, end) = run_from(bytes, point + 1, whole);
+    if end < bytes.len() || end < 2 {
+        return None;
+    }
+    Some((value, end - point - 1))
+}
+
+/// The number of at most 18 digits.
+#[inline]
+pub fn value_of(digits: &[u8]) -> u64
+    requires digits { list_all is_ascii_digit digits.now ≡ true }
+    requires room { length digits.now ≤ 18 }
+    ensures { result ≡ digits_value 10 digits.now }
+{
+    let mut value = 0;
+    for digit in digits {
+        value = value * 10 + u64::from(*digit - b'0');
+    }
+    value
+}

@@ -1,0 +1,59 @@
+//! How many digits behind the point a number needs.
+
+ghost use Rattle.std.specs.Prelude.{◌≡◌, ◌↔◌, ◌^◌, ◌<◌, ◌≤◌, IsTrue};
+ghost use Rattle.fixed_decimal.specs.inside.Close.{IsClose};
+ghost use Rattle.fixed_decimal.specs.Text.{IsExactAt, IsLeast, ReadsBack};
+
+use crate::halves::low_bits;
+use crate::tens::ten_to;
+use fixed_word::{RawWord, Word};
+
+/// How many digits behind the point the exact text of a number in units of `2^-frac` has, at most `frac`. Condition:
+/// `frac` is at most the width.
+pub fn exact_places<T: Word>(number: T, frac: u32) -> usize
+    requires { frac ≤ T.BITS }
+    ensures places { IsLeast (IsExactAt (T.value number) frac) result }
+    ensures bound { result ≤ frac }
+{
+    let zeros = number.magnitude().trailing_zeros();
+    (frac - zeros.min(frac)) as usize
+}
+
+/// How many digits behind the point the shortest text has that is read as the number, to the nearest, and to the even
+/// one of two. Condition: `frac` is at most the width.
+pub fn shortest_places<T: Word>(number: T, frac: u32) -> usize
+    requires { frac ≤ T.BITS }
+    ensures places { IsLeast (ReadsBack (T.value number) frac) result }
+    ensures bound { result ≤ 20 }
+{
+    let magnitude = number.magnitude();
+    let mut places = enough_places(frac);
+    while places > 0 && reads_back(magnitude, frac, places - 1) {
+        places -= 1;
+    }
+    places
+}
+
+/// So many digits that units of `10^-places` are no larger than those of `2^-frac`.
+#[inline]
+fn enough_places(frac: u32) -> usize
+    requires { frac ≤ 64 }
+    ensures enough { 2 ^ frac ≤ 10 ^ result }
+    ensures bound { result ≤ 20 }
+{
+    (frac * 3 / 10 + 1) as usize
+}
+
+/// Whether the decimal with so many digits behind the point that is nearest to a magnitude in units of `2^-frac` lies
+/// less than half a unit beside it, or half a unit beside an even one.
+#[inline]
+fn reads_back(magnitude: u64, frac: u32, places: usize) -> bool
+    requires frac { frac ≤ 64 }
+    requires places { places < 20 }
+    ensures { IsTrue result ↔ IsClose magnitude (10 ^ places) (2 ^ frac) }
+{
+    let tens = u128::from(ten_to(places));
+    let past = low_bits(u128::from(magnitude) * tens, frac);
+    let twice = 2 * past.min((1 << frac) - past);
+    twice < tens || twice == tens && magnitude % 2 == 0
+}

@@ -1,0 +1,114 @@
+//! The number of a decimal, in units of a format.
+
+ghost use Rattle.std.specs.Prelude.{◌≡◌, ◌==◌, ◌*◌, ◌/◌, ◌%◌, ◌^◌, ◌<◌, ◌≤◌, length, not, true};
+ghost use Rattle.std.specs.Char.{is_ascii_digit};
+ghost use Rattle.std.specs.List.{list_all};
+ghost use Rattle.std.specs.Str.Parse.{digits_value};
+ghost use Rattle.fixed_decimal.specs.Decimal.{decimal_row};
+ghost use Rattle.fixed_decimal.specs.Rows.{IsOutcomeOf};
+ghost use Rattle.fixed_decimal.specs.inside.Reading.{held};
+
+use crate::error::DecimalError;
+use crate::halves::rounded_halves;
+use crate::numeral::{PART, point_of, short_decimal, sign_of, value_of};
+use crate::tens::ten_to;
+use fixed_word::{Outcome, Rounding, Word, outcome_of};
+
+/// The outcome that stands for the number of a text in units of `2^-frac`, rounded. Condition: `frac` is at most the
+/// width.
+pub fn decimal_of<T: Word>(
+    text: &[u8],
+    frac: u32,
+    rounding: Rounding,
+) -> Result<Outcome<T>, DecimalError>
+    requires { frac ≤ T.BITS }
+    ensures { IsOutcomeOf T.value T.SIGNED T.BITS (decimal_row text.now frac rounding) result }
+{
+    let (below_zero, bytes) = sign_of(text);
+    if let Some((value, places)) = short_decimal(bytes) {
+        let (halves, rest) = divided(u128::from(value) << (frac + 1), ten_to(places));
+        let magnitude = rounded_halves(halves, rest, below_zero, rounding);
+        return Ok(outcome_of(below_zero, magnitude));
+    }
+    match point_of(bytes) {
+        Ok(point) => {
+            let whole = units_of(&bytes[..point], frac);
+            let part = &bytes[(point + 1).min(bytes.len())..];
+            let (halves, rest) = halves_of(part, frac);
+            let magnitude = rounded_halves(2 * whole + halves, rest, below_zero, rounding);
+            Ok(outcome_of(below_zero, magnitude))
+        }
+        Err(error) => Err(error),
+    }
+}
+
+/// A number below `2^64`, or one of at least `2^64` that ends in the same 64 bits.
+#[inline]
+fn fold(number: u128) -> u128
+    ensures { result ≡ held number }
+{
+    if number < 1 << 64 {
+        number
+    } else {
+        (1 << 64) + number % (1 << 64)
+    }
+}
+
+/// The number of the digits before the point times `2^frac`, or one past 64 bits that ends in the same 64.
+#[inline]
+fn units_of(whole: &[u8], frac: u32) -> u128
+    requires digits { list_all is_ascii_digit whole.now ≡ true }
+    requires frac { frac ≤ 64 }
+    ensures { result ≡ held (digits_value 10 whole.now * 2 ^ frac) }
+{
+    let mut units = 0;
+    let mut start = 0;
+    while start < whole.len() {
+        let end = whole.len().min(start + PART);
+        let more = u128::from(value_of(&whole[start..end])) << frac;
+        units = fold(units * u128::from(ten_to(end - start)) + more);
+        start = end;
+    }
+    units
+}
+
+/// Twice the number of the digits behind the point times `2^frac`, rounded down, and whether that left a rest. They
+/// are taken from the last on, so that each one counts.
+#[inline]
+fn halves_of(part: &[u8], frac: u32) -> (u128, bool)
+    requires digits { list_all is_ascii_digit part.now ≡ true }
+    requires frac { frac ≤ 64 }
+    ensures halves { result.0 ≡ 2 * (digits_value 10 part.now * 2 ^ frac) / 10 ^ length part.now }
+    ensures rest { result.1 ≡ not (2 * (digits_value 10 part.now * 2 ^ frac) % 10 ^ length part.now == 0) }
+    ensures small { result.0 ≤ 2 ^ 65 }
+{
+    let mut halves = 0;
+    let mut rest = false;
+    let mut end = part.len();
+    while end > 0 {
+        let start = end - end.min(PART);
+        let number = (u128::from(value_of(&part[start..end])) << (frac + 1)) + halves;
+        let (quotient, left) = divided(number, ten_to(end - start));
+        halves = quotient;
+        rest = rest || left;
+        end = start;
+    }
+    (halves, rest)
+}
+
+/// The quotient, rounded down, and whether that left a rest. A number of 64 bits is divided there, since a division of
+/// 128 bits takes many times as long.
+#[inline]
+fn divided(number: u128, by: u64) -> (u128, bool)
+    requires { 0 < by }
+    ensures quotient { result.0 ≡ number / by }
+    ensures rest { result.1 ≡ not (number % by == 0) }
+{
+    if number < 1 << 64 {
+        let number = number as u64;
+        (u128::from(number / by), number % by != 0)
+    } else {
+        let quotient = number / u128::from(by);
+        (quotient, number - quotient * u128::from(by) != 0)
+    }
+}

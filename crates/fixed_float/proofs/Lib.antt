@@ -1,0 +1,9 @@
+pub mod Formats
+pub mod Roundings
+pub mod Fields
+pub mod Rows
+pub mod Far
+pub mod Packing
+pub mod Nearer
+pub mod Exact
+pub mod Products

@@ -1,0 +1,3 @@
+pub mod Rows
+pub mod Patterns
+pub mod inside

@@ -1,0 +1,26 @@
+-- What a float is as a number of units, and which float a number of units is.
+-- A finite float is `fin s m e`: the number m * 2 ^ e, or minus it where s is true. `up e` over `down e` is 2 ^ e.
+use Rattle.std.specs.Prelude.{◌≡◌, ◌*◌, ◌^◌, ℕ, ℤ, Bool, true, false, suc, pos, negsuc, Option, Some, None}
+use Rattle.std.specs.Float.{Float, Format, nan, inf, fin}
+use Rattle.std.specs.Float.Ieee.{up, down, round}
+use Rattle.fixed_word.specs.Format.{with_sign}
+use Rattle.fixed_word.specs.Standing.{StandsFor}
+use Rattle.fixed_word.specs.declared.outcome.Outcome.{Outcome}
+use Rattle.fixed_word.specs.declared.rounding.Rounding.{Rounding}
+use Rattle.fixed_kernel.specs.Rounded.{rounded}
+
+-- a float in units of 2 ^ -g, rounded; a NaN and the infinities are no number
+abbrev pub units_of_float : Float → ℕ → Rounding → Option ℤ
+units_of_float nan g r = None
+units_of_float (inf s) g r = None
+units_of_float (fin s m e) g r = Some (rounded (with_sign s (m * up e * 2 ^ g)) (pos (down e)) r)
+
+-- the float nearest to a over 2 ^ g; of two as near, the one whose last bit is 0
+abbrev pub nearest_float : Format → ℤ → ℕ → Float
+nearest_float format (pos n) g = round format false n (2 ^ g)
+nearest_float format (negsuc n) g = round format true (suc n) (2 ^ g)
+
+-- the outcome stands for the row's number, and there is none where the row has none
+abbrev pub IsOutcomeOfRow : {T : Type 0} → (T → ℤ) → Bool → ℕ → Option ℤ → Option (Outcome T) → Type 0
+IsOutcomeOfRow value signed n row None = row ≡ None
+IsOutcomeOfRow value signed n row (Some outcome) = (x : ℤ) × (row ≡ Some x) × StandsFor value signed n x outcome

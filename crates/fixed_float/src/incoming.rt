@@ -1,0 +1,60 @@
+//! From a float to a word.
+
+ghost use Rattle.std.specs.Prelude.{◌≡◌, ◌+◌, ◌*◌, ◌<◌, ◌≤◌, ◌^◌, pos};
+ghost use Rattle.fixed_word.specs.Format.{with_sign};
+ghost use Rattle.fixed_word.specs.Standing.{StandsFor};
+ghost use Rattle.fixed_word.specs.declared.rounding.Rounding.TheVariants.{Even};
+ghost use Rattle.fixed_kernel.specs.Rounded.{rounded};
+ghost use Rattle.fixed_float.specs.Rows.{IsOutcomeOfRow, units_of_float};
+
+use crate::binary::Binary;
+use crate::lowered::lowered;
+use crate::parts::{LEAST, Parts, parts_of};
+use fixed_word::{Outcome, Rounding, Word, outcome_of};
+
+/// The float in units of `2^-frac`, to the nearest, ties to even; None for a NaN and the infinities.
+#[inline]
+pub fn from_float_of<X: Binary, T: Word>(x: X, frac: u32) -> Option<Outcome<T>>
+    ensures { IsOutcomeOfRow T.value T.SIGNED T.BITS (units_of_float (X.float x) frac Even) result }
+{
+    from_float_round_of(x, frac, Rounding::Even)
+}
+
+/// The float in units of `2^-frac`, rounded; None for a NaN and the infinities.
+#[inline]
+pub fn from_float_round_of<X: Binary, T: Word>(
+    x: X,
+    frac: u32,
+    rounding: Rounding,
+) -> Option<Outcome<T>>
+    ensures { IsOutcomeOfRow T.value T.SIGNED T.BITS
+        (units_of_float (X.float x) frac rounding) result }
+{
+    let parts = parts_of(x.widened())?;
+    Some(outcome_of_parts(parts, frac, rounding))
+}
+
+/// How many bits stay free above the digits of a float, less those that a rounding needs.
+const ROOM: u64 = 9;
+
+/// The outcome of `digits * 2^(scale + frac - LEAST)`, or minus it, rounded.
+#[inline]
+fn outcome_of_parts<T: Word>(parts: Parts, frac: u32, rounding: Rounding) -> Outcome<T>
+    requires digits { parts.digits < 2 ^ 53 }
+    requires scale { parts.scale < 2 ^ 11 }
+    ensures { StandsFor T.value T.SIGNED T.BITS
+        (rounded (with_sign parts.below_zero (parts.digits * 2 ^ (parts.scale + frac)))
+        (pos (2 ^ 1074)) rounding) result }
+{
+    let up = parts.scale + frac as u64;
+    if up <= LEAST + ROOM {
+        // From 63 places on nothing is left but what a rounding adds.
+        let by = (LEAST + ROOM - up).min(63) as u32;
+        let magnitude = lowered(parts.below_zero, parts.digits << ROOM, by, rounding);
+        outcome_of(parts.below_zero, magnitude as u128)
+    } else {
+        // From 64 places on every word keeps 0, and the number lies past its range.
+        let by = (up - LEAST).min(64) as u32;
+        outcome_of(parts.below_zero, (parts.digits as u128) << by)
+    }
+}

@@ -1,0 +1,20 @@
+//! Floats of IEEE 754, in and out of fixed-point numbers.
+//!
+//! A finite float is a number with an end, `±m 2^e`. In a format with f bits behind the point it has the row
+//! `±m 2^(e + f)`, rounded: by its name, or to the nearest, ties to even. A NaN and the infinities have
+//! none. What a policy makes of a row is answered as of any other operation. Out, a number becomes the
+//! nearest float, of two as near the one whose last bit is 0. No call takes memory.
+#![tactic(auto)]
+
+mod binary;
+mod incoming;
+pub mod laws;
+mod lowered;
+mod numbers;
+mod outgoing;
+mod parts;
+
+pub use binary::Binary;
+pub use incoming::{from_float_of, from_float_round_of};
+pub use numbers::FloatNumber;
+pub use outgoing::to_float_of;

@@ -1,0 +1,105 @@
+-- What a number prints.
+use Rattle.std.proofs.Common.{◌≡◌, ◌+◌, ◌-◌, ◌<◌, ◌≤◌, ◌<ℤ◌, ◌^◌, ◌*ℤ◌, ℕ, ℤ, zero, suc, pos, negsuc, nat_abs, Bool, true, false, not, nat_le, if◌then◌else◌, Option, Some, None, List, [], length, take, drop, length-drop, refl, sym, ap, ◌∙◌, drop-drop, append-nil, subst, cond, Result, ◌++◌, ◌/◌, arith}
+use Rattle.std.specs.Prelude.{int_lt, IsNone, IsTrue}
+use Rattle.std.specs.Fmt.{IsDefaultSpec, IsPlainFormatter, WritesInCalls, WritesOnOk, WritesStyledOnOk, char_count, formatter_spec, formatter_writer, padded_integral, padding_before, sign_text}
+use Rattle.std.specs.declared.fmt.Error.{Error}
+use Rattle.std.specs.declared.fmt.Formatter.{Formatter}
+use Rattle.std.specs.Ordering.{int_eq}
+use Rattle.std.proofs.lemmas.Int.{ints}
+use mir.Val.{bool_byte}
+use Rattle.std.proofs.lemmas.Bool.Decides.{nat_tests}
+use Rattle.std.proofs.lemmas.List.{take_all}
+use Rattle.fixed_word.specs.declared.rounding.Rounding.TheVariants.{Even}
+use Rattle.fixed_kernel.specs.Rounded.{rounded}
+use Rattle.fixed_decimal.specs.Text.{IsLeast, ReadsBack, after_sign, magnitude_text, text_of, to_places}
+use Rattle.fixed_num.specs.Shown.{first_of, places_of, plain_text, reads_back, shortest, styled_text}
+
+first_is : (test : ℕ → Bool) (n m : ℕ) → m ≤ n → test m ≡ true → ((k : ℕ) → k < m → test k ≡ false) → first_of test n ≡ m
+first_is test zero m le hit miss = omega arith
+first_is test (suc n) zero le hit miss = rw hit refl
+first_is test (suc n) (suc m) le hit miss = rw (miss zero (omega arith)) (ap suc (first_is (λ k. test (suc k)) n m (omega arith) hit (λ k lt. miss (suc k) (omega arith))))
+
+same_true : (x a : ℤ) → x ≡ a → int_eq x a ≡ true
+same_true x a e = grind (arith, ints, e)
+
+other_false : (b : Bool) (x a : ℤ) → int_eq x a ≡ b → (x ≡ a → ⊥) → b ≡ false
+other_false true x a e ne = absurd (ne (grind (arith, ints, e)))
+other_false false x a e ne = refl
+
+pub shortest_is : (a : ℤ) (f m : ℕ) → IsLeast (ReadsBack a f) m → m ≤ 20 → shortest a f ≡ m
+shortest_is a f m l le =
+    first_is (reads_back a f) 20 m le (same_true (rounded (to_places a f m Even *ℤ pos (2 ^ f)) (pos (10 ^ m)) Even) a l.holds)
+    (λ k lt. other_false (reads_back a f k) (rounded (to_places a f k Even *ℤ pos (2 ^ f)) (pos (10 ^ k)) Even) a refl (λ e. absurd (omega (arith, l.least k e))))
+
+pub below_is : (b : Bool) (a : ℤ) → (IsTrue b → a <ℤ pos 0) → (a <ℤ pos 0 → IsTrue b) → b ≡ int_lt a (pos 0)
+below_is true (pos n) only back = absurd (omega (arith, ints, only refl))
+below_is false (pos n) only back = grind (arith, ints)
+below_is true (negsuc n) only back = grind (arith, ints)
+below_is false (negsuc n) only back = back (omega (arith, ints))
+
+-- what stands behind the sign
+behind_sign : (a : ℤ) (b : Bool) (text : List ℕ) → b ≡ int_lt a (pos 0) → drop (bool_byte b) (after_sign a text) ≡ text
+behind_sign (pos n) true text e = absurd (grind (arith, ints, e))
+behind_sign (pos n) false text e = refl
+behind_sign (negsuc n) true text e = refl
+behind_sign (negsuc n) false text e = absurd (grind (arith, ints, e))
+
+pub digits_shown : (a : ℤ) (f p start from : ℕ) (b : Bool) (buffer : List ℕ) → length buffer ≡ 86 → b ≡ int_lt a (pos 0) → from ≡ start + bool_byte b → drop start buffer ≡ text_of a f p Even → take (86 - from) (drop from buffer) ≡ magnitude_text (nat_abs (to_places a f p Even)) p
+digits_shown a f p start from b buffer long below e text =
+    take_all (86 - from) (drop from buffer) (omega (arith, length-drop from buffer))
+    ∙ ap (λ k. drop k buffer) e ∙ sym (drop-drop (bool_byte b) start buffer) ∙ ap (drop (bool_byte b)) text
+    ∙ behind_sign a b (magnitude_text (nat_abs (to_places a f p Even)) p) below
+
+pub twice : (b : Bool) → not (not b) ≡ b
+twice true = refl
+twice false = refl
+
+pub styled_is : (layout : Bool → List ℕ → List ℕ → List ℕ) (precision : Option ℕ) (a : ℤ) (f n p : ℕ) (b : Bool) (prefix digits : List ℕ) → f ≤ n → b ≡ int_lt a (pos 0) → prefix ≡ [] → p ≡ places_of precision a f → digits ≡ magnitude_text (nat_abs (to_places a f p Even)) p
+    → Some (layout (not (not b)) prefix digits) ≡ styled_text layout precision a f n
+styled_is layout precision a f n p b prefix digits le below none places shown =
+    let fits : nat_le f n ≡ true = grind (arith, nat_tests) in
+    let q = places_of precision a f in
+    let turned : not (not b) ≡ int_lt a (pos 0) = twice b ∙ below in
+    ap (λ c. Some (layout c prefix digits)) turned
+    ∙ ap (λ ds. Some (layout (int_lt a (pos 0)) ds digits)) none
+    ∙ ap (λ ds. Some (layout (int_lt a (pos 0)) [] ds)) (shown ∙ ap (λ k. magnitude_text (nat_abs (to_places a f k Even)) k) places)
+    ∙ sym (ap (λ c. if c then Some (layout (int_lt a (pos 0)) [] (magnitude_text (nat_abs (to_places a f q Even)) q)) else None) fits)
+
+-- ---- no options
+padding_zero : (a b : Bool) → cond a 0 (cond b (0 / 2) 0) ≡ 0
+padding_zero true b = refl
+padding_zero false true = refl
+padding_zero false false = refl
+
+cond_self : {A : Type 0} (t : Bool) (x : A) → cond t x x ≡ x
+cond_self true x = refl
+cond_self false x = refl
+
+plain_layout : {W : Type 0} (f : Formatter W) (negative : Bool) (digits : List ℕ) → IsPlainFormatter f → padded_integral (formatter_spec f) negative [] digits ≡ sign_text negative ++ digits
+unfolding padded_integral
+plain_layout f negative digits p =
+    let s = formatter_spec f in
+    let none : s.width - length digits - length (sign_text negative) - char_count [] ≡ 0 = omega (arith, p.bare.width) in
+    let side : padding_before s 0 3 ≡ 0 = padding_zero _ _ in
+    rw (p.bare.plus, p.bare.alternate, none, side) (simp (cond_self, append-nil))
+
+signed : (a : ℤ) (digits : List ℕ) → sign_text (int_lt a (pos 0)) ++ digits ≡ after_sign a digits
+signed (pos n) digits = let e : int_lt (pos n) (pos 0) ≡ false = grind (arith, ints) in ap (λ b. sign_text b ++ digits) e
+signed (negsuc n) digits = refl
+
+pub plain_written : {W : Type 0} (took : W → List ℕ → W → Type 0) (f g : Formatter W) (r : Result (Unit {0}) Error) (a : ℤ) (digits : List ℕ) → WritesStyledOnOk took f r (padded_integral (formatter_spec f) (int_lt a (pos 0)) [] digits) g → WritesOnOk took f r (after_sign a digits) g
+plain_written took f g r a digits styled plain done =
+    let h = styled plain.flush done in
+    record {
+      wrote = subst (λ (bytes : List ℕ). WritesInCalls took (formatter_writer f) bytes (formatter_writer g)) (plain_layout f (int_lt a (pos 0)) digits plain ∙ signed a digits) h.wrote;
+      plain = record { bare = subst IsDefaultSpec (sym h.spec) plain.bare; flush = h.flush };
+    }
+
+pub plain_is : (a : ℤ) (f n : ℕ) → f ≤ n → Some (text_of a f (shortest a f) Even) ≡ plain_text a f n
+plain_is a f n le =
+    let fits : nat_le f n ≡ true = grind (arith, nat_tests) in
+    sym (ap (λ c. if c then Some (text_of a f (shortest a f) Even) else None) fits)
+
+pub no_precision : (o : Option ℕ) (a : ℤ) (f : ℕ) → IsNone o → places_of o a f ≡ shortest a f
+no_precision None a f h = refl
+no_precision (Some p) a f h = cc

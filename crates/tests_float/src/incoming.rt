@@ -1,0 +1,79 @@
+//! Numbers from floats.
+
+use fixed_float::{Binary, FloatNumber, from_float_round_of};
+use fixed_num::{FixedI8, FixedI32, FixedI64, FixedU64};
+use fixed_word::{Rounding, checked_of};
+
+#[test]
+fn worked_numbers(rt: HostRuntime) {
+    let rows = [
+        (1.5, Some(98304)),
+        (-1.5, Some(-98304)),
+        (-0.0, Some(0)),
+        (5e-324, Some(0)),
+        // a unit is 2^-16, and ties go to the even one
+        (0.00000762939453125, Some(0)),
+        (0.00002288818359375, Some(2)),
+        (-0.00002288818359375, Some(-2)),
+        (0.000007629394531250001, Some(1)),
+        (32767.99999237, Some(i32::MAX)),
+        (32767.99999237060546875, None),
+        (-32768.00000762939453125, Some(i32::MIN)),
+        (1.7976931348623157e308, None),
+        (f64::NEG_INFINITY, None),
+        (f64::NAN, None),
+    ];
+    for (float, bits) in rows {
+        let found = FixedI32::<16>::checked_from_float(float);
+        assert_eq!(rt; found.map(FixedI32::to_bits), bits);
+    }
+}
+
+/// The wrapped number and the verdict, of a finite float.
+fn wrapped<X: Binary>(x: X) -> Option<(FixedI8<4>, bool)> {
+    if x.widened().is_finite() {
+        let (number, past) = FixedI8::<4>::overflowing_from_float(x);
+        Some((
+            number,
+            past || FixedI8::<4>::wrapping_from_float(x) != number,
+        ))
+    } else {
+        None
+    }
+}
+
+#[test]
+fn by_policy(rt: HostRuntime) {
+    assert_eq!(rt; wrapped(8.5_f32), Some((FixedI8 { bits: -120 }, true)));
+    assert_eq!(rt; wrapped(-7.9375_f64), Some((FixedI8 { bits: -127 }, false)));
+    assert_eq!(rt; wrapped(f32::NAN), None);
+    assert_eq!(rt;
+        FixedI64::<0>::saturating_from_float(1e19_f32).bits,
+        i64::MAX
+    );
+    assert_eq!(rt;
+        FixedU64::<64>::saturating_from_float(f32::NEG_INFINITY).bits,
+        0
+    );
+    assert_eq!(rt;
+        FixedU64::<64>::saturating_from_float(f64::INFINITY).bits,
+        u64::MAX
+    );
+}
+
+/// A float in units of a quarter, where it fits.
+fn in_quarters(x: f32, rounding: Rounding) -> Option<i16> {
+    checked_of(from_float_round_of(x, 2, rounding)?)
+}
+
+#[test]
+fn by_rounding(rt: HostRuntime) {
+    let rows = [
+        (Rounding::Down, Some(-6)),
+        (Rounding::Zero, Some(-5)),
+        (Rounding::Even, Some(-5)),
+    ];
+    for (rounding, number) in rows {
+        assert_eq!(rt; in_quarters(-1.3125, rounding), number);
+    }
+}
