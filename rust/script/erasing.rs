@@ -5,6 +5,7 @@
 //! comment, a string or a character is as any sign.
 
 use crate::script::conditions::{assertions, condition_of, docs};
+use crate::script::examples::Examples;
 use std::collections::BTreeMap;
 
 /// What a source has, and what Rust has in its place.
@@ -21,6 +22,10 @@ const LEVEL: [&str; 5] = ["{", "}", ")", "]", "where"];
 pub struct Erasing {
     /// The known conditions of public calls. Where there are none, contracts go.
     pub known: String,
+    /// The examples of public calls.
+    pub examples: Examples,
+    /// The type whose calls a block has, where it is of no trait.
+    of_type: String,
     /// The facts that each function `TRAIT::NAME` requires, which an `impl` has without saying so.
     clauses: BTreeMap<String, Vec<String>>,
     /// The contract of an operator, which stands above its function.
@@ -73,7 +78,9 @@ impl Erasing {
             // In the proved language a `Clone` may fail.
             Some((head, _)) if ["Clone", "Model"].contains(&trait_of(head)) => Ok(String::new()),
             Some((head, inner)) => {
+                self.of_type = type_of(head).to_string();
                 let inner = self.items(inner, trait_of(head))?;
+                self.of_type.clear();
                 Ok(format!("{head}{{\n{inner}}}\n"))
             }
             None => Ok(item.to_string()),
@@ -91,6 +98,11 @@ impl Erasing {
         if is_public && !self.known.is_empty() {
             for fact in self.facts(of_trait, &head, &contract) {
                 conditions.push(condition_of(&fact, &self.known, body)?);
+            }
+            if has_docs {
+                let owner = if of_trait.is_empty() { &self.of_type } else { of_trait };
+                let name = function_name(&head).unwrap_or_default();
+                out += &self.examples.docs(owner, name, indent)?;
             }
             if has_docs && !contract.is_empty() {
                 out += &docs(&contract, &conditions, indent);
@@ -212,4 +224,11 @@ fn trait_of(head: &str) -> &str {
     let named = declared.or(implemented).unwrap_or_default();
     let mut words = named.trim_start_matches("impl ").split([' ', '<', ':']);
     words.next().unwrap_or_default()
+}
+
+/// The type whose block this is the head of.
+fn type_of(head: &str) -> &str {
+    let named = head.split_once("> ").map(|(_, named)| named);
+    let named = named.unwrap_or(head.trim_start_matches("impl "));
+    named.split(['<', ' ']).next().unwrap_or_default()
 }

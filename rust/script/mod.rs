@@ -2,4 +2,5 @@
 
 pub mod conditions;
 pub mod erasing;
+pub mod examples;
 pub mod modules;

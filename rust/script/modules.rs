@@ -2,6 +2,7 @@
 
 use crate::script::conditions::KNOWN;
 use crate::script::erasing::Erasing;
+use crate::script::examples::Examples;
 use std::{env, fs};
 
 /// The crates of the library, lowest first, without the `fixed_` in front.
@@ -26,12 +27,17 @@ const LEFT_OUT: [&str; 12] = [
 pub fn write(name: &str, crates: &[&str], memory: &str) -> Result<(), String> {
     let folder = env::var("OUT_DIR").map_err(|error| error.to_string())?;
     let mut erasing = Erasing::default();
+    if crates == LIBRARY {
+        erasing.examples = Examples::of(crates)?;
+    }
     let mut out = String::new();
     for krate in crates {
+        erasing.examples.krate = krate.to_string();
         let root = if *krate == "prog" { "adapters" } else { "lib" };
         let text = file(krate, root, memory, &mut erasing)?;
         out += &format!("pub mod {krate} {{\n{text}}}\n");
     }
+    erasing.examples.end()?;
     fs::write(format!("{folder}/{name}"), out).map_err(|error| error.to_string())
 }
 
