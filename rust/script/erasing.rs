@@ -22,8 +22,10 @@ const LEVEL: [&str; 5] = ["{", "}", ")", "]", "where"];
 pub struct Erasing {
     /// The known conditions of public calls. Where there are none, contracts go.
     pub known: String,
-    /// The examples of public calls.
-    pub examples: Examples,
+    /// The crate.
+    pub krate: String,
+    /// The examples of public calls, where they have any.
+    pub examples: Option<Examples>,
     /// The type whose calls a block has, where it is of no trait.
     of_type: String,
     /// The facts that each function `TRAIT::NAME` requires, which an `impl` has without saying so.
@@ -99,10 +101,14 @@ impl Erasing {
             for fact in self.facts(of_trait, &head, &contract) {
                 conditions.push(condition_of(&fact, &self.known, body)?);
             }
-            if has_docs {
-                let owner = if of_trait.is_empty() { &self.of_type } else { of_trait };
+            if let (true, Some(examples)) = (has_docs, &self.examples) {
+                let owner = if of_trait.is_empty() {
+                    &self.of_type
+                } else {
+                    of_trait
+                };
                 let name = function_name(&head).unwrap_or_default();
-                out += &self.examples.docs(owner, name, indent)?;
+                out += &examples.docs(&self.krate, owner, name, indent)?;
             }
             if has_docs && !contract.is_empty() {
                 out += &docs(&contract, &conditions, indent);

@@ -16,6 +16,7 @@
 //! From these rows each call has the statements of its policy. In the table of a crate, a row `CALL panics // REMARK` is
 //! a doctest of its own; so are here the rows by which a call panics in each build.
 
+use std::cell::Cell;
 use std::collections::BTreeMap;
 use std::fs;
 
@@ -26,14 +27,20 @@ const OPERATIONS: &str = "operations";
 
 /// How the names of calls begin that have a policy in their names. The others are plain.
 const POLICIES: [&str; 6] = [
-    "checked_", "overflowing_", "wrapping_", "saturating_", "strict_", "unwrapped_",
+    "checked_",
+    "overflowing_",
+    "wrapping_",
+    "saturating_",
+    "strict_",
+    "unwrapped_",
 ];
+
+/// A line of doctests that panic, which no page shows. To print where a panic came from takes long.
+const QUIET: &str = "# std::panic::set_hook(Box::new(|_| {}));";
 
 /// The entries of tables, and which of them are used.
 #[derive(Default)]
 pub struct Examples {
-    /// The crate whose calls are asked for.
-    pub krate: String,
     entries: BTreeMap<String, Entry>,
 }
 
@@ -41,7 +48,7 @@ pub struct Examples {
 struct Entry {
     setup: Vec<String>,
     rows: Vec<String>,
-    is_used: bool,
+    is_used: Cell<bool>,
 }
 
 /// What a row says of the exact result of a call.
@@ -87,7 +94,7 @@ impl Examples {
             let entry = Entry {
                 setup: setup.clone(),
                 rows,
-                is_used: false,
+                is_used: Cell::new(false),
             };
             let path = format!("{table}::{name}");
             if entry.rows.is_empty() || self.entries.insert(path.clone(), entry).is_some() {
@@ -97,34 +104,41 @@ impl Examples {
         Ok(())
     }
 
-    /// The docs with the example of a public call of a type or trait, if any. A law needs none.
-    pub fn docs(&mut self, owner: &str, name: &str, indent: &str) -> Result<String, String> {
-        if self.krate.is_empty() || name.ends_with("_law") {
+    /// The docs with the example of a public call of a crate, or of a type or a trait in it. A law needs none.
+    pub fn docs(
+        &self,
+        krate: &str,
+        owner: &str,
+        name: &str,
+        indent: &str,
+    ) -> Result<String, String> {
+        if name.ends_with("_law") {
             return Ok(String::new());
         }
         let separator = if owner.is_empty() { "" } else { "::" };
-        let path = format!("{}::{owner}{separator}{name}", self.krate);
-        let (policy, operation) = policy_of(name);
-        let of_operation = format!("{OPERATIONS}::{operation}");
-        let (entry, policy) = if self.entries.contains_key(&path) {
-            (self.entries.get_mut(&path), None)
-        } else if owner.is_empty() {
-            (None, None)
-        } else {
-            (self.entries.get_mut(&of_operation), Some(policy))
+        let path = format!("{krate}::{owner}{separator}{name}");
+        let doctests = match self.entries.get(&path) {
+            Some(entry) => entry.doctests(name, None)?,
+            None => self.of_operation(owner, name, &path)?,
         };
-        let entry = entry.ok_or_else(|| format!("{FOLDER} has no example of {path}"))?;
-        entry.is_used = true;
-        let doctests = entry.doctests(name, policy)?;
         let text = format!("# Examples\n\n{}", doctests.join("\n"));
         let lines = text.lines().map(|line| format!("{indent}/// {line}"));
         let lines = lines.map(|line| format!("{}\n", line.trim_end()));
         Ok(format!("{indent}///\n{}", lines.collect::<String>()))
     }
 
+    /// The doctests of a call that is an operation by a policy. Functions of a crate are none.
+    fn of_operation(&self, owner: &str, name: &str, path: &str) -> Result<Vec<String>, String> {
+        let (policy, operation) = policy_of(name);
+        let entry = self.entries.get(&format!("{OPERATIONS}::{operation}"));
+        let entry = entry.filter(|_| !owner.is_empty());
+        let entry = entry.ok_or_else(|| format!("{FOLDER} has no example of {path}"))?;
+        entry.doctests(name, Some(policy))
+    }
+
     /// An error where an entry was not used.
     pub fn end(&self) -> Result<(), String> {
-        match self.entries.iter().find(|(_, entry)| !entry.is_used) {
+        match self.entries.iter().find(|(_, entry)| !entry.is_used.get()) {
             Some((path, _)) => Err(format!("{FOLDER}: no public call is {path}")),
             None => Ok(()),
         }
@@ -140,9 +154,12 @@ impl Entry {
 
     /// The doctests of a call: one for what it returns, and one for each panic. An operation has a policy.
     fn doctests(&self, name: &str, policy: Option<&str>) -> Result<Vec<String>, String> {
+        self.is_used.set(true);
         let setup = self.setup_of(name);
-        let hidden: Vec<String> = setup.iter().map(|line| format!("# {line}")).collect();
-        let (mut returning, mut panicking) = (setup, Vec::new());
+        let hidden = setup.iter().map(|line| format!("# {line}"));
+        let hidden: Vec<String> = hidden.chain([QUIET.to_string()]).collect();
+        let mut returning = [setup, vec![String::new()]].concat();
+        let mut panicking = Vec::new();
         for row in &self.rows {
             let (code, remark) = row.split_at(row.find(" // ").unwrap_or(row.len()));
             match reply_of(code, policy).ok_or_else(|| format!("{name}: {row}"))? {

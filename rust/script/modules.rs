@@ -28,16 +28,16 @@ pub fn write(name: &str, crates: &[&str], memory: &str) -> Result<(), String> {
     let folder = env::var("OUT_DIR").map_err(|error| error.to_string())?;
     let mut erasing = Erasing::default();
     if crates == LIBRARY {
-        erasing.examples = Examples::of(crates)?;
+        erasing.examples = Some(Examples::of(crates)?);
     }
     let mut out = String::new();
     for krate in crates {
-        erasing.examples.krate = krate.to_string();
+        erasing.krate = krate.to_string();
         let root = if *krate == "prog" { "adapters" } else { "lib" };
         let text = file(krate, root, memory, &mut erasing)?;
         out += &format!("pub mod {krate} {{\n{text}}}\n");
     }
-    erasing.examples.end()?;
+    erasing.examples.map_or(Ok(()), |examples| examples.end())?;
     fs::write(format!("{folder}/{name}"), out).map_err(|error| error.to_string())
 }
 
