@@ -3,7 +3,7 @@
 
 mod script;
 
-use script::modules::{LIBRARY, write};
+use script::modules::{LIBRARY, write, write_pages};
 
 /// The tests of the library, and the example that they test.
 const TESTS: [&str; 5] = [
@@ -25,8 +25,10 @@ const MEMORY: &str = "use std::alloc::{Drop, Vec};\n";
 
 fn main() -> Result<(), String> {
     println!("cargo::rerun-if-changed=crates");
+    println!("cargo::rerun-if-changed=docs");
     println!("cargo::rerun-if-changed=rust");
     write("library.rs", &LIBRARY, "")?;
+    write_pages("pages.rs")?;
     write("tests.rs", &TESTS, "")?;
     write("program.rs", &PROGRAM, MEMORY)?;
     write("runs.rs", &RUNS, MEMORY)

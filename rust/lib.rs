@@ -84,6 +84,8 @@
 extern crate std;
 
 include!(concat!(env!("OUT_DIR"), "/library.rs"));
+#[cfg(doc)]
+include!(concat!(env!("OUT_DIR"), "/pages.rs"));
 #[cfg(test)]
 include!(concat!(env!("OUT_DIR"), "/tests.rs"));
 

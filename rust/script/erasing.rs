@@ -6,6 +6,7 @@
 
 use crate::script::conditions::{assertions, condition_of, docs};
 use crate::script::examples::Examples;
+use crate::script::pages::Definitions;
 use std::collections::BTreeMap;
 
 /// What a source has, and what Rust has in its place.
@@ -26,6 +27,10 @@ pub struct Erasing {
     pub krate: String,
     /// The examples of public calls, where they have any.
     pub examples: Option<Examples>,
+    /// The definitions to which contracts link.
+    pub definitions: Definitions,
+    /// The source that is read.
+    source: String,
     /// The type whose calls a block has, where it is of no trait.
     of_type: String,
     /// The facts that each function `TRAIT::NAME` requires, which an `impl` has without saying so.
@@ -37,6 +42,7 @@ pub struct Erasing {
 impl Erasing {
     /// A source in Rust.
     pub fn erased(&mut self, source: &str) -> Result<String, String> {
+        self.source = source.to_string();
         self.items(&changed(source), "")
     }
 
@@ -112,6 +118,7 @@ impl Erasing {
             }
             if has_docs && !contract.is_empty() {
                 out += &docs(&contract, &conditions, indent);
+                out += &self.definitions.links(&self.source, &contract, indent);
             }
         }
         if body != ";" && !conditions.is_empty() {

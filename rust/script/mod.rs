@@ -4,3 +4,4 @@ pub mod conditions;
 pub mod erasing;
 pub mod examples;
 pub mod modules;
+pub mod pages;

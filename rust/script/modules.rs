@@ -3,6 +3,7 @@
 use crate::script::conditions::KNOWN;
 use crate::script::erasing::Erasing;
 use crate::script::examples::Examples;
+use crate::script::pages::Definitions;
 use std::{env, fs};
 
 /// The crates of the library, lowest first, without the `fixed_` in front.
@@ -29,6 +30,7 @@ pub fn write(name: &str, crates: &[&str], memory: &str) -> Result<(), String> {
     let mut erasing = Erasing::default();
     if crates == LIBRARY {
         erasing.examples = Some(Examples::of(crates)?);
+        erasing.definitions = Definitions::of(crates)?;
     }
     let mut out = String::new();
     for krate in crates {
@@ -38,6 +40,13 @@ pub fn write(name: &str, crates: &[&str], memory: &str) -> Result<(), String> {
         out += &format!("pub mod {krate} {{\n{text}}}\n");
     }
     erasing.examples.map_or(Ok(()), |examples| examples.end())?;
+    fs::write(format!("{folder}/{name}"), out).map_err(|error| error.to_string())
+}
+
+/// Writes the pages of the docs that are no item's.
+pub fn write_pages(name: &str) -> Result<(), String> {
+    let folder = env::var("OUT_DIR").map_err(|error| error.to_string())?;
+    let out = Definitions::of(&LIBRARY)?.pages(&LIBRARY)?;
     fs::write(format!("{folder}/{name}"), out).map_err(|error| error.to_string())
 }
 

@@ -1,0 +1,200 @@
+//! The pages of the docs beside those of items: the guide, the definitions, and a page for each file of definitions in
+//! `crates/*/specs`, to which the contracts of calls link.
+
+use std::collections::BTreeSet;
+use std::fs;
+
+/// The files of definitions that contracts cite.
+#[derive(Default)]
+pub struct Definitions {
+    files: Vec<File>,
+}
+
+/// A file of definitions of a crate.
+struct File {
+    krate: String,
+    name: String,
+    text: String,
+}
+
+impl Definitions {
+    /// The definitions of crates.
+    pub fn of(krates: &[&str]) -> Result<Definitions, String> {
+        let mut definitions = Definitions::default();
+        for krate in krates {
+            let folder = format!("crates/fixed_{krate}/specs");
+            for name in names_in(&folder).map_err(|error| format!("{folder}: {error}"))? {
+                let text = read(&format!("{folder}/{name}.antt"))?;
+                definitions.add(krate, &name, &text);
+            }
+        }
+        Ok(definitions)
+    }
+
+    /// Adds a file, unless it defines nothing.
+    pub fn add(&mut self, krate: &str, name: &str, text: &str) {
+        let file = File {
+            krate: krate.to_string(),
+            name: name.to_string(),
+            text: text.to_string(),
+        };
+        if text.contains(" pub ") {
+            self.files.push(file);
+        }
+    }
+
+    /// Docs with links to the definitions of the words of a contract, as far as its source imports them.
+    pub fn links(&self, source: &str, contract: &[String], indent: &str) -> String {
+        let is_of_word = |sign: char| sign.is_alphanumeric() || sign == '_';
+        let words = contract
+            .iter()
+            .flat_map(|clause| clause.split(|sign| !is_of_word(sign)));
+        let words: BTreeSet<&str> = words.collect();
+        let cited = imports(source).filter(|(_, _, word)| words.contains(word));
+        let (mut named, mut targets) = (Vec::new(), String::new());
+        for (krate, name, word) in cited {
+            if let Some(file) = self.file(krate, name, word) {
+                named.push(format!("[`{word}`]"));
+                let target = format!("crate::definitions::{}", file.module());
+                targets += &format!("{indent}/// [`{word}`]: {target}\n");
+            }
+        }
+        match named.is_empty() {
+            true => String::new(),
+            false => {
+                let named = named.join(", ");
+                format!("{indent}///\n{indent}/// Definitions: {named}.\n{indent}///\n{targets}")
+            }
+        }
+    }
+
+    /// The file that defines a word: that of the name in the crate, or in a lower crate, whose names the crate offers.
+    fn file(&self, krate: &str, name: &str, word: &str) -> Option<&File> {
+        let defining = self
+            .files
+            .iter()
+            .filter(|file| file.name == name && file.defines(word));
+        let candidates: Vec<&File> = defining.collect();
+        let own = candidates.iter().find(|file| file.krate == krate);
+        own.or(candidates.last()).copied()
+    }
+
+    /// All pages as modules of Rust.
+    pub fn pages(&self, krates: &[&str]) -> Result<String, String> {
+        let guide = linked(&read("docs/GUIDE.md")?, krates)?;
+        let definitions = linked(&read("docs/DEFINITIONS.md")?, krates)?;
+        let files: Vec<String> = self.files.iter().map(File::page).collect();
+        let inner = format!("{}\n{}", inner_docs(&definitions), files.concat());
+        Ok(format!(
+            "pub mod guide {{\n{}}}\npub mod definitions {{\n{inner}}}\n",
+            inner_docs(&guide)
+        ))
+    }
+}
+
+impl File {
+    fn defines(&self, word: &str) -> bool {
+        self.text.contains(&format!(" pub {word} "))
+    }
+
+    /// The name of its page.
+    fn module(&self) -> String {
+        let words = self.name.chars().enumerate().map(|(at, letter)| {
+            let separator = if at > 0 && letter.is_uppercase() {
+                "_"
+            } else {
+                ""
+            };
+            format!("{separator}{}", letter.to_lowercase())
+        });
+        format!("{}_{}", self.krate, words.collect::<String>())
+    }
+
+    /// Its page: what the comment in front says, and the definitions.
+    fn page(&self) -> String {
+        let is_comment = |line: &&str| line.starts_with("--");
+        let about: Vec<&str> = self.text.lines().take_while(is_comment).collect();
+        let about: Vec<&str> = about.iter().map(|line| line[2..].trim()).collect();
+        let rest = self.text.lines().skip(about.len());
+        let code: Vec<&str> = rest.filter(|line| !line.starts_with("use ")).collect();
+        let code = code.join("\n");
+        let path = format!(
+            "From `crates/fixed_{}/specs/{}.antt`:",
+            self.krate, self.name
+        );
+        let text = format!(
+            "{}\n\n{path}\n\n```text\n{}\n```",
+            about.join("\n"),
+            code.trim()
+        );
+        format!("pub mod {} {{\n{}}}\n", self.module(), inner_docs(&text))
+    }
+}
+
+/// The words that a source imports from definitions of this project, each with the crate and the file.
+fn imports(source: &str) -> impl Iterator<Item = (&str, &str, &str)> {
+    let uses = source.lines().filter_map(|line| {
+        let path = line.trim().strip_prefix("ghost use Rattle.fixed_")?;
+        let (krate, path) = path.split_once(".specs.")?;
+        let (name, words) = path.strip_suffix("};")?.split_once(".{")?;
+        Some((krate, name, words))
+    });
+    uses.flat_map(|(krate, name, words)| words.split(", ").map(move |word| (krate, name, word)))
+}
+
+/// A page of `docs/` with its links as those of the docs, and its images in it. A link that the docs do not have is an
+/// error.
+fn linked(text: &str, krates: &[&str]) -> Result<String, String> {
+    let mut parts = text.split("](");
+    let mut out = parts.next().unwrap_or_default().to_string();
+    for part in parts {
+        let (target, after) = part.split_once(')').ok_or("a link without an end")?;
+        if target.ends_with(".svg") {
+            let image = out.rfind("![").ok_or("an image without a mark")?;
+            out.truncate(image);
+            out += &read(&format!("docs/{target}"))?;
+        } else {
+            out += &format!("]({})", target_in_docs(target, krates)?);
+        }
+        out += after;
+    }
+    Ok(out)
+}
+
+/// What a link leads to in the docs.
+fn target_in_docs(target: &str, krates: &[&str]) -> Result<String, String> {
+    let (path, place) = target.split_at(target.find('#').unwrap_or(target.len()));
+    let krate = path.strip_prefix("../crates/fixed_");
+    let krate = krate.and_then(|path| path.strip_suffix("/README.md"));
+    match (path, krate) {
+        ("", _) => Ok(place.to_string()),
+        ("GUIDE.md", _) => Ok(format!("crate::guide{place}")),
+        ("DEFINITIONS.md", _) => Ok(format!("crate::definitions{place}")),
+        ("../README.md", _) => Ok(format!("crate{place}")),
+        (_, Some(krate)) if krates.contains(&krate) => Ok(format!("crate::{krate}")),
+        _ if path.starts_with("https://") => Ok(target.to_string()),
+        _ => Err(format!(
+            "the docs of the package have no page for the link {target}"
+        )),
+    }
+}
+
+/// A text as the docs of the module around it.
+fn inner_docs(text: &str) -> String {
+    let lines = text.lines().map(|line| format!("//! {line}"));
+    lines.map(|line| format!("{}\n", line.trim_end())).collect()
+}
+
+/// The names of the files of definitions in a folder, in order.
+fn names_in(folder: &str) -> Result<BTreeSet<String>, std::io::Error> {
+    let mut names = BTreeSet::new();
+    for entry in fs::read_dir(folder)? {
+        let file = entry?.file_name().to_string_lossy().into_owned();
+        names.extend(file.strip_suffix(".antt").map(str::to_string));
+    }
+    Ok(names)
+}
+
+fn read(path: &str) -> Result<String, String> {
+    fs::read_to_string(path).map_err(|error| format!("{path}: {error}"))
+}
