@@ -35,6 +35,9 @@ const POLICIES: [&str; 6] = [
     "unwrapped_",
 ];
 
+/// How long lines with a remark are at most.
+const LONGEST: usize = 85;
+
 /// A line of doctests that panic, which no page shows. To print where a panic came from takes long.
 const QUIET: &str = "# std::panic::set_hook(Box::new(|_| {}));";
 
@@ -163,9 +166,9 @@ impl Entry {
         for row in &self.rows {
             let (code, remark) = row.split_at(row.find(" // ").unwrap_or(row.len()));
             match reply_of(code, policy).ok_or_else(|| format!("{name}: {row}"))? {
-                Reply::Returns(code) => returning.push(code + remark),
+                Reply::Returns(code) => returning.push(remarked(&code, remark)),
                 Reply::Panics(call) => {
-                    let stops = vec![format!("{call};{remark}")];
+                    let stops = vec![remarked(&format!("{call};"), remark)];
                     panicking.push(block("should_panic", &[hidden.clone(), stops].concat()));
                 }
                 Reply::Unsaid => {}
@@ -245,6 +248,14 @@ fn reply_of(code: &str, policy: Option<&str>) -> Option<Reply> {
         _ => return Some(Reply::Unsaid),
     };
     Some(Reply::Returns(format!("assert_eq!({call}, {number});")))
+}
+
+/// A statement with a remark behind it, or above it where the line would be too long for a page.
+fn remarked(code: &str, remark: &str) -> String {
+    match remark.is_empty() || code.len() + remark.len() <= LONGEST {
+        true => format!("{code}{remark}"),
+        false => format!("{}\n{code}", remark.trim_start()),
+    }
 }
 
 /// A doctest.

@@ -82,13 +82,22 @@ impl Definitions {
     /// All pages as modules of Rust.
     pub fn pages(&self, krates: &[&str]) -> Result<String, String> {
         let guide = linked(&read("docs/GUIDE.md")?, krates)?;
-        let definitions = linked(&read("docs/DEFINITIONS.md")?, krates)?;
+        let definitions = self.named(linked(&read("docs/DEFINITIONS.md")?, krates)?);
         let files: Vec<String> = self.files.iter().map(File::page).collect();
         let inner = format!("{}\n{}", inner_docs(&definitions), files.concat());
         Ok(format!(
             "pub mod guide {{\n{}}}\npub mod definitions {{\n{inner}}}\n",
             inner_docs(&guide)
         ))
+    }
+
+    /// A page with links where it names a file of definitions, such as `fixed_kernel/specs/Rows`.
+    fn named(&self, page: String) -> String {
+        self.files.iter().fold(page, |page, file| {
+            let name = format!("`fixed_{}/specs/{}`", file.krate, file.name);
+            let link = format!("[{name}](crate::definitions::{})", file.module());
+            page.replace(&name, &link)
+        })
     }
 }
 
@@ -144,7 +153,7 @@ fn imports(source: &str) -> impl Iterator<Item = (&str, &str, &str)> {
 
 /// A page of `docs/` with its links as those of the docs, and its images in it. A link that the docs do not have is an
 /// error.
-fn linked(text: &str, krates: &[&str]) -> Result<String, String> {
+pub fn linked(text: &str, krates: &[&str]) -> Result<String, String> {
     let mut parts = text.split("](");
     let mut out = parts.next().unwrap_or_default().to_string();
     for part in parts {
