@@ -20,14 +20,11 @@ const PROGRAM: [&str; 6] = ["stream", "text", "script", "machine", "calc", "prog
 /// The crates of the runs over text, for benches and the example.
 const RUNS: [&str; 4] = ["text", "poly", "filter", "interval"];
 
-/// What the proved language has by itself, for crates that take memory.
-const MEMORY: &str = "use std::alloc::{Drop, Vec};\n";
-
 fn main() -> Result<(), String> {
     println!("cargo::rerun-if-changed=crates");
     println!("cargo::rerun-if-changed=rust");
-    write("library.rs", &LIBRARY, "")?;
-    write("tests.rs", &TESTS, "")?;
-    write("program.rs", &PROGRAM, MEMORY)?;
-    write("runs.rs", &RUNS, MEMORY)
+    write("library.rs", &LIBRARY, &[])?;
+    write("tests.rs", &TESTS, &[])?;
+    write("program.rs", &PROGRAM, &PROGRAM)?;
+    write("runs.rs", &RUNS, &RUNS)
 }
