@@ -3,7 +3,7 @@
 
 mod script;
 
-use script::modules::{LIBRARY, write, write_pages};
+use script::modules::{write, write_library};
 
 /// The tests of the library, and the example that they test.
 const TESTS: [&str; 5] = [
@@ -20,16 +20,12 @@ const PROGRAM: [&str; 6] = ["stream", "text", "script", "machine", "calc", "prog
 /// The crates of the runs over text, for benches and the example.
 const RUNS: [&str; 4] = ["text", "poly", "filter", "interval"];
 
-/// What the proved language has by itself, for crates that take memory.
-const MEMORY: &str = "use std::alloc::{Drop, Vec};\n";
-
 fn main() -> Result<(), String> {
     println!("cargo::rerun-if-changed=crates");
     println!("cargo::rerun-if-changed=docs");
     println!("cargo::rerun-if-changed=rust");
-    write("library.rs", &LIBRARY, "")?;
-    write_pages("pages.rs")?;
-    write("tests.rs", &TESTS, "")?;
-    write("program.rs", &PROGRAM, MEMORY)?;
-    write("runs.rs", &RUNS, MEMORY)
+    write_library("library.rs", "pages.rs")?;
+    write("tests.rs", &TESTS, &[])?;
+    write("program.rs", &PROGRAM, &PROGRAM)?;
+    write("runs.rs", &RUNS, &RUNS)
 }

@@ -1,9 +1,14 @@
 //! Crates as modules of Rust: each file becomes an inline module where its `mod` item stood.
 
-use crate::script::conditions::KNOWN;
+use crate::script::conditions::Known;
+use crate::script::edits::{Edits, bytes};
 use crate::script::erasing::Erasing;
-use crate::script::examples::Examples;
-use crate::script::pages::Definitions;
+use crate::script::items::{Part, Source};
+use crate::script::names::Names;
+use crate::script::pages::Pages;
+use crate::script::traits::{Traits, imports};
+use std::collections::BTreeMap;
+use std::path::Path;
 use std::{env, fs};
 
 /// The crates of the library, lowest first, without the `fixed_` in front.
@@ -18,84 +23,185 @@ const INSIDE: [&str; 10] = [
     "logs/exact", "text/numerals", "text/pieces", "text/tokens", "text/written",
 ];
 
-/// The modules that take memory, or serve the runs that do, and so are left out where there is none.
-const LEFT_OUT: [&str; 12] = [
-    "arriving", "bank", "channel", "desk", "fault", "header", "line", "op", "running",
-    "text/added", "text/numbers", "text/output",
+/// The files that take memory, or serve the runs that do, and so are left out where there is none.
+pub const LEFT_OUT: [&str; 20] = [
+    "filter/bank", "filter/channel", "filter/fault", "filter/header", "filter/running",
+    "guide/arriving", "guide/desk",
+    "interval/fault", "interval/header", "interval/line", "interval/op", "interval/running",
+    "poly/fault", "poly/header", "poly/running",
+    "text/added", "text/fault", "text/numbers", "text/output", "text/running",
 ];
 
-/// Writes crates as the modules of one file, each with the line `memory`, which is empty where they take none.
-pub fn write(name: &str, crates: &[&str], memory: &str) -> Result<(), String> {
+/// What the proved language has by itself, for crates that take memory.
+const MEMORY: &str = "use crate::memory::{Drop, Vec};\n";
+
+/// Writes the library, with what the docs of its calls have, and the pages of its docs.
+pub fn write_library(name: &str, pages_name: &str) -> Result<(), String> {
+    let pages = Pages::of(&LIBRARY)?;
+    write_file(name, &written(Path::new("crates"), &LIBRARY, &[], Some(&pages))?)?;
+    pages.examples.end()?;
+    write_file(pages_name, &pages.definitions.modules(&LIBRARY)?)
+}
+
+/// Writes crates as the modules of one file. Those of `with_memory` take memory, and the others have no module that
+/// does.
+pub fn write(name: &str, crates: &[&str], with_memory: &[&str]) -> Result<(), String> {
+    write_file(name, &written(Path::new("crates"), crates, with_memory, None)?)
+}
+
+fn write_file(name: &str, text: &str) -> Result<(), String> {
     let folder = env::var("OUT_DIR").map_err(|error| error.to_string())?;
-    let mut erasing = Erasing::default();
-    if crates == LIBRARY {
-        erasing.examples = Some(Examples::of(crates)?);
-        erasing.definitions = Definitions::of(crates)?;
+    fs::write(format!("{folder}/{name}"), text).map_err(|error| error.to_string())
+}
+
+/// Crates, which are folders of `top`, as modules of Rust, with what the docs of their calls have.
+pub fn written(
+    top: &Path,
+    crates: &[&str],
+    with_memory: &[&str],
+    pages: Option<&Pages>,
+) -> Result<String, String> {
+    let mut files = BTreeMap::new();
+    for krate in crates {
+        gather(top, krate, root(krate), with_memory, &mut files)?;
     }
+    let mut modules = Modules::default();
+    for (name, file) in &files {
+        let module = name.replace("/lib", "").replace('/', "::");
+        let source = Source::new(&file.text).map_err(|error| file.named(&error))?;
+        modules.traits.read(&module, &source).map_err(|error| file.named(&error))?;
+        modules.sources.insert(name, (file, source));
+    }
+    modules.with_memory = with_memory;
+    modules.pages = pages;
+    let known = LIBRARY.iter().all(|krate| crates.contains(krate)).then(Known::new);
     let mut out = String::new();
     for krate in crates {
-        erasing.krate = krate.to_string();
-        let root = if *krate == "prog" { "adapters" } else { "lib" };
-        let text = file(krate, root, memory, &mut erasing)?;
+        let text = modules.written(&format!("{krate}/{}", root(krate)), known.as_ref())?;
         out += &format!("pub mod {krate} {{\n{text}}}\n");
     }
-    erasing.examples.map_or(Ok(()), |examples| examples.end())?;
-    fs::write(format!("{folder}/{name}"), out).map_err(|error| error.to_string())
+    let unused = known.map_or(Vec::new(), |known| known.unused());
+    let unmatched = unmatched(crates, &files).chain(unused).collect::<Vec<_>>();
+    if unmatched.is_empty() { Ok(out) } else { Err(unmatched.join("\n")) }
 }
 
-/// Writes the pages of the docs that are no item's.
-pub fn write_pages(name: &str) -> Result<(), String> {
-    let folder = env::var("OUT_DIR").map_err(|error| error.to_string())?;
-    let out = Definitions::of(&LIBRARY)?.pages(&LIBRARY)?;
-    fs::write(format!("{folder}/{name}"), out).map_err(|error| error.to_string())
+/// The file in which a crate begins.
+fn root(krate: &str) -> &str {
+    if krate == "prog" { "adapters" } else { "lib" }
 }
 
-/// A file of a crate in Rust, with those that it names.
-fn file(krate: &str, name: &str, memory: &str, erasing: &mut Erasing) -> Result<String, String> {
-    let path = format!("crates/fixed_{krate}/src/{name}.rt").replace("fixed_tests_", "tests_");
-    let at = |error| format!("{path}: {error}");
-    let source = fs::read_to_string(&path).map_err(|error| at(error.to_string()))?;
-    let is_library = memory.is_empty() && LIBRARY.contains(&krate);
-    let is_public = is_library && !INSIDE.contains(&format!("{krate}/{name}").as_str());
-    let is_strict = krate == "strict";
-    // Strict forms stop in every build.
-    let debugging = if is_strict { "assert" } else { "debug_assert" };
-    let known = KNOWN.replace("debug_assert", debugging);
-    erasing.known = if is_public { known } else { String::new() };
-    let text = erasing.erased(&source).map_err(at)? + memory;
-    let mut out = String::new();
-    for line in named(&text, krate, is_library).lines() {
-        let item = line.strip_suffix(';').unwrap_or_default();
-        let item = item.strip_prefix("pub ").unwrap_or(item);
-        let (kind, path) = item.split_once(' ').unwrap_or_default();
-        let (module, offered) = path.split_once("::").unwrap_or((path, ""));
-        let path = format!("{krate}/{module}");
-        let is_left_out = LEFT_OUT.contains(&module) || LEFT_OUT.contains(&path.as_str());
-        if memory.is_empty() && is_left_out {
-            // No link leads to what the module would offer.
-            out = out.replace(&format!("[`{offered}`]"), &format!("`{offered}`"));
-        } else if kind == "mod" {
-            let text = file(krate, module, memory, erasing)?;
-            out += &format!("{}{text}}}\n", line.replace(';', " {\n"));
-        } else {
-            out += &format!("{line}\n");
+/// The entries of tables that name no file of the crates.
+fn unmatched<'a>(crates: &'a [&str], files: &'a BTreeMap<String, File>) -> impl Iterator<Item = String> + 'a {
+    let entries = INSIDE.iter().chain(&LEFT_OUT);
+    let of_crates = entries.filter(|entry| crates.iter().any(|krate| entry.split('/').next() == Some(krate)));
+    let missing = of_crates.filter(|entry| !files.contains_key(**entry));
+    missing.map(|entry| format!("rust/script/modules.rs: no file {entry}"))
+}
+
+/// A file of a crate.
+struct File {
+    path: String,
+    text: String,
+    is_left_out: bool,
+}
+
+impl File {
+    /// An error with the path in front of its line.
+    fn named(&self, error: &str) -> String {
+        format!("{}:{error}", self.path)
+    }
+}
+
+/// Reads a file of a crate, with those that it names.
+fn gather(
+    top: &Path,
+    krate: &str,
+    name: &str,
+    with_memory: &[&str],
+    files: &mut BTreeMap<String, File>,
+) -> Result<(), String> {
+    let folder = format!("fixed_{krate}").replace("fixed_tests_", "tests_");
+    let path = format!("{}/{folder}/src/{name}.rt", top.display());
+    let text = fs::read_to_string(&path).map_err(|error| format!("{path}: {error}"))?;
+    let source = Source::new(&text).map_err(|error| format!("{path}:{error}"))?;
+    let key = format!("{krate}/{name}");
+    let is_left_out = LEFT_OUT.contains(&key.as_str()) && !with_memory.contains(&krate);
+    for item in source.items.iter().filter(|_| !is_left_out) {
+        if let Part::Module(module) = item.part {
+            gather(top, krate, source.sign(module), with_memory, files)?;
         }
     }
-    Ok(out)
+    let text = text.clone();
+    files.insert(key, File { path, text, is_left_out });
+    Ok(())
 }
 
-/// A text with the names of crates as modules, which stand in `use` items and in links alone. The front crate `fixed`
-/// is the package itself.
-fn named(text: &str, krate: &str, is_library: bool) -> String {
-    // The strict forms know the numbers by the module where each number has to fit.
-    let numbers = if krate == "strict" { "stopping" } else { "num" };
-    let std = if is_library { "core" } else { "std" };
-    text.replace("use crate::", &format!("use crate::{krate}::"))
-        .replace("](crate::", &format!("](crate::{krate}::"))
-        .replace("use fixed_num::", &format!("use crate::{numbers}::"))
-        .replace("use fixed_", "use crate::")
-        .replace("use fixed::", "use crate::")
-        .replace("](fixed_", "](crate::")
-        .replace("use std::alloc::", "use crate::memory::")
-        .replace("use std::", &format!("use {std}::"))
+/// The files of crates.
+#[derive(Default)]
+struct Modules<'a> {
+    sources: BTreeMap<&'a str, (&'a File, Source<'a>)>,
+    traits: Traits,
+    with_memory: &'a [&'a str],
+    pages: Option<&'a Pages>,
+}
+
+impl Modules<'_> {
+    /// A file in Rust, with those that it names.
+    fn written(&self, name: &str, known: Option<&Known>) -> Result<String, String> {
+        let (file, source) = self.sources.get(name).ok_or_else(|| format!("no file {name}"))?;
+        let krate = name.split('/').next().unwrap_or_default();
+        let has_memory = self.with_memory.contains(&krate);
+        let erasing = Erasing {
+            source,
+            file: name,
+            known: known.filter(|_| !INSIDE.contains(&name) && !has_memory),
+            // Strict forms stop in every build.
+            is_strict: krate == "strict",
+            traits: &self.traits,
+            pages: self.pages,
+        };
+        let mut edits = erasing.edits().map_err(|error| file.named(&error))?;
+        let left_out = self.modules(krate, source, known, &mut edits)?;
+        let is_library = LIBRARY.contains(&krate) && !has_memory;
+        let names = Names { krate, is_library, left_out };
+        names.edit(source, &mut edits);
+        let memory = if has_memory { MEMORY } else { "" };
+        Ok(edits.applied(source.text) + memory)
+    }
+
+    /// The edits for the modules that a file names. It says which names would be offered by those that are left out.
+    fn modules(
+        &self,
+        krate: &str,
+        source: &Source,
+        known: Option<&Known>,
+        edits: &mut Edits,
+    ) -> Result<Vec<String>, String> {
+        let mut left_out = Vec::new();
+        for item in &source.items {
+            let name = match &item.part {
+                Part::Module(name) => *name,
+                Part::Use(path) => path.start,
+                _ => continue,
+            };
+            let path = format!("{krate}/{}", source.sign(name));
+            let found = self.sources.get(path.as_str());
+            let is_left_out = found.is_some_and(|(file, _)| file.is_left_out);
+            match &item.part {
+                Part::Use(path) if is_left_out => {
+                    let (names, _) = imports(&source.code(path), &[]);
+                    left_out.extend(names.into_iter().map(|(name, _)| name));
+                    edits.remove(source, source.with_above(item));
+                }
+                Part::Module(_) if is_left_out => edits.remove(source, source.with_above(item)),
+                Part::Module(name) => {
+                    let text = self.written(&path, known)?;
+                    let end = bytes(source, &(*name..item.place.end));
+                    edits.replace(source.tokens[*name].end()..end.end, &format!(" {{\n{text}}}"));
+                }
+                _ => {}
+            }
+        }
+        Ok(left_out)
+    }
 }

@@ -1,8 +1,25 @@
 //! The pages of the docs beside those of items: the guide, the definitions, and a page for each file of definitions in
 //! `crates/*/specs`, to which the contracts of calls link.
 
+use crate::script::examples::Examples;
 use std::collections::BTreeSet;
 use std::fs;
+
+/// What the docs of a library have beside the contracts of its calls.
+pub struct Pages {
+    pub examples: Examples,
+    pub definitions: Definitions,
+}
+
+impl Pages {
+    /// The examples and definitions of crates.
+    pub fn of(krates: &[&str]) -> Result<Pages, String> {
+        Ok(Pages {
+            examples: Examples::of(krates)?,
+            definitions: Definitions::of(krates)?,
+        })
+    }
+}
 
 /// The files of definitions that contracts cite.
 #[derive(Default)]
@@ -79,8 +96,8 @@ impl Definitions {
         own.or(candidates.last()).copied()
     }
 
-    /// All pages as modules of Rust.
-    pub fn pages(&self, krates: &[&str]) -> Result<String, String> {
+    /// The guide, the definitions and their files as modules of Rust.
+    pub fn modules(&self, krates: &[&str]) -> Result<String, String> {
         let guide = linked(&read("docs/GUIDE.md")?, krates)?;
         let definitions = self.named(linked(&read("docs/DEFINITIONS.md")?, krates)?);
         let files: Vec<String> = self.files.iter().map(File::page).collect();
