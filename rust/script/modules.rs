@@ -56,14 +56,15 @@ pub fn written(top: &Path, crates: &[&str], with_memory: &[&str]) -> Result<Stri
         modules.sources.insert(name, (file, source));
     }
     modules.with_memory = with_memory;
-    let known = LIBRARY.iter().all(|krate| crates.contains(krate)).then(Known::new);
+    let known = Known::new();
     let mut out = String::new();
     for krate in crates {
-        let text = modules.written(&format!("{krate}/{}", root(krate)), known.as_ref())?;
+        let text = modules.written(&format!("{krate}/{}", root(krate)), &known)?;
         out += &format!("pub mod {krate} {{\n{text}}}\n");
     }
-    let unused = known.map_or(Vec::new(), |known| known.unused());
-    let unmatched = unmatched(crates, &files).chain(unused).collect::<Vec<_>>();
+    let is_whole = LIBRARY.iter().all(|krate| crates.contains(krate));
+    let unused = known.unused().into_iter().filter(|_| is_whole);
+    let unmatched: Vec<String> = unmatched(crates, &files).chain(unused).collect();
     if unmatched.is_empty() { Ok(out) } else { Err(unmatched.join("\n")) }
 }
 
@@ -128,21 +129,22 @@ struct Modules<'a> {
 
 impl Modules<'_> {
     /// A file in Rust, with those that it names.
-    fn written(&self, name: &str, known: Option<&Known>) -> Result<String, String> {
+    fn written(&self, name: &str, known: &Known) -> Result<String, String> {
         let (file, source) = self.sources.get(name).ok_or_else(|| format!("no file {name}"))?;
         let krate = name.split('/').next().unwrap_or_default();
         let has_memory = self.with_memory.contains(&krate);
+        let is_library = LIBRARY.contains(&krate) && !has_memory;
+        let is_offered = is_library && !INSIDE.contains(&name);
         let erasing = Erasing {
             source,
             file: name,
-            known: known.filter(|_| !INSIDE.contains(&name) && !has_memory),
+            known: is_offered.then_some(known),
             // Strict forms stop in every build.
             is_strict: krate == "strict",
             traits: &self.traits,
         };
         let mut edits = erasing.edits().map_err(|error| file.named(&error))?;
         let left_out = self.modules(krate, source, known, &mut edits)?;
-        let is_library = LIBRARY.contains(&krate) && !has_memory;
         let names = Names { krate, is_library, left_out };
         names.edit(source, &mut edits);
         let memory = if has_memory { MEMORY } else { "" };
@@ -154,7 +156,7 @@ impl Modules<'_> {
         &self,
         krate: &str,
         source: &Source,
-        known: Option<&Known>,
+        known: &Known,
         edits: &mut Edits,
     ) -> Result<Vec<String>, String> {
         let mut left_out = Vec::new();
