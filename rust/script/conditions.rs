@@ -13,7 +13,7 @@ struct Kind {
     sentence: &'static str,
 }
 
-const KINDS: [Kind; 4] = [
+const KINDS: [Kind; 5] = [
     Kind {
         name: "const",
         assertion: "const { assert!($) };",
@@ -25,6 +25,13 @@ const KINDS: [Kind; 4] = [
         assertion: "assert!($);",
         heading: "Panics",
         sentence: "Panics unless $.",
+    },
+    Kind {
+        name: "uncounted",
+        assertion: "assert!($);",
+        heading: "Panics",
+        sentence: "If the ledger `L` counts nothing, panics unless $. If it counts, nothing is tested, and the result has a \
+            meaning only if $.",
     },
     Kind {
         name: "debug_assert",

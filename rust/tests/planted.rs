@@ -4,6 +4,10 @@
 #[allow(dead_code)]
 mod script;
 
+#[path = "../c/pointers.rs"]
+mod pointers;
+
+use pointers::with_pointers;
 use script::modules::{LIBRARY, written};
 use std::fs;
 use std::path::{Path, PathBuf};
@@ -250,4 +254,30 @@ fn strict_calls_by_the_path_of_their_trait() {
     let after = with_changes("strict_by_path", &[(strict, named.0, named.1)]).expect("a library");
     assert_eq!(before.replacen(named.0, "crate::strict::strict::Strict for Fixed<T, F>", 1), after);
     assert!(module(&after, "strict").contains("assert!(rhs < T::BITS"));
+}
+
+/// What the face for C is with a change in the file of one word.
+fn face(name: &str, old: &str, new: &str) -> Result<String, String> {
+    let planted = [("fixed_c/src/signed_8.rt", old, new)];
+    with_pointers(&of_crates(name, &["c"], &planted)?)
+}
+
+/// Each slice that an export takes becomes a pointer and a count.
+#[test]
+fn slices_of_exports() {
+    let whole = face("face", "", "").expect("a face");
+    assert!(whole.contains("coefs: *const i8, coefs_count: usize,"));
+    assert!(whole.contains("past: *mut u64, past_count: usize,"));
+    assert_eq!(whole.matches("unsafe { crate::slice(coefs, coefs_count) }").count(), 8);
+    assert_eq!(whole.matches("unsafe { crate::slice_mut(past, past_count) }").count(), 8);
+    let refused = [
+        ("    x: i8,\n", "    x: &[i8],\n", "a slice that is not in the table: fixed_i8_horner: x"),
+        ("coefs: &[i8]", "coefs: Option<&[i8]>", "fixed_i8_horner: a slice of no known form: Option < & [ i8 ]"),
+        ("fn fixed_i8_horner", "fn fixed_i8_value", "nothing matches the slice fixed_i8_horner: coefs"),
+        ("horner(coefs, x, frac", "horner(if x == 0 { coefs } else { coefs }, x, frac", "fixed_i8_horner: coefs is not used once"),
+    ];
+    for (at, (old, new, error)) in refused.into_iter().enumerate() {
+        let said = face(&format!("face_{at}"), old, new).err();
+        assert_eq!(said, Some(format!("fixed_c: {error}")));
+    }
 }
