@@ -13,7 +13,7 @@ struct Kind {
     sentence: &'static str,
 }
 
-const KINDS: [Kind; 4] = [
+const KINDS: [Kind; 5] = [
     Kind {
         name: "const",
         assertion: "const { assert!($) };",
@@ -25,6 +25,13 @@ const KINDS: [Kind; 4] = [
         assertion: "assert!($);",
         heading: "Panics",
         sentence: "Panics unless $.",
+    },
+    Kind {
+        name: "uncounted",
+        assertion: "assert!($);",
+        heading: "Panics",
+        sentence: "If the ledger `L` counts nothing, panics unless $. If it counts, nothing is tested, and the result has a \
+            meaning only if $.",
     },
     Kind {
         name: "debug_assert",
@@ -57,14 +64,19 @@ pub struct Known {
     pub forms: Table,
     pub stopping: Table,
     pub added: Table,
+    /// The functions that the stopping bodies call.
+    called: Vec<&'static str>,
 }
 
 impl Known {
     pub fn new() -> Known {
+        let stopping = Table::new("stopping.txt", include_str!("stopping.txt"));
+        let called = stopping.rows().flat_map(|row| called(row[0])).collect();
         Known {
             forms: Table::new("conditions.txt", include_str!("conditions.txt")),
-            stopping: Table::new("stopping.txt", include_str!("stopping.txt")),
+            stopping,
             added: Table::new("added.txt", include_str!("added.txt")),
+            called,
         }
     }
 
@@ -109,10 +121,9 @@ impl Known {
         self.stopping.find_map(stops).is_some()
     }
 
-    /// Whether bodies that stop by themselves call a function of this name.
+    /// Whether bodies that stop by themselves call a function of this name, which is no method.
     pub fn is_called(&self, name: &str) -> bool {
-        let calls = |row: &[&str]| code(row[0]).windows(2).any(|signs| signs == [name, "("]);
-        self.stopping.rows().iter().any(|row| calls(row))
+        self.called.contains(&name)
     }
 
     /// The rows that nothing matched.
@@ -120,6 +131,13 @@ impl Known {
         let tables = [&self.forms, &self.stopping, &self.added];
         tables.iter().flat_map(|table| table.unused()).collect()
     }
+}
+
+/// The functions that a body calls, without methods and what is called by a path.
+fn called(body: &'static str) -> Vec<&'static str> {
+    let signs = [vec!["{"], code(body)].concat();
+    let calls = signs.windows(3).filter(|signs| signs[2] == "(" && ![".", ":"].contains(&signs[0]));
+    calls.map(|signs| signs[1]).collect()
 }
 
 /// Whether a body is of a form: `(…)` has any arguments from which nothing returns early, and `…` behind a name has the

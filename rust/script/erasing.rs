@@ -70,8 +70,7 @@ impl Erasing<'_> {
 
     /// Whether an implementation goes.
     fn goes(&self, path: &Range<usize>) -> bool {
-        let signs = self.source.code(path);
-        signs.len() == 1 && GOING.contains(&signs[0])
+        GOING.contains(&self.source.slice(path))
     }
 
     /// Whether a block has a function of this name.

@@ -38,7 +38,7 @@ const MEMORY: &str = "use crate::memory::{Drop, Vec};\n";
 /// Writes the library, with what the docs of its calls have, and the pages of its docs.
 pub fn write_library(name: &str, pages_name: &str) -> Result<(), String> {
     let pages = Pages::of(&LIBRARY)?;
-    write_file(name, &written(Path::new("crates"), &LIBRARY, &[], Some(&pages))?)?;
+    write_file(name, &written_with(Path::new("crates"), &LIBRARY, &[], Some(&pages))?)?;
     pages.examples.end()?;
     write_file(pages_name, &pages.definitions.modules(&LIBRARY)?)
 }
@@ -46,7 +46,7 @@ pub fn write_library(name: &str, pages_name: &str) -> Result<(), String> {
 /// Writes crates as the modules of one file. Those of `with_memory` take memory, and the others have no module that
 /// does.
 pub fn write(name: &str, crates: &[&str], with_memory: &[&str]) -> Result<(), String> {
-    write_file(name, &written(Path::new("crates"), crates, with_memory, None)?)
+    write_file(name, &written(Path::new("crates"), crates, with_memory)?)
 }
 
 fn write_file(name: &str, text: &str) -> Result<(), String> {
@@ -54,8 +54,13 @@ fn write_file(name: &str, text: &str) -> Result<(), String> {
     fs::write(format!("{folder}/{name}"), text).map_err(|error| error.to_string())
 }
 
-/// Crates, which are folders of `top`, as modules of Rust, with what the docs of their calls have.
-pub fn written(
+/// Crates, which are folders of `top`, as modules of Rust.
+pub fn written(top: &Path, crates: &[&str], with_memory: &[&str]) -> Result<String, String> {
+    written_with(top, crates, with_memory, None)
+}
+
+/// The same, with what the docs of their calls have.
+fn written_with(
     top: &Path,
     crates: &[&str],
     with_memory: &[&str],
@@ -74,14 +79,15 @@ pub fn written(
     }
     modules.with_memory = with_memory;
     modules.pages = pages;
-    let known = LIBRARY.iter().all(|krate| crates.contains(krate)).then(Known::new);
+    let known = Known::new();
     let mut out = String::new();
     for krate in crates {
-        let text = modules.written(&format!("{krate}/{}", root(krate)), known.as_ref())?;
+        let text = modules.written(&format!("{krate}/{}", root(krate)), &known)?;
         out += &format!("pub mod {krate} {{\n{text}}}\n");
     }
-    let unused = known.map_or(Vec::new(), |known| known.unused());
-    let unmatched = unmatched(crates, &files).chain(unused).collect::<Vec<_>>();
+    let is_whole = LIBRARY.iter().all(|krate| crates.contains(krate));
+    let unused = known.unused().into_iter().filter(|_| is_whole);
+    let unmatched: Vec<String> = unmatched(crates, &files).chain(unused).collect();
     if unmatched.is_empty() { Ok(out) } else { Err(unmatched.join("\n")) }
 }
 
@@ -147,14 +153,16 @@ struct Modules<'a> {
 
 impl Modules<'_> {
     /// A file in Rust, with those that it names.
-    fn written(&self, name: &str, known: Option<&Known>) -> Result<String, String> {
+    fn written(&self, name: &str, known: &Known) -> Result<String, String> {
         let (file, source) = self.sources.get(name).ok_or_else(|| format!("no file {name}"))?;
         let krate = name.split('/').next().unwrap_or_default();
         let has_memory = self.with_memory.contains(&krate);
+        let is_library = LIBRARY.contains(&krate) && !has_memory;
+        let is_offered = is_library && !INSIDE.contains(&name);
         let erasing = Erasing {
             source,
             file: name,
-            known: known.filter(|_| !INSIDE.contains(&name) && !has_memory),
+            known: is_offered.then_some(known),
             // Strict forms stop in every build.
             is_strict: krate == "strict",
             traits: &self.traits,
@@ -162,7 +170,6 @@ impl Modules<'_> {
         };
         let mut edits = erasing.edits().map_err(|error| file.named(&error))?;
         let left_out = self.modules(krate, source, known, &mut edits)?;
-        let is_library = LIBRARY.contains(&krate) && !has_memory;
         let names = Names { krate, is_library, left_out };
         names.edit(source, &mut edits);
         let memory = if has_memory { MEMORY } else { "" };
@@ -174,7 +181,7 @@ impl Modules<'_> {
         &self,
         krate: &str,
         source: &Source,
-        known: Option<&Known>,
+        known: &Known,
         edits: &mut Edits,
     ) -> Result<Vec<String>, String> {
         let mut left_out = Vec::new();

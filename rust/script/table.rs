@@ -38,8 +38,8 @@ impl Table {
     }
 
     /// The columns of each row.
-    pub fn rows(&self) -> Vec<&[&'static str]> {
-        self.rows.iter().map(|row| row.columns.as_slice()).collect()
+    pub fn rows(&self) -> impl Iterator<Item = &[&'static str]> {
+        self.rows.iter().map(|row| row.columns.as_slice())
     }
 
     /// The rows that nothing matched.

@@ -26,6 +26,13 @@ thread_local! {
     static STOPPED: RefCell<Option<(String, String)>> = const { RefCell::new(None) };
 }
 
+/// What a panic says.
+fn message(info: &PanicHookInfo) -> String {
+    let formatted = info.payload().downcast_ref::<String>().cloned();
+    let constant = info.payload().downcast_ref::<&str>().map(|text| text.to_string());
+    formatted.or(constant).unwrap_or_default()
+}
+
 /// Keeps the file and the message of a panic on a thread that watches.
 fn watch() {
     static ONCE: Once = Once::new();
@@ -33,8 +40,7 @@ fn watch() {
         let before = panic::take_hook();
         panic::set_hook(Box::new(move |info: &PanicHookInfo| {
             let file = info.location().map_or("", |location| location.file());
-            let message = info.payload_as_str().unwrap_or_default();
-            let stopped = Some((file.to_string(), message.to_string()));
+            let stopped = Some((file.to_string(), message(info)));
             match STOPPED.replace(None) {
                 Some(_) => drop(STOPPED.replace(stopped)),
                 None => before(info),
