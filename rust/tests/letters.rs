@@ -44,7 +44,9 @@ fn signs(path: &str, text: &str) -> Vec<Sign> {
 
 /// Whether signs begin with those of a text.
 fn begin(signs: &[Sign], text: &str) -> bool {
-    let is_first = signs.first().is_some_and(|sign| text.starts_with(&sign.text));
+    let is_first = signs
+        .first()
+        .is_some_and(|sign| text.starts_with(&sign.text));
     if !is_first {
         return false;
     }
@@ -74,11 +76,17 @@ fn ghost(signs: &[Sign]) -> usize {
         "ghost" => length(signs, &[";", ","]),
         "pub" if begin(signs, "pub ghost") => length(signs, &[";", ","]),
         "requires" | "ensures" => length(signs, &["}"]),
-        "#" if ["#[tactic(", "#![tactic(", "#[error("].iter().any(|form| begin(signs, form)) => {
+        "#" if ["#[tactic(", "#![tactic(", "#[error("]
+            .iter()
+            .any(|form| begin(signs, form)) =>
+        {
             length(signs, &["]"])
         }
         "impl" => {
-            let head = signs.iter().position(|sign| sign.text == "{").expect("a block");
+            let head = signs
+                .iter()
+                .position(|sign| sign.text == "{")
+                .expect("a block");
             let of_prover = |pair: &[Sign]| begin(pair, "Clone for") || begin(pair, "Model for");
             match signs[..head].windows(2).any(of_prover) {
                 true => head + length(&signs[head..], &["}"]),
@@ -93,7 +101,9 @@ fn ghost(signs: &[Sign]) -> usize {
 fn derives(signs: &[Sign]) -> (String, usize) {
     let end = length(signs, &["]"]);
     let names = signs[4..end - 2].iter().map(|sign| sign.text.as_str());
-    let mut names: Vec<&str> = names.filter(|name| ![",", "Drop", "Error"].contains(name)).collect();
+    let mut names: Vec<&str> = names
+        .filter(|name| ![",", "Drop", "Error"].contains(name))
+        .collect();
     if names.first() == Some(&"Copy") {
         names.insert(0, "Clone");
     }
@@ -113,9 +123,13 @@ fn expected(krate: &str, file: &str, out: &mut Vec<Sign>) {
         let rest = &source[at..];
         let mut put = |text: &str| {
             let place = rest[0].place.clone();
-            out.extend(signs("", text).into_iter().map(|sign| Sign { place: place.clone(), ..sign }));
+            out.extend(signs("", text).into_iter().map(|sign| Sign {
+                place: place.clone(),
+                ..sign
+            }));
         };
-        let is_left_out = |name: &Sign| LEFT_OUT.contains(&format!("{krate}/{}", name.text).as_str());
+        let is_left_out =
+            |name: &Sign| LEFT_OUT.contains(&format!("{krate}/{}", name.text).as_str());
         let form = FORMS.iter().find(|(old, _)| begin(rest, old));
         at += match ghost(rest) {
             0 if form.is_some() => form.map_or(0, |(old, new)| {
@@ -155,7 +169,9 @@ fn crate_name(krate: &str, name: &str) -> String {
         "crate" => format!("crate::{krate}"),
         "std" => "core".to_string(),
         "fixed_num" if krate == "strict" => "crate::stopping".to_string(),
-        _ => name.strip_prefix("fixed_").map_or(name.to_string(), |of| format!("crate::{of}")),
+        _ => name
+            .strip_prefix("fixed_")
+            .map_or(name.to_string(), |of| format!("crate::{of}")),
     }
 }
 
@@ -170,7 +186,10 @@ fn written(text: &str) -> Vec<Sign> {
         at += added.max(1);
     }
     let pairs = all.into_iter().zip(kept);
-    pairs.filter(|(_, kept)| *kept).map(|(sign, _)| sign).collect()
+    pairs
+        .filter(|(_, kept)| *kept)
+        .map(|(sign, _)| sign)
+        .collect()
 }
 
 /// How many signs the build script adds.
@@ -178,9 +197,17 @@ fn added(signs: &[Sign]) -> usize {
     if begin(signs, "#[track_caller]") {
         return code("#[track_caller]").len();
     }
-    let is_assertion = ["const { assert!(", "assert!(", "debug_assert!("].iter().any(|form| begin(signs, form));
-    let end = if is_assertion { length(signs, &[";"]) } else { return 0 };
-    let says = signs[..end].iter().any(|sign| sign.text.starts_with("\"condition: "));
+    let is_assertion = ["const { assert!(", "assert!(", "debug_assert!("]
+        .iter()
+        .any(|form| begin(signs, form));
+    let end = if is_assertion {
+        length(signs, &[";"])
+    } else {
+        return 0;
+    };
+    let says = signs[..end]
+        .iter()
+        .any(|sign| sign.text.starts_with("\"condition: "));
     if says { end } else { 0 }
 }
 
@@ -193,11 +220,18 @@ fn difference(library: &str) -> Option<String> {
         all.extend(signs("", "}"));
     }
     let written = written(library);
-    let end = Sign { text: "the end".to_string(), place: String::new() };
-    let pairs = (0..all.len().max(written.len())).map(|at| (all.get(at).unwrap_or(&end), written.get(at).unwrap_or(&end)));
+    let end = Sign {
+        text: "the end".to_string(),
+        place: String::new(),
+    };
+    let pairs = (0..all.len().max(written.len()))
+        .map(|at| (all.get(at).unwrap_or(&end), written.get(at).unwrap_or(&end)));
     let mut differing = pairs.filter(|(source, written)| source.text != written.text);
     differing.next().map(|(source, written)| {
-        format!("{}: `{}`, and in {}: `{}`", source.place, source.text, written.place, written.text)
+        format!(
+            "{}: `{}`, and in {}: `{}`",
+            source.place, source.text, written.place, written.text
+        )
     })
 }
 
@@ -212,7 +246,8 @@ fn planted_differences() {
     assert_eq!(WRITTEN.matches("steps.tick();\n").count(), 32);
     let erased = difference(&WRITTEN.replace("steps.tick();\n", "\n"));
     assert!(erased.is_some_and(|said| said.contains("fixed_word/src/digits.rt")));
-    let added = difference(&WRITTEN.replacen("steps.tick();\n", "steps.tick(); steps.tick();\n", 1));
+    let added =
+        difference(&WRITTEN.replacen("steps.tick();\n", "steps.tick(); steps.tick();\n", 1));
     assert!(added.is_some_and(|said| said.contains("fixed_word/src/digits.rt")));
     let checked = "Checked, CheckedSigned";
     let moved = difference(&WRITTEN.replacen(checked, "CheckedSigned, Checked", 1));
