@@ -3,7 +3,7 @@
 
 mod script;
 
-use script::modules::{write, write_library};
+use script::modules::{LIBRARY, write, write_library};
 
 /// The tests of the library, and the example that they test.
 const TESTS: [&str; 5] = [
@@ -24,7 +24,7 @@ fn main() -> Result<(), String> {
     println!("cargo::rerun-if-changed=crates");
     println!("cargo::rerun-if-changed=docs");
     println!("cargo::rerun-if-changed=rust");
-    write_library("library.rs", "pages.rs")?;
+    write_library(&LIBRARY, &[])?;
     write("tests.rs", &TESTS, &[])?;
     write("program.rs", &PROGRAM, &PROGRAM)?;
     write("runs.rs", &RUNS, &RUNS)

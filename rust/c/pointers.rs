@@ -35,7 +35,9 @@ pub fn with_pointers(text: &str) -> Result<String, String> {
     let other = found.iter().find(|entry| !table.contains(entry));
     match (missing, other) {
         (Some(entry), _) => Err(format!("fixed_c: nothing matches the slice {entry}")),
-        (_, Some(entry)) => Err(format!("fixed_c: a slice that is not in the table: {entry}")),
+        (_, Some(entry)) => Err(format!(
+            "fixed_c: a slice that is not in the table: {entry}"
+        )),
         _ => Ok(edits.applied(text)),
     }
 }
@@ -43,7 +45,9 @@ pub fn with_pointers(text: &str) -> Result<String, String> {
 /// The slices of the table, each behind the name of its export.
 fn table() -> Vec<String> {
     let of_word = |word: &str| {
-        let entries = SLICES.iter().flat_map(|(name, slices)| slices.iter().map(move |slice| (name, slice)));
+        let entries = SLICES
+            .iter()
+            .flat_map(|(name, slices)| slices.iter().map(move |slice| (name, slice)));
         let named = entries.map(|(name, slice)| format!("fixed_{word}_{name}: {slice}"));
         named.collect::<Vec<_>>()
     };
@@ -70,7 +74,8 @@ fn slices<'a>(source: &Source<'a>, function: &Function) -> Result<Vec<Slice<'a>>
         let name = open - 3 - usize::from(is_written);
         let signs = source.code(&(name..open + 3));
         match signs[..] {
-            [name_sign, ":", "&", "[", word, "]"] | [name_sign, ":", "&", "mut", "[", word, "]"] => found.push(Slice {
+            [name_sign, ":", "&", "[", word, "]"]
+            | [name_sign, ":", "&", "mut", "[", word, "]"] => found.push(Slice {
                 name: name_sign,
                 parameter: name..open + 3,
                 word,
@@ -83,9 +88,18 @@ fn slices<'a>(source: &Source<'a>, function: &Function) -> Result<Vec<Slice<'a>>
 }
 
 /// Changes the parameter, and the only place where the export hands the slice on.
-fn change(source: &Source, function: &Function, slice: &Slice, edits: &mut Edits) -> Result<(), String> {
+fn change(
+    source: &Source,
+    function: &Function,
+    slice: &Slice,
+    edits: &mut Edits,
+) -> Result<(), String> {
     let Slice { name, word, .. } = slice;
-    let (pointer, call) = if slice.is_written { ("*mut", "slice_mut") } else { ("*const", "slice") };
+    let (pointer, call) = if slice.is_written {
+        ("*mut", "slice_mut")
+    } else {
+        ("*const", "slice")
+    };
     let mut uses = function.body.clone().filter(|at| source.sign(*at) == *name);
     let (Some(used), None) = (uses.next(), uses.next()) else {
         return Err(format!("{name} is not used once"));

@@ -25,7 +25,9 @@ pub fn change(source: &Source, edits: &mut Edits) {
 
 /// The rows of the table: the signs of the old form, whether a space goes with it, and the new form.
 fn rows() -> Vec<(Vec<&'static str>, bool, &'static str)> {
-    let columns = CHANGES.lines().map(|line| line.split('`').collect::<Vec<_>>());
+    let columns = CHANGES
+        .lines()
+        .map(|line| line.split('`').collect::<Vec<_>>());
     let rows = columns.filter_map(|columns| match columns[..] {
         [_, old, _, new, _] => Some((code(old), old.ends_with(' '), new)),
         _ => None,
@@ -34,7 +36,12 @@ fn rows() -> Vec<(Vec<&'static str>, bool, &'static str)> {
 }
 
 /// Changes a form that begins at a token, if one does, and says where it ends.
-fn form(source: &Source, at: usize, rows: &[(Vec<&str>, bool, &str)], edits: &mut Edits) -> Option<usize> {
+fn form(
+    source: &Source,
+    at: usize,
+    rows: &[(Vec<&str>, bool, &str)],
+    edits: &mut Edits,
+) -> Option<usize> {
     let begins = |old: &[&str]| (at..).zip(old).all(|(at, sign)| source.sign(at) == *sign);
     let (old, has_space, new) = rows.iter().find(|(old, ..)| begins(old))?;
     let end = at + old.len();
@@ -60,7 +67,9 @@ fn attribute(source: &Source, at: usize, edits: &mut Edits) -> Option<usize> {
     }
     if source.sign(name) == "derive" {
         let names = source.code(&(name + 2..end - 2));
-        let known = names.iter().filter(|name| **name != "," && !UNKNOWN.contains(name));
+        let known = names
+            .iter()
+            .filter(|name| **name != "," && !UNKNOWN.contains(name));
         let mut known: Vec<&str> = known.copied().collect();
         // One that begins with Copy has its Clone by hand, and that goes.
         if known.first() == Some(&"Copy") {

@@ -95,7 +95,10 @@ impl Known {
         });
         let condition = found.ok_or_else(|| format!("a clause of no known form: {fact}"))?;
         if condition.test.is_empty() && body != [";"] && !self.stops(body) {
-            return Err(format!("nothing in its body stops unless {}", condition.words));
+            return Err(format!(
+                "nothing in its body stops unless {}",
+                condition.words
+            ));
         }
         Ok(condition)
     }
@@ -136,7 +139,9 @@ impl Known {
 /// The functions that a body calls, without methods and what is called by a path.
 fn called(body: &'static str) -> Vec<&'static str> {
     let signs = [vec!["{"], code(body)].concat();
-    let calls = signs.windows(3).filter(|signs| signs[2] == "(" && ![".", ":"].contains(&signs[0]));
+    let calls = signs
+        .windows(3)
+        .filter(|signs| signs[2] == "(" && ![".", ":"].contains(&signs[0]));
     calls.map(|signs| signs[1]).collect()
 }
 
@@ -151,7 +156,9 @@ fn is_of_form(form: &[&str], body: &[&str]) -> bool {
             let is_early = |sign: &&str| ["return", "?"].contains(sign);
             !inner.iter().any(is_early) && is_of_form(form, rest)
         }
-        ([name, "…", form @ ..], [sign, body @ ..]) => sign.starts_with(name) && is_of_form(form, body),
+        ([name, "…", form @ ..], [sign, body @ ..]) => {
+            sign.starts_with(name) && is_of_form(form, body)
+        }
         ([name, form @ ..], [sign, body @ ..]) => name == sign && is_of_form(form, body),
         _ => false,
     }
@@ -217,13 +224,24 @@ pub fn facts_of(source: &Source, clause: &Range<usize>) -> Vec<String> {
     });
     let ends: Vec<usize> = parts.chain([close]).collect();
     let starts = [start].into_iter().chain(ends.iter().map(|end| end + 1));
-    let words = |fact: Range<usize>| source.slice(&fact).split_whitespace().collect::<Vec<_>>().join(" ");
-    starts.zip(&ends).map(|(start, end)| words(start..*end)).collect()
+    let words = |fact: Range<usize>| {
+        source
+            .slice(&fact)
+            .split_whitespace()
+            .collect::<Vec<_>>()
+            .join(" ")
+    };
+    starts
+        .zip(&ends)
+        .map(|(start, end)| words(start..*end))
+        .collect()
 }
 
 /// The assertions of conditions, each on a line of its own.
 pub fn assertions(conditions: &[Condition], indent: &str) -> String {
-    let tested = conditions.iter().filter(|condition| !condition.test.is_empty());
+    let tested = conditions
+        .iter()
+        .filter(|condition| !condition.test.is_empty());
     let line = |condition: &Condition| {
         let Condition { test, words, .. } = condition;
         let kind = KINDS.iter().find(|kind| kind.name == condition.kind);
@@ -235,11 +253,13 @@ pub fn assertions(conditions: &[Condition], indent: &str) -> String {
 }
 
 /// The contract of a call as docs: when it does not compile, when it panics, and what is proved of it.
-pub fn docs(contract: &[String], conditions: &[Condition], indent: &str) -> String {
+pub fn docs(contract: &[String], conditions: &[Condition]) -> String {
     let mut text = String::new();
     let mut above = "";
     for kind in &KINDS {
-        let those = conditions.iter().filter(|condition| condition.kind == kind.name);
+        let those = conditions
+            .iter()
+            .filter(|condition| condition.kind == kind.name);
         let words: Vec<&str> = those.map(|condition| condition.words.as_str()).collect();
         if !words.is_empty() && kind.heading != above {
             text += &format!("\n# {}\n", kind.heading);
@@ -249,7 +269,11 @@ pub fn docs(contract: &[String], conditions: &[Condition], indent: &str) -> Stri
             text += &format!("\n{}\n", kind.sentence.replace('$', &words.join(", and ")));
         }
     }
-    text += &format!("\n# Proved\n\n```text\n{}\n```", contract.join("\n"));
+    text + &format!("\n# Proved\n\n```text\n{}\n```\n", contract.join("\n"))
+}
+
+/// A text as docs of an item behind an indent.
+pub fn doc_lines(text: &str, indent: &str) -> String {
     let lines = text.lines().map(|line| format!("/// {line}"));
     let on_a_line = |line: String| format!("{}\n{indent}", line.trim_end());
     lines.map(on_a_line).collect()

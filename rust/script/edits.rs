@@ -34,7 +34,8 @@ impl Edits {
     /// The source with its changes. An edit inside of what another one replaces goes with it.
     pub fn applied(mut self, text: &str) -> String {
         // What is inserted comes first, and then what replaces most.
-        self.edits.sort_by_key(|(bytes, _)| (bytes.start, !bytes.is_empty(), Reverse(bytes.end)));
+        self.edits
+            .sort_by_key(|(bytes, _)| (bytes.start, !bytes.is_empty(), Reverse(bytes.end)));
         let mut out = String::new();
         let mut at = 0;
         for (bytes, new) in self.edits {

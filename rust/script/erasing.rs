@@ -2,7 +2,7 @@
 //! letter. The contract of a public call joins its docs, and its conditions are asserted before its body.
 
 use crate::script::changes::change;
-use crate::script::conditions::{Condition, Known, assertions, docs, facts_of};
+use crate::script::conditions::{Condition, Known, assertions, doc_lines, docs, facts_of};
 use crate::script::edits::{Edits, bytes};
 use crate::script::items::{Function, Item, Part, Source};
 use crate::script::pages::Pages;
@@ -36,7 +36,7 @@ impl Erasing<'_> {
             let done = match &item.part {
                 Part::Ghost => self.ghost(item, &mut edits),
                 Part::Function(function) => self.function(item, function, &mut edits),
-                Part::Impl(Some(path)) if self.goes(path) => {
+                Part::Impl(Some(path), _) if self.goes(path) => {
                     edits.remove(self.source, self.source.with_above(item));
                     Ok(())
                 }
@@ -51,7 +51,10 @@ impl Erasing<'_> {
     /// Each clause, wherever it stands, is one that a function was read with.
     fn account(&self) -> Result<(), String> {
         let functions = self.functions().map(|(_, function)| function);
-        let read: Vec<usize> = functions.flat_map(|function| &function.clauses).map(|clause| clause.start).collect();
+        let read: Vec<usize> = functions
+            .flat_map(|function| &function.clauses)
+            .map(|clause| clause.start)
+            .collect();
         let lost = (0..self.source.tokens.len()).find(|at| {
             ["requires", "ensures"].contains(&self.source.sign(*at)) && !read.contains(at)
         });
@@ -62,10 +65,13 @@ impl Erasing<'_> {
     }
 
     fn functions(&self) -> impl Iterator<Item = (&Item, &Function)> {
-        self.source.items.iter().filter_map(|item| match &item.part {
-            Part::Function(function) => Some((item, function)),
-            _ => None,
-        })
+        self.source
+            .items
+            .iter()
+            .filter_map(|item| match &item.part {
+                Part::Function(function) => Some((item, function)),
+                _ => None,
+            })
     }
 
     /// Whether an implementation goes.
@@ -76,13 +82,17 @@ impl Erasing<'_> {
     /// Whether a block has a function of this name.
     fn has_function(&self, block: Option<usize>, name: &str) -> bool {
         let mut functions = self.functions();
-        functions.any(|(item, function)| item.block == block && self.source.sign(function.name) == name)
+        functions
+            .any(|(item, function)| item.block == block && self.source.sign(function.name) == name)
     }
 
     /// The name of a ghost item.
     fn ghost_name(&self, ghost: &Item) -> &str {
         let signs = self.source.code(&ghost.place);
-        let name = signs.iter().position(|sign| *sign == "ghost").map_or(0, |at| at + 1);
+        let name = signs
+            .iter()
+            .position(|sign| *sign == "ghost")
+            .map_or(0, |at| at + 1);
         signs.get(name).copied().unwrap_or_default()
     }
 
@@ -105,64 +115,53 @@ impl Erasing<'_> {
 
     /// A function with assertions of its conditions, below its contract as docs if docs stand above.
     fn function(&self, item: &Item, function: &Function, edits: &mut Edits) -> Result<(), String> {
-        let name = self.source.sign(function.name);
-        let mut lines = String::new();
+        let path = self.source.path_of(item, function);
+        let conditions = self.conditions(item, function);
+        let conditions = conditions.map_err(|message| format!("{path}: {message}"))?;
+        let contract = self.contract(item, function);
         let start = bytes(self.source, &item.place).start;
         let before = &self.source.text[..start];
-        let indent = " ".repeat(before.len() - before.trim_end_matches(' ').len());
-        let contract = self.contract(item, function, name);
-        let conditions = self.conditions(item, function, name).map_err(|message| format!("{name}: {message}"))?;
+        let indent = &" ".repeat(before.len() - before.trim_end_matches(' ').len());
         if self.is_offered(item, function) && self.has_docs(item) {
-            lines += &self.example(item, name, &indent)?;
-            if !contract.is_empty() {
-                lines += &docs(&contract, &conditions, &indent);
-                lines += &self.definitions(&contract, &indent);
-            }
+            edits.insert(
+                start,
+                &doc_lines(&self.docs(&path, &contract, &conditions)?, indent),
+            );
         }
-        let is_declared = self.source.sign(function.body.start) == ";";
+        let name = self.source.sign(function.name);
         let is_called = self.known.is_some_and(|known| known.is_called(name));
+        let is_declared = self.source.sign(function.body.start) == ";";
         if !is_declared && (!conditions.is_empty() || is_called) {
             // A call that stops names the line of its caller.
-            lines += &format!("#[track_caller]\n{indent}");
-        }
-        edits.insert(start, &lines);
-        self.without_clauses(function, edits);
-        if !is_declared {
+            edits.insert(start, &format!("#[track_caller]\n{indent}"));
             let open = bytes(self.source, &function.body).start + 1;
-            edits.insert(open, &assertions(&conditions, &indent));
+            edits.insert(open, &assertions(&conditions, indent));
         }
+        self.without_clauses(function, edits);
         Ok(())
     }
 
-    /// The docs with the example of a public call.
-    fn example(&self, item: &Item, name: &str, indent: &str) -> Result<String, String> {
-        let Some(pages) = self.pages else {
-            return Ok(String::new());
-        };
+    /// What the docs of a public call have beside those of its source: its example, and its contract with the definitions
+    /// that it cites.
+    fn docs(
+        &self,
+        path: &str,
+        contract: &[String],
+        conditions: &[Condition],
+    ) -> Result<String, String> {
         let krate = self.file.split('/').next().unwrap_or_default();
-        pages.examples.docs(krate, self.owner(item), name, indent)
-    }
-
-    /// The docs with the definitions of a contract.
-    fn definitions(&self, contract: &[String], indent: &str) -> String {
-        let pages = self.pages.map(|pages| &pages.definitions);
-        pages.map_or(String::new(), |definitions| definitions.links(self.source.text, contract, indent))
-    }
-
-    /// The trait or the type whose block has an item; nothing outside of blocks.
-    fn owner(&self, item: &Item) -> &str {
-        let block = item.block.map(|block| &self.source.items[block]);
-        let named = match block.map(|block| &block.part) {
-            Some(Part::Trait(path) | Part::Impl(Some(path))) => self.source.slice(path),
-            _ => {
-                // `impl<..> TYPE<..> {`
-                let text = block.map_or("", |block| self.source.slice(&block.place));
-                let head = text.split(" {").next().unwrap_or_default();
-                let past = head.split_once("> ").map(|(_, named)| named);
-                past.unwrap_or(head.trim_start_matches("impl "))
-            }
+        let mut text = match self.pages {
+            Some(pages) => pages.examples.docs(krate, path)?,
+            None => String::new(),
         };
-        named.split(['<', ' ', ':']).next().unwrap_or_default()
+        if !contract.is_empty() {
+            text += &docs(contract, conditions);
+            let definitions = self.pages.map(|pages| &pages.definitions);
+            text += &definitions.map_or(String::new(), |known| {
+                known.links(self.source.text, contract)
+            });
+        }
+        Ok(text)
     }
 
     /// Takes out what stands between the head of a function and its body.
@@ -174,7 +173,11 @@ impl Erasing<'_> {
         let last = (function.name..function.head_end).rev().find(is_code);
         let head_end = self.source.tokens[last.unwrap_or(function.name)].end();
         let body = bytes(self.source, &function.body).start;
-        let gap = if self.source.sign(function.body.start) == ";" { "" } else { " " };
+        let gap = if self.source.sign(function.body.start) == ";" {
+            ""
+        } else {
+            " "
+        };
         edits.replace(head_end..body, gap);
     }
 
@@ -185,7 +188,7 @@ impl Erasing<'_> {
 
     fn is_of_trait(&self, item: &Item) -> bool {
         let block = item.block.map(|block| &self.source.items[block].part);
-        matches!(block, Some(Part::Trait(_) | Part::Impl(Some(_))))
+        matches!(block, Some(Part::Trait(_) | Part::Impl(Some(_), _)))
     }
 
     fn has_docs(&self, item: &Item) -> bool {
@@ -195,28 +198,43 @@ impl Erasing<'_> {
 
     /// The ghost members that state the contract of an operator: `can_NAME` and `NAME_gives`.
     fn members<'b>(&'b self, item: &'b Item, names: Vec<String>) -> impl Iterator<Item = &'b Item> {
-        let beside = self.source.items.iter().filter(|other| item.block.is_some() && other.block == item.block);
+        let beside = self
+            .source
+            .items
+            .iter()
+            .filter(|other| item.block.is_some() && other.block == item.block);
         let ghosts = beside.filter(|other| matches!(other.part, Part::Ghost));
         ghosts.filter(move |ghost| names.iter().any(|name| self.ghost_name(ghost) == name))
     }
 
     /// The contract of a function as its source states it.
-    fn contract(&self, item: &Item, function: &Function, name: &str) -> Vec<String> {
+    fn contract(&self, item: &Item, function: &Function) -> Vec<String> {
+        let name = self.source.sign(function.name);
         let names = vec![format!("can_{name}"), format!("{name}_gives")];
         let ghosts = self.members(item, names).map(|ghost| &ghost.place);
-        ghosts.chain(&function.clauses).map(|clause| self.stated(clause)).collect()
+        ghosts
+            .chain(&function.clauses)
+            .map(|clause| self.stated(clause))
+            .collect()
     }
 
     /// A clause as docs state it.
     fn stated(&self, clause: &Range<usize>) -> String {
         let text = self.source.slice(clause);
-        let text = text.strip_prefix("ghost ").unwrap_or(text).trim_end_matches(';');
-        let lines = text.lines().map(str::trim).filter(|line| !line.starts_with("//"));
+        let text = text
+            .strip_prefix("ghost ")
+            .unwrap_or(text)
+            .trim_end_matches(';');
+        let lines = text
+            .lines()
+            .map(str::trim)
+            .filter(|line| !line.starts_with("//"));
         lines.collect::<Vec<_>>().join("\n    ")
     }
 
     /// The conditions of a function, if it is offered, and of one that has an assertion beside its contract.
-    fn conditions(&self, item: &Item, function: &Function, name: &str) -> Result<Vec<Condition>, String> {
+    fn conditions(&self, item: &Item, function: &Function) -> Result<Vec<Condition>, String> {
+        let name = self.source.sign(function.name);
         let Some(known) = self.known else {
             return Ok(Vec::new());
         };
@@ -238,36 +256,66 @@ impl Erasing<'_> {
 
     /// The facts that a function requires: its own, or those of its operator, or else those of its trait.
     fn facts(&self, item: &Item, function: &Function, name: &str) -> Result<Vec<String>, String> {
-        let ghosts = self.members(item, vec![format!("can_{name}")]).map(|ghost| &ghost.place);
-        let own = function.clauses.iter().filter(|clause| self.source.sign(clause.start) == "requires");
+        let ghosts = self
+            .members(item, vec![format!("can_{name}")])
+            .map(|ghost| &ghost.place);
+        let own = function
+            .clauses
+            .iter()
+            .filter(|clause| self.source.sign(clause.start) == "requires");
         let clauses: Vec<&Range<usize>> = ghosts.chain(own).collect();
-        if clauses.iter().any(|clause| self.source.sign(clause.start + 1) == "*") {
+        if clauses
+            .iter()
+            .any(|clause| self.source.sign(clause.start + 1) == "*")
+        {
             return Err("a clause that speaks of memory".to_string());
         }
         if !clauses.is_empty() {
-            return Ok(clauses.iter().flat_map(|clause| facts_of(self.source, clause)).collect());
+            return Ok(clauses
+                .iter()
+                .flat_map(|clause| facts_of(self.source, clause))
+                .collect());
         }
         match item.block.map(|block| &self.source.items[block].part) {
-            Some(Part::Impl(Some(path))) => self.facts_of_trait(path, function, name),
+            Some(Part::Impl(Some(path), _)) => self.facts_of_trait(path, function, name),
             _ => Ok(Vec::new()),
         }
     }
 
     /// The facts that a trait requires of an implementation, whose names have to be those that the facts speak of.
-    fn facts_of_trait(&self, path: &Range<usize>, function: &Function, name: &str) -> Result<Vec<String>, String> {
+    fn facts_of_trait(
+        &self,
+        path: &Range<usize>,
+        function: &Function,
+        name: &str,
+    ) -> Result<Vec<String>, String> {
         let signs = self.source.code(path);
-        let end = signs.iter().position(|sign| *sign == "<").unwrap_or(signs.len());
-        let names: Vec<&str> = signs[..end].iter().copied().filter(|sign| *sign != ":").collect();
+        let end = signs
+            .iter()
+            .position(|sign| *sign == "<")
+            .unwrap_or(signs.len());
+        let names: Vec<&str> = signs[..end]
+            .iter()
+            .copied()
+            .filter(|sign| *sign != ":")
+            .collect();
         let module = self.file.replace("/lib", "").replace('/', "::");
         let Some(of_trait) = self.traits.of_path(&module, &names)? else {
             return Ok(Vec::new());
         };
-        let Some(method) = of_trait.methods.get(name).filter(|method| !method.facts.is_empty()) else {
+        let Some(method) = of_trait
+            .methods
+            .get(name)
+            .filter(|method| !method.facts.is_empty())
+        else {
             return Ok(Vec::new());
         };
         let parameters = names_in(&self.source.code(&function.parameters)[1..]);
         if parameters != method.parameters {
-            return Err(format!("parameters {parameters:?}, and in the trait {:?}", method.parameters));
+            return Err(format!(
+                "parameters {parameters:?}, and in the trait {:?}",
+                method.parameters
+            ));
         }
         self.same_generics(of_trait, &signs[end..])?;
         Ok(method.facts.clone())
@@ -278,7 +326,10 @@ impl Erasing<'_> {
         let arguments = names_in(arguments.get(1..).unwrap_or_default());
         match arguments == of_trait.generics {
             true => Ok(()),
-            false => Err(format!("arguments {arguments:?}, and in the trait {:?}", of_trait.generics)),
+            false => Err(format!(
+                "arguments {arguments:?}, and in the trait {:?}",
+                of_trait.generics
+            )),
         }
     }
 }

@@ -17,8 +17,9 @@
 //! a doctest of its own; so are here the rows by which a call panics in each build.
 
 use std::cell::Cell;
-use std::collections::BTreeMap;
+use std::collections::{BTreeMap, BTreeSet};
 use std::fs;
+use std::io::ErrorKind;
 
 const FOLDER: &str = "rust/docs";
 
@@ -73,13 +74,14 @@ enum Reply {
 }
 
 impl Examples {
-    /// The tables of crates, each of which has one, and that of the operations.
-    pub fn of(krates: &[&str]) -> Result<Examples, String> {
+    /// The tables of crates, those of what takes memory in `with_memory`, and that of the operations.
+    pub fn of(krates: &[&str], with_memory: &[&str]) -> Result<Examples, String> {
         let mut examples = Examples::default();
         for table in krates.iter().chain([&OPERATIONS]) {
-            let path = format!("{FOLDER}/{table}.txt");
-            let text = fs::read_to_string(&path).map_err(|error| format!("{path}: {error}"))?;
-            examples.read(table, &text)?;
+            examples.read(table, &text_of(table)?)?;
+        }
+        for krate in BTreeSet::from_iter(with_memory) {
+            examples.read(krate, &text_of(&format!("{krate}_memory"))?)?;
         }
         Ok(examples)
     }
@@ -107,27 +109,18 @@ impl Examples {
         Ok(())
     }
 
-    /// The docs with the example of a public call of a crate, or of a type or a trait in it. A law needs none.
-    pub fn docs(
-        &self,
-        krate: &str,
-        owner: &str,
-        name: &str,
-        indent: &str,
-    ) -> Result<String, String> {
-        if name.ends_with("_law") {
+    /// The docs with the example of a public call, such as `Fixed::mean`, of a crate. A law needs none.
+    pub fn docs(&self, krate: &str, path: &str) -> Result<String, String> {
+        if path.ends_with("_law") {
             return Ok(String::new());
         }
-        let separator = if owner.is_empty() { "" } else { "::" };
-        let path = format!("{krate}::{owner}{separator}{name}");
+        let (owner, name) = path.rsplit_once("::").unwrap_or(("", path));
+        let path = format!("{krate}::{path}");
         let doctests = match self.entries.get(&path) {
             Some(entry) => entry.doctests(name, None)?,
             None => self.of_operation(owner, name, &path)?,
         };
-        let text = format!("# Examples\n\n{}", doctests.join("\n"));
-        let lines = text.lines().map(|line| format!("{indent}/// {line}"));
-        let lines = lines.map(|line| format!("{}\n", line.trim_end()));
-        Ok(format!("{indent}///\n{}", lines.collect::<String>()))
+        Ok(format!("\n# Examples\n\n{}", doctests.join("\n")))
     }
 
     /// The doctests of a call that is an operation by a policy. Functions of a crate are none.
@@ -175,6 +168,15 @@ impl Entry {
             }
         }
         Ok([vec![block("", &returning)], panicking].concat())
+    }
+}
+
+/// The text of a table, which is empty where there is no such file.
+fn text_of(table: &str) -> Result<String, String> {
+    let path = format!("{FOLDER}/{table}.txt");
+    match fs::read_to_string(&path) {
+        Err(error) if error.kind() == ErrorKind::NotFound => Ok(String::new()),
+        read => read.map_err(|error| format!("{path}: {error}")),
     }
 }
 

@@ -25,8 +25,8 @@ pub enum Part {
     Function(Function),
     /// `trait NAME<..> {`: the name and what is behind it.
     Trait(Range<usize>),
-    /// `impl<..> TRAIT for TYPE {`: the trait, if there is one.
-    Impl(Option<Range<usize>>),
+    /// `impl<..> TRAIT for TYPE {`: the trait, if there is one, and the type.
+    Impl(Option<Range<usize>>, Range<usize>),
     /// `mod NAME;`: the name.
     Module(usize),
     /// `use PATH;`: the path.
@@ -61,7 +61,11 @@ impl<'a> Source<'a> {
     /// Reads a source.
     pub fn new(text: &'a str) -> Result<Source<'a>, String> {
         let (tokens, items) = (tokens(text), Vec::new());
-        let mut source = Source { text, tokens, items };
+        let mut source = Source {
+            text,
+            tokens,
+            items,
+        };
         let read = source.read(0..source.tokens.len(), None);
         read.map_err(|fault| source.at_line(fault.token, &fault.message))?;
         Ok(source)
@@ -69,7 +73,10 @@ impl<'a> Source<'a> {
 
     /// A message with the line of a token in front.
     pub fn at_line(&self, token: usize, message: &str) -> String {
-        let before = self.tokens.get(token).map_or(self.text.len(), |token| token.at);
+        let before = self
+            .tokens
+            .get(token)
+            .map_or(self.text.len(), |token| token.at);
         let line = self.text[..before].matches('\n').count() + 1;
         format!("{line}: {message}")
     }
@@ -77,7 +84,9 @@ impl<'a> Source<'a> {
     /// The text of a token, which is empty for a comment and behind the last one.
     pub fn sign(&self, token: usize) -> &'a str {
         let found = self.tokens.get(token);
-        found.filter(|token| token.kind != Kind::Comment).map_or("", |token| token.text)
+        found
+            .filter(|token| token.kind != Kind::Comment)
+            .map_or("", |token| token.text)
     }
 
     /// The text from the first to the last token of a range.
@@ -93,6 +102,28 @@ impl<'a> Source<'a> {
     pub fn code(&self, range: &Range<usize>) -> Vec<&'a str> {
         let signs = range.clone().map(|token| self.sign(token));
         signs.filter(|sign| !sign.is_empty()).collect()
+    }
+
+    /// The name of a function behind that of the trait or type whose block it stands in: `Checked::checked_mul`.
+    pub fn path_of(&self, item: &Item, function: &Function) -> String {
+        let name = self.sign(function.name);
+        match item.block.map(|block| &self.items[block].part) {
+            Some(Part::Trait(of)) => format!("{}::{name}", self.sign(of.start)),
+            Some(Part::Impl(Some(of), _) | Part::Impl(None, of)) => {
+                format!("{}::{name}", self.last_name(of))
+            }
+            _ => name.to_string(),
+        }
+    }
+
+    /// The last name of a path, without its arguments.
+    fn last_name(&self, path: &Range<usize>) -> &'a str {
+        let is_path = |at: &usize| self.is_word(*at) || self.sign(*at) == ":";
+        let names = path.clone().take_while(is_path);
+        names
+            .filter(|at| self.is_word(*at))
+            .last()
+            .map_or("", |at| self.sign(at))
     }
 
     /// An item with the comments and attributes above it, up to a blank line or what speaks of the whole file.
@@ -118,7 +149,12 @@ impl<'a> Source<'a> {
             let (part, end) = self.part(at, range.end)?;
             let inner = self.inner(&part, at, end);
             let place = at..end;
-            self.items.push(Item { above, place, block, part });
+            self.items.push(Item {
+                above,
+                place,
+                block,
+                part,
+            });
             if let Some(inner) = inner {
                 self.read(inner, Some(self.items.len() - 1))?;
             }
@@ -174,8 +210,8 @@ impl<'a> Source<'a> {
             at = self.next(at)?;
         }
         let part = match self.sign(at) {
-            "for" => Part::Impl(Some(start..at)),
-            _ => Part::Impl(None),
+            "for" => Part::Impl(Some(start..at), at + 1..open),
+            _ => Part::Impl(None, start..at),
         };
         Ok((part, self.group_end(open)?))
     }
@@ -200,7 +236,14 @@ impl<'a> Source<'a> {
             _ => return fault(body, "a function without an end"),
         };
         let body = body..end;
-        let function = Function { name, is_public, parameters, head_end, clauses, body };
+        let function = Function {
+            name,
+            is_public,
+            parameters,
+            head_end,
+            clauses,
+            body,
+        };
         Ok((Part::Function(function), end))
     }
 
@@ -218,7 +261,10 @@ impl<'a> Source<'a> {
     /// Where the head of an item ends: before its first clause, its braces or its semicolon.
     fn head_end(&self, start: usize) -> Result<usize, Fault> {
         let mut at = start;
-        while at < self.tokens.len() && !["{", ";", "}"].contains(&self.sign(at)) && !is_clause(self.sign(at)) {
+        while at < self.tokens.len()
+            && !["{", ";", "}"].contains(&self.sign(at))
+            && !is_clause(self.sign(at))
+        {
             at = self.next(at)?;
         }
         Ok(at)
@@ -227,7 +273,7 @@ impl<'a> Source<'a> {
     /// The items inside of an item, if it has braces for some.
     fn inner(&self, part: &Part, start: usize, end: usize) -> Option<Range<usize>> {
         let is_block = match part {
-            Part::Trait(_) | Part::Impl(_) => true,
+            Part::Trait(_) | Part::Impl(..) => true,
             Part::Other => ["struct", "enum", "union", "mod"].iter().any(|word| {
                 let shown = self.past_visibility(start).unwrap_or(start);
                 self.sign(shown) == *word
@@ -292,7 +338,11 @@ impl<'a> Source<'a> {
     }
 
     fn past_comments(&self, start: usize) -> usize {
-        let is_comment = |at: &usize| self.tokens.get(*at).is_some_and(|token| token.kind == Kind::Comment);
+        let is_comment = |at: &usize| {
+            self.tokens
+                .get(*at)
+                .is_some_and(|token| token.kind == Kind::Comment)
+        };
         (start..).find(|at| !is_comment(at)).unwrap_or(start)
     }
 
@@ -317,14 +367,19 @@ impl<'a> Source<'a> {
     /// What is behind the words and the string that may stand before `fn`, `trait` and `impl`.
     fn past_modifiers(&self, start: usize) -> usize {
         let is_modifier = |at: usize| {
-            let is_text = self.tokens.get(at).is_some_and(|token| token.kind == Kind::Text);
+            let is_text = self
+                .tokens
+                .get(at)
+                .is_some_and(|token| token.kind == Kind::Text);
             is_text || ["const", "async", "unsafe", "extern", "default"].contains(&self.sign(at))
         };
         (start..).find(|at| !is_modifier(*at)).unwrap_or(start)
     }
 
     fn is_word(&self, at: usize) -> bool {
-        self.tokens.get(at).is_some_and(|token| token.kind == Kind::Word)
+        self.tokens
+            .get(at)
+            .is_some_and(|token| token.kind == Kind::Word)
     }
 }
 

@@ -19,28 +19,52 @@ pub const LIBRARY: [&str; 17] = [
 
 /// The files that no crate offers: their public calls are made by the proved code beside them alone.
 const INSIDE: [&str; 10] = [
-    "decimal/halves", "decimal/numeral", "decimal/tens", "kernel/whole", "kernel/wide",
-    "logs/exact", "text/numerals", "text/pieces", "text/tokens", "text/written",
+    "decimal/halves",
+    "decimal/numeral",
+    "decimal/tens",
+    "kernel/whole",
+    "kernel/wide",
+    "logs/exact",
+    "text/numerals",
+    "text/pieces",
+    "text/tokens",
+    "text/written",
 ];
 
 /// The files that take memory, or serve the runs that do, and so are left out where there is none.
 pub const LEFT_OUT: [&str; 20] = [
-    "filter/bank", "filter/channel", "filter/fault", "filter/header", "filter/running",
-    "guide/arriving", "guide/desk",
-    "interval/fault", "interval/header", "interval/line", "interval/op", "interval/running",
-    "poly/fault", "poly/header", "poly/running",
-    "text/added", "text/fault", "text/numbers", "text/output", "text/running",
+    "filter/bank",
+    "filter/channel",
+    "filter/fault",
+    "filter/header",
+    "filter/running",
+    "guide/arriving",
+    "guide/desk",
+    "interval/fault",
+    "interval/header",
+    "interval/line",
+    "interval/op",
+    "interval/running",
+    "poly/fault",
+    "poly/header",
+    "poly/running",
+    "text/added",
+    "text/fault",
+    "text/numbers",
+    "text/output",
+    "text/running",
 ];
 
 /// What the proved language has by itself, for crates that take memory.
 const MEMORY: &str = "use crate::memory::{Drop, Vec};\n";
 
-/// Writes the library, with what the docs of its calls have, and the pages of its docs.
-pub fn write_library(name: &str, pages_name: &str) -> Result<(), String> {
-    let pages = Pages::of(&LIBRARY)?;
-    write_file(name, &written_with(Path::new("crates"), &LIBRARY, &[], Some(&pages))?)?;
+/// Writes the crates of the library with what the docs of their calls have, and the pages of the docs.
+pub fn write_library(crates: &[&str], with_memory: &[&str]) -> Result<(), String> {
+    let pages = Pages::of(crates, with_memory)?;
+    let library = written_with(Path::new("crates"), crates, with_memory, Some(&pages))?;
     pages.examples.end()?;
-    write_file(pages_name, &pages.definitions.modules(&LIBRARY)?)
+    write_file("library.rs", &library)?;
+    write_file("pages.rs", &pages.definitions.modules(crates)?)
 }
 
 /// Writes crates as the modules of one file. Those of `with_memory` take memory, and the others have no module that
@@ -74,7 +98,10 @@ fn written_with(
     for (name, file) in &files {
         let module = name.replace("/lib", "").replace('/', "::");
         let source = Source::new(&file.text).map_err(|error| file.named(&error))?;
-        modules.traits.read(&module, &source).map_err(|error| file.named(&error))?;
+        modules
+            .traits
+            .read(&module, &source)
+            .map_err(|error| file.named(&error))?;
         modules.sources.insert(name, (file, source));
     }
     modules.with_memory = with_memory;
@@ -88,7 +115,11 @@ fn written_with(
     let is_whole = LIBRARY.iter().all(|krate| crates.contains(krate));
     let unused = known.unused().into_iter().filter(|_| is_whole);
     let unmatched: Vec<String> = unmatched(crates, &files).chain(unused).collect();
-    if unmatched.is_empty() { Ok(out) } else { Err(unmatched.join("\n")) }
+    if unmatched.is_empty() {
+        Ok(out)
+    } else {
+        Err(unmatched.join("\n"))
+    }
 }
 
 /// The file in which a crate begins.
@@ -97,9 +128,16 @@ fn root(krate: &str) -> &str {
 }
 
 /// The entries of tables that name no file of the crates.
-fn unmatched<'a>(crates: &'a [&str], files: &'a BTreeMap<String, File>) -> impl Iterator<Item = String> + 'a {
+fn unmatched<'a>(
+    crates: &'a [&str],
+    files: &'a BTreeMap<String, File>,
+) -> impl Iterator<Item = String> + 'a {
     let entries = INSIDE.iter().chain(&LEFT_OUT);
-    let of_crates = entries.filter(|entry| crates.iter().any(|krate| entry.split('/').next() == Some(krate)));
+    let of_crates = entries.filter(|entry| {
+        crates
+            .iter()
+            .any(|krate| entry.split('/').next() == Some(krate))
+    });
     let missing = of_crates.filter(|entry| !files.contains_key(**entry));
     missing.map(|entry| format!("rust/script/modules.rs: no file {entry}"))
 }
@@ -138,7 +176,14 @@ fn gather(
         }
     }
     let text = text.clone();
-    files.insert(key, File { path, text, is_left_out });
+    files.insert(
+        key,
+        File {
+            path,
+            text,
+            is_left_out,
+        },
+    );
     Ok(())
 }
 
@@ -154,7 +199,10 @@ struct Modules<'a> {
 impl Modules<'_> {
     /// A file in Rust, with those that it names.
     fn written(&self, name: &str, known: &Known) -> Result<String, String> {
-        let (file, source) = self.sources.get(name).ok_or_else(|| format!("no file {name}"))?;
+        let (file, source) = self
+            .sources
+            .get(name)
+            .ok_or_else(|| format!("no file {name}"))?;
         let krate = name.split('/').next().unwrap_or_default();
         let has_memory = self.with_memory.contains(&krate);
         let is_library = LIBRARY.contains(&krate) && !has_memory;
@@ -170,7 +218,11 @@ impl Modules<'_> {
         };
         let mut edits = erasing.edits().map_err(|error| file.named(&error))?;
         let left_out = self.modules(krate, source, known, &mut edits)?;
-        let names = Names { krate, is_library, left_out };
+        let names = Names {
+            krate,
+            is_library,
+            left_out,
+        };
         names.edit(source, &mut edits);
         let memory = if has_memory { MEMORY } else { "" };
         Ok(edits.applied(source.text) + memory)
@@ -204,7 +256,10 @@ impl Modules<'_> {
                 Part::Module(name) => {
                     let text = self.written(&path, known)?;
                     let end = bytes(source, &(*name..item.place.end));
-                    edits.replace(source.tokens[*name].end()..end.end, &format!(" {{\n{text}}}"));
+                    edits.replace(
+                        source.tokens[*name].end()..end.end,
+                        &format!(" {{\n{text}}}"),
+                    );
                 }
                 _ => {}
             }

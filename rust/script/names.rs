@@ -33,7 +33,11 @@ impl Names<'_> {
     /// The name of a crate at the front of a path; other names stay.
     fn name(&self, name: &str) -> String {
         // The strict forms know the numbers by the module where each number has to fit.
-        let numbers = if self.krate == "strict" { "stopping" } else { "num" };
+        let numbers = if self.krate == "strict" {
+            "stopping"
+        } else {
+            "num"
+        };
         match name.strip_prefix("fixed_") {
             Some("num") => format!("crate::{numbers}"),
             Some(other) => format!("crate::{other}"),
@@ -47,9 +51,13 @@ impl Names<'_> {
     }
 
     fn comment(&self, comment: &Token) -> String {
-        let text = comment.text.replace("](crate::", &format!("](crate::{}::", self.krate));
+        let text = comment
+            .text
+            .replace("](crate::", &format!("](crate::{}::", self.krate));
         let text = text.replace("](fixed_", "](crate::");
-        let without = |text: String, name: &String| text.replace(&format!("[`{name}`]"), &format!("`{name}`"));
+        let without = |text: String, name: &String| {
+            text.replace(&format!("[`{name}`]"), &format!("`{name}`"))
+        };
         self.left_out.iter().fold(text, without)
     }
 }

@@ -12,10 +12,10 @@ pub struct Pages {
 }
 
 impl Pages {
-    /// The examples and definitions of crates.
-    pub fn of(krates: &[&str]) -> Result<Pages, String> {
+    /// The examples and definitions of crates, of which those of `with_memory` take memory.
+    pub fn of(krates: &[&str], with_memory: &[&str]) -> Result<Pages, String> {
         Ok(Pages {
-            examples: Examples::of(krates)?,
+            examples: Examples::of(krates, with_memory)?,
             definitions: Definitions::of(krates)?,
         })
     }
@@ -61,7 +61,7 @@ impl Definitions {
     }
 
     /// Docs with links to the definitions of the words of a contract, as far as its source imports them.
-    pub fn links(&self, source: &str, contract: &[String], indent: &str) -> String {
+    pub fn links(&self, source: &str, contract: &[String]) -> String {
         let is_of_word = |sign: char| sign.is_alphanumeric() || sign == '_';
         let words = contract
             .iter()
@@ -73,15 +73,12 @@ impl Definitions {
             if let Some(file) = self.file(krate, name, word) {
                 named.push(format!("[`{word}`]"));
                 let target = format!("crate::definitions::{}", file.module());
-                targets += &format!("{indent}/// [`{word}`]: {target}\n");
+                targets += &format!("[`{word}`]: {target}\n");
             }
         }
         match named.is_empty() {
             true => String::new(),
-            false => {
-                let named = named.join(", ");
-                format!("{indent}///\n{indent}/// Definitions: {named}.\n{indent}///\n{targets}")
-            }
+            false => format!("\nDefinitions: {}.\n\n{targets}", named.join(", ")),
         }
     }
 

@@ -19,11 +19,13 @@ impl Table {
     pub fn new(name: &'static str, text: &'static str) -> Table {
         let lines = text.lines().enumerate();
         let is_row = |text: &str| !text.trim().is_empty() && !text.starts_with('#');
-        let rows = lines.filter(|(_, text)| is_row(text)).map(|(at, text)| Row {
-            line: at + 1,
-            columns: text.split(" | ").map(str::trim).collect(),
-            is_used: Cell::new(false),
-        });
+        let rows = lines
+            .filter(|(_, text)| is_row(text))
+            .map(|(at, text)| Row {
+                line: at + 1,
+                columns: text.split(" | ").map(str::trim).collect(),
+                is_used: Cell::new(false),
+            });
         let rows = rows.collect();
         Table { name, rows }
     }
@@ -45,7 +47,12 @@ impl Table {
     /// The rows that nothing matched.
     pub fn unused(&self) -> Vec<String> {
         let unused = self.rows.iter().filter(|row| !row.is_used.get());
-        let name = |row: &Row| format!("rust/script/{}:{}: nothing matches {}", self.name, row.line, row.columns[0]);
+        let name = |row: &Row| {
+            format!(
+                "rust/script/{}:{}: nothing matches {}",
+                self.name, row.line, row.columns[0]
+            )
+        };
         unused.map(name).collect()
     }
 }

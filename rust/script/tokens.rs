@@ -110,7 +110,9 @@ fn string(text: &str) -> Option<usize> {
 
 /// The length of a character at the front, if there is one. What has no quote behind it is a lifetime or a prime.
 fn character(text: &str) -> Option<usize> {
-    let inner = text.strip_prefix("b'").or_else(|| text.strip_prefix('\''))?;
+    let inner = text
+        .strip_prefix("b'")
+        .or_else(|| text.strip_prefix('\''))?;
     let mut signs = inner.chars();
     let is_escaped = signs.next()? == '\\';
     let is_closed = is_escaped || signs.next() == Some('\'');

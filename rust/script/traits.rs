@@ -35,8 +35,13 @@ impl Traits {
             match &item.part {
                 Part::Use(path) => {
                     let (found, _) = imports(&source.code(path), &[]);
-                    let found = found.into_iter().map(|(name, path)| (name, absolute(module, path)));
-                    self.names.entry(module.to_string()).or_default().extend(found);
+                    let found = found
+                        .into_iter()
+                        .map(|(name, path)| (name, absolute(module, path)));
+                    self.names
+                        .entry(module.to_string())
+                        .or_default()
+                        .extend(found);
                 }
                 Part::Trait(head) => {
                     let path = format!("{module}::{}", source.sign(head.start));
@@ -58,19 +63,27 @@ impl Traits {
     pub fn of_path(&self, module: &str, path: &[&str]) -> Result<Option<&Trait>, String> {
         let path: Vec<String> = path.iter().map(|name| name.to_string()).collect();
         let name = path.last().cloned().unwrap_or_default();
-        let first = path.first().and_then(|first| self.names.get(module)?.get(first));
+        let first = path
+            .first()
+            .and_then(|first| self.names.get(module)?.get(first));
         let mut path = match first {
-            Some(first) => path[1..].iter().fold(first.clone(), |path, name| format!("{path}::{name}")),
+            Some(first) => path[1..]
+                .iter()
+                .fold(first.clone(), |path, name| format!("{path}::{name}")),
             None => absolute(module, path),
         };
         // Each module that offers a name says from where.
         while let Some(from) = self.offered(&path).filter(|from| **from != path) {
             path = from.clone();
         }
-        let is_foreign = STD.iter().any(|krate| path.starts_with(&format!("{krate}::")));
+        let is_foreign = STD
+            .iter()
+            .any(|krate| path.starts_with(&format!("{krate}::")));
         let is_known = |known: &String| known.ends_with(&format!("::{name}"));
         match self.traits.get(&path) {
-            None if !is_foreign && self.traits.keys().any(is_known) => Err(format!("no known trait: {path}")),
+            None if !is_foreign && self.traits.keys().any(is_known) => {
+                Err(format!("no known trait: {path}"))
+            }
             found => Ok(found),
         }
     }
@@ -119,7 +132,9 @@ pub fn imports(signs: &[&str], above: &[String]) -> (Vec<(String, Vec<String>)>,
                 return (found, at + 1);
             }
             "as" => {
-                let name = signs.get(at + 1).map_or(String::new(), |name| name.to_string());
+                let name = signs
+                    .get(at + 1)
+                    .map_or(String::new(), |name| name.to_string());
                 return (vec![(name, path)], at + 2);
             }
             "self" if at == 0 && !above.is_empty() => at += 1,
@@ -169,13 +184,19 @@ pub fn names_in(signs: &[&str]) -> Vec<String> {
 
 /// The methods of a trait, which is an item of the source.
 fn methods(source: &Source, of: &Item) -> BTreeMap<String, Method> {
-    let is_inside = |item: &&Item| of.place.start < item.place.start && item.place.end <= of.place.end;
+    let is_inside =
+        |item: &&Item| of.place.start < item.place.start && item.place.end <= of.place.end;
     let mut methods = BTreeMap::new();
     for item in source.items.iter().filter(is_inside) {
         if let Part::Function(function) = &item.part {
-            let clauses = function.clauses.iter().filter(|clause| source.sign(clause.start) == "requires");
+            let clauses = function
+                .clauses
+                .iter()
+                .filter(|clause| source.sign(clause.start) == "requires");
             let method = Method {
-                facts: clauses.flat_map(|clause| facts_of(source, clause)).collect(),
+                facts: clauses
+                    .flat_map(|clause| facts_of(source, clause))
+                    .collect(),
                 parameters: names_in(&source.code(&function.parameters)[1..]),
             };
             methods.insert(source.sign(function.name).to_string(), method);

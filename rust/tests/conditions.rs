@@ -29,7 +29,10 @@ thread_local! {
 /// What a panic says.
 fn message(info: &PanicHookInfo) -> String {
     let formatted = info.payload().downcast_ref::<String>().cloned();
-    let constant = info.payload().downcast_ref::<&str>().map(|text| text.to_string());
+    let constant = info
+        .payload()
+        .downcast_ref::<&str>()
+        .map(|text| text.to_string());
     formatted.or(constant).unwrap_or_default()
 }
 

@@ -40,27 +40,27 @@ fn error_of(table: &str) -> String {
 
 #[test]
 fn a_call_has_its_statements() {
-    let docs = examples().docs("num", "", "mean", "    ").unwrap();
+    let docs = examples().docs("num", "mean").unwrap();
     assert_eq!(
         docs,
-        "    ///
-    /// # Examples
-    ///
-    /// ```
-    /// use zugyelmas::mean;
-    ///
-    /// assert_eq!(mean(1, 2), 1); // rounded down
-    /// ```
+        "
+# Examples
+
+```
+use zugyelmas::mean;
+
+assert_eq!(mean(1, 2), 1); // rounded down
+```
 "
     );
 }
 
 #[test]
 fn a_panic_has_a_doctest_of_its_own() {
-    let docs = examples().docs("num", "Fixed", "floor", "").unwrap();
+    let docs = examples().docs("num", "Fixed::floor").unwrap();
     assert_eq!(docs.matches("```should_panic").count(), 1);
-    assert!(docs.contains("/// # use zugyelmas::floor;\n"));
-    assert!(docs.contains("/// floor(NAN); // no number\n/// ```\n"));
+    assert!(docs.contains("# use zugyelmas::floor;\n"));
+    assert!(docs.contains("floor(NAN); // no number\n```\n"));
 }
 
 #[test]
@@ -75,10 +75,12 @@ fn an_operation_by_each_policy() {
         ("mul", &["c"], 1),
     ];
     for (name, returned, panics) in table {
-        let docs = examples().docs("policy", "Calls", name, "").unwrap();
+        let docs = examples()
+            .docs("policy", &format!("Calls::{name}"))
+            .unwrap();
         let statements = ["b", "d", "g"].iter().zip(returned);
         for (operand, result) in statements {
-            let statement = format!("/// assert_eq!(a.{name}({operand}), {result});");
+            let statement = format!("assert_eq!(a.{name}({operand}), {result});");
             assert!(docs.contains(&statement), "{statement} in {docs}");
         }
         assert_eq!(docs.matches("assert_eq!").count(), returned.len(), "{name}");
@@ -88,21 +90,21 @@ fn an_operation_by_each_policy() {
 
 #[test]
 fn a_call_without_an_example() {
-    let error = examples().docs("num", "Fixed", "ceil", "").unwrap_err();
+    let error = examples().docs("num", "Fixed::ceil").unwrap_err();
     assert_eq!(error, "rust/docs has no example of num::Fixed::ceil");
     // A function of a crate is no operation by a policy.
-    assert!(examples().docs("num", "", "checked_mul", "").is_err());
-    assert_eq!(examples().docs("num", "", "mul_law", ""), Ok(String::new()));
+    assert!(examples().docs("num", "checked_mul").is_err());
+    assert_eq!(examples().docs("num", "laws::mul_law"), Ok(String::new()));
 }
 
 #[test]
 fn an_entry_of_no_call() {
     let examples = examples();
-    examples.docs("num", "", "mean", "").unwrap();
-    examples.docs("policy", "Calls", "mul", "").unwrap();
+    examples.docs("num", "mean").unwrap();
+    examples.docs("policy", "Calls::mul").unwrap();
     let error = examples.end().unwrap_err();
     assert_eq!(error, "rust/docs: no public call is num::Fixed::floor");
-    examples.docs("num", "Fixed", "floor", "").unwrap();
+    examples.docs("num", "Fixed::floor").unwrap();
     assert_eq!(examples.end(), Ok(()));
 }
 
@@ -113,7 +115,7 @@ fn tables_of_no_form() {
     assert_eq!(error_of("mean\n    a;\nmean\n    a;\n"), message);
     let mut examples = Examples::default();
     examples.read("operations", "mul\n    a.?mul(b)\n").unwrap();
-    let error = examples.docs("policy", "Calls", "mul", "").unwrap_err();
+    let error = examples.docs("policy", "Calls::mul").unwrap_err();
     assert_eq!(error, "mul: a.?mul(b)");
 }
 
@@ -128,15 +130,15 @@ ghost use Rattle.fixed_kernel.specs.RoundedRows.{rounded, unrounded};
 ";
     let contract = ["ensures { rounded (wrap x) }".to_string()];
     assert_eq!(
-        definitions.links(source, &contract, ""),
-        "///
-/// Definitions: [`wrap`], [`rounded`].
-///
-/// [`wrap`]: crate::definitions::word_format
-/// [`rounded`]: crate::definitions::kernel_rounded_rows
+        definitions.links(source, &contract),
+        "
+Definitions: [`wrap`], [`rounded`].
+
+[`wrap`]: crate::definitions::word_format
+[`rounded`]: crate::definitions::kernel_rounded_rows
 "
     );
-    assert_eq!(definitions.links("", &contract, ""), "");
+    assert_eq!(definitions.links("", &contract), "");
 }
 
 #[test]

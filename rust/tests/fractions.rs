@@ -9,18 +9,42 @@ use std::{env, fs};
 const REFUSED: [(&str, &str); 14] = [
     ("Past::int_nbits()", "the fraction F is at most the width"),
     ("past * past", "the fraction F is at most the width"),
-    ("past.checked_mul(past)", "the fraction F is at most the width"),
-    ("past.wrapping_sqrt()", "the fraction F is at most the width"),
+    (
+        "past.checked_mul(past)",
+        "the fraction F is at most the width",
+    ),
+    (
+        "past.wrapping_sqrt()",
+        "the fraction F is at most the width",
+    ),
     ("past.strict_recip()", "the fraction F is at most the width"),
-    ("past.unwrapped_rem_int(0)", "the fraction F is at most the width"),
-    ("past.saturating_signum()", "the fraction F is at most the width"),
+    (
+        "past.unwrapped_rem_int(0)",
+        "the fraction F is at most the width",
+    ),
+    (
+        "past.saturating_signum()",
+        "the fraction F is at most the width",
+    ),
     ("past.recip()", "the fraction F is at most the width"),
-    ("byte.checked_mul_add(past, byte)", "the fraction G is at most the width"),
-    ("byte.add_prod(past, byte)", "the fraction A is at most the width"),
-    ("horner(&[past], past)", "the fraction F is at most the width"),
+    (
+        "byte.checked_mul_add(past, byte)",
+        "the fraction G is at most the width",
+    ),
+    (
+        "byte.add_prod(past, byte)",
+        "the fraction A is at most the width",
+    ),
+    (
+        "horner(&[past], past)",
+        "the fraction F is at most the width",
+    ),
     ("byte.wide_mul::<4, 9>(byte)", "H is F + G"),
     ("byte.wide_div::<4, 9>(byte)", "H + G is the width and F"),
-    ("byte.wide_sdiv::<4, 8>(byte)", "H + G + 1 is the width and F"),
+    (
+        "byte.wide_sdiv::<4, 8>(byte)",
+        "H + G + 1 is the width and F",
+    ),
 ];
 
 const START: &str = "use zugyelmas::{horner, prelude::*};
@@ -34,10 +58,20 @@ fn main() {
 fn library() -> PathBuf {
     let test = env::current_exe().expect("the path of the test");
     let folder = test.parent().expect("a folder of libraries");
-    let files = fs::read_dir(folder).expect("libraries").map(|file| file.expect("a file").path());
-    let name = |path: &PathBuf| path.file_name().map_or(String::new(), |name| name.to_string_lossy().to_string());
-    let libraries = files.filter(|path| name(path).starts_with("libzugyelmas-") && name(path).ends_with(".rlib"));
-    let written = |path: &PathBuf| fs::metadata(path).and_then(|file| file.modified()).unwrap_or(SystemTime::UNIX_EPOCH);
+    let files = fs::read_dir(folder)
+        .expect("libraries")
+        .map(|file| file.expect("a file").path());
+    let name = |path: &PathBuf| {
+        path.file_name()
+            .map_or(String::new(), |name| name.to_string_lossy().to_string())
+    };
+    let libraries = files
+        .filter(|path| name(path).starts_with("libzugyelmas-") && name(path).ends_with(".rlib"));
+    let written = |path: &PathBuf| {
+        fs::metadata(path)
+            .and_then(|file| file.modified())
+            .unwrap_or(SystemTime::UNIX_EPOCH)
+    };
     libraries.max_by_key(written).expect("the library")
 }
 
@@ -59,8 +93,13 @@ fn compiled(name: &str, program: &str) -> String {
 
 #[test]
 fn each_is_a_compile_error() {
-    let calls = REFUSED.iter().map(|(call, _)| format!("    let _ = {call};\n"));
-    let said = compiled("fractions", &format!("{START}{}}}\n", calls.collect::<String>()));
+    let calls = REFUSED
+        .iter()
+        .map(|(call, _)| format!("    let _ = {call};\n"));
+    let said = compiled(
+        "fractions",
+        &format!("{START}{}}}\n", calls.collect::<String>()),
+    );
     let errors: Vec<&str> = said.split("error[E0080]").skip(1).collect();
     for (at, (call, words)) in REFUSED.iter().enumerate() {
         let line = format!("fractions.rs:{}:", START.lines().count() + 1 + at);
@@ -72,7 +111,8 @@ fn each_is_a_compile_error() {
 #[test]
 fn what_is_at_the_width_compiles() {
     let at = "let at = FixedI8::<8>::from_bits(127);";
-    let calls = "at.checked_mul(at); at * at; at.wide_mul::<8, 16>(at); byte.wide_div::<4, 8>(byte);";
+    let calls =
+        "at.checked_mul(at); at * at; at.wide_mul::<8, 16>(at); byte.wide_div::<4, 8>(byte);";
     let said = compiled("at_the_width", &format!("{START}    {at} {calls}\n}}\n"));
     assert_eq!(said, "");
 }

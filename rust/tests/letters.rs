@@ -1,6 +1,6 @@
-//! The library's code is the proved sources', letter for letter: file by file and in order, each sign of the one is a sign
-//! of the other, but for what speaks to the prover, assertions and the names of crates. What goes is said here once more,
-//! without the build script's reading of items.
+//! The library's code and docs are the proved sources', letter for letter: file by file and in order, each sign of the one
+//! is a sign of the other, but for what speaks to the prover, assertions, what docs say of contracts, and the names of
+//! crates. What goes is said here once more, without the build script's reading of items.
 
 #[path = "../script/mod.rs"]
 #[allow(dead_code)]
@@ -21,30 +21,48 @@ const FORMS: [(&str, &str); 5] = [
     ("fmt::Formatter<W>", "fmt::Formatter<'_>"),
 ];
 
-/// A sign, and the file and the line where it stands.
+/// The headings of docs that the build script writes, which come last.
+const HEADINGS: [&str; 4] = ["Examples", "Compile errors", "Panics", "Proved"];
+
+/// A sign or a line of docs, and the file and the line where it stands.
 struct Sign {
     text: String,
     place: String,
 }
 
-/// The signs of a text, without comments.
+/// The signs and docs of a text, without other comments.
 fn signs(path: &str, text: &str) -> Vec<Sign> {
     let (mut at, mut line) = (0, 1);
     let mut found = Vec::new();
     for token in tokens(text) {
         line += text[at..token.at].matches('\n').count();
         at = token.at;
+        let place = format!("{path}:{line}");
         if token.kind != Kind::Comment {
-            let (text, place) = (token.text.to_string(), format!("{path}:{line}"));
+            let text = token.text.to_string();
+            found.push(Sign { text, place });
+        } else if token.text.starts_with("///") || token.text.starts_with("//!") {
+            let text = without_links(token.text);
             found.push(Sign { text, place });
         }
     }
     found
 }
 
+/// A line of docs without the brackets and the targets of links.
+fn without_links(line: &str) -> String {
+    let mut parts = line.split("](");
+    let first = parts.next().unwrap_or_default().to_string();
+    let rest = parts.map(|part| part.split_once(')').map_or("", |(_, rest)| rest));
+    let text = rest.fold(first, |text, rest| text + rest);
+    text.trim_end().replace(['[', ']'], "")
+}
+
 /// Whether signs begin with those of a text.
 fn begin(signs: &[Sign], text: &str) -> bool {
-    let is_first = signs.first().is_some_and(|sign| text.starts_with(&sign.text));
+    let is_first = signs
+        .first()
+        .is_some_and(|sign| text.starts_with(&sign.text));
     if !is_first {
         return false;
     }
@@ -74,11 +92,17 @@ fn ghost(signs: &[Sign]) -> usize {
         "ghost" => length(signs, &[";", ","]),
         "pub" if begin(signs, "pub ghost") => length(signs, &[";", ","]),
         "requires" | "ensures" => length(signs, &["}"]),
-        "#" if ["#[tactic(", "#![tactic(", "#[error("].iter().any(|form| begin(signs, form)) => {
+        "#" if ["#[tactic(", "#![tactic(", "#[error("]
+            .iter()
+            .any(|form| begin(signs, form)) =>
+        {
             length(signs, &["]"])
         }
         "impl" => {
-            let head = signs.iter().position(|sign| sign.text == "{").expect("a block");
+            let head = signs
+                .iter()
+                .position(|sign| sign.text == "{")
+                .expect("a block");
             let of_prover = |pair: &[Sign]| begin(pair, "Clone for") || begin(pair, "Model for");
             match signs[..head].windows(2).any(of_prover) {
                 true => head + length(&signs[head..], &["}"]),
@@ -93,7 +117,9 @@ fn ghost(signs: &[Sign]) -> usize {
 fn derives(signs: &[Sign]) -> (String, usize) {
     let end = length(signs, &["]"]);
     let names = signs[4..end - 2].iter().map(|sign| sign.text.as_str());
-    let mut names: Vec<&str> = names.filter(|name| ![",", "Drop", "Error"].contains(name)).collect();
+    let mut names: Vec<&str> = names
+        .filter(|name| ![",", "Drop", "Error"].contains(name))
+        .collect();
     if names.first() == Some(&"Copy") {
         names.insert(0, "Clone");
     }
@@ -113,9 +139,13 @@ fn expected(krate: &str, file: &str, out: &mut Vec<Sign>) {
         let rest = &source[at..];
         let mut put = |text: &str| {
             let place = rest[0].place.clone();
-            out.extend(signs("", text).into_iter().map(|sign| Sign { place: place.clone(), ..sign }));
+            out.extend(signs("", text).into_iter().map(|sign| Sign {
+                place: place.clone(),
+                ..sign
+            }));
         };
-        let is_left_out = |name: &Sign| LEFT_OUT.contains(&format!("{krate}/{}", name.text).as_str());
+        let is_left_out =
+            |name: &Sign| LEFT_OUT.contains(&format!("{krate}/{}", name.text).as_str());
         let form = FORMS.iter().find(|(old, _)| begin(rest, old));
         at += match ghost(rest) {
             0 if form.is_some() => form.map_or(0, |(old, new)| {
@@ -155,7 +185,9 @@ fn crate_name(krate: &str, name: &str) -> String {
         "crate" => format!("crate::{krate}"),
         "std" => "core".to_string(),
         "fixed_num" if krate == "strict" => "crate::stopping".to_string(),
-        _ => name.strip_prefix("fixed_").map_or(name.to_string(), |of| format!("crate::{of}")),
+        _ => name
+            .strip_prefix("fixed_")
+            .map_or(name.to_string(), |of| format!("crate::{of}")),
     }
 }
 
@@ -170,17 +202,40 @@ fn written(text: &str) -> Vec<Sign> {
         at += added.max(1);
     }
     let pairs = all.into_iter().zip(kept);
-    pairs.filter(|(_, kept)| *kept).map(|(sign, _)| sign).collect()
+    pairs
+        .filter(|(_, kept)| *kept)
+        .map(|(sign, _)| sign)
+        .collect()
+}
+
+/// Whether signs begin with what the build script adds to docs: a blank line and a heading.
+fn begins_docs(signs: &[Sign]) -> bool {
+    let heading = signs
+        .get(1)
+        .and_then(|sign| sign.text.strip_prefix("/// # "));
+    signs[0].text == "///" && heading.is_some_and(|heading| HEADINGS.contains(&heading))
 }
 
 /// How many signs the build script adds.
 fn added(signs: &[Sign]) -> usize {
+    if begins_docs(signs) {
+        let is_docs = |sign: &&Sign| sign.text.starts_with("///");
+        return signs.iter().take_while(is_docs).count();
+    }
     if begin(signs, "#[track_caller]") {
         return code("#[track_caller]").len();
     }
-    let is_assertion = ["const { assert!(", "assert!(", "debug_assert!("].iter().any(|form| begin(signs, form));
-    let end = if is_assertion { length(signs, &[";"]) } else { return 0 };
-    let says = signs[..end].iter().any(|sign| sign.text.starts_with("\"condition: "));
+    let is_assertion = ["const { assert!(", "assert!(", "debug_assert!("]
+        .iter()
+        .any(|form| begin(signs, form));
+    let end = if is_assertion {
+        length(signs, &[";"])
+    } else {
+        return 0;
+    };
+    let says = signs[..end]
+        .iter()
+        .any(|sign| sign.text.starts_with("\"condition: "));
     if says { end } else { 0 }
 }
 
@@ -193,11 +248,18 @@ fn difference(library: &str) -> Option<String> {
         all.extend(signs("", "}"));
     }
     let written = written(library);
-    let end = Sign { text: "the end".to_string(), place: String::new() };
-    let pairs = (0..all.len().max(written.len())).map(|at| (all.get(at).unwrap_or(&end), written.get(at).unwrap_or(&end)));
+    let end = Sign {
+        text: "the end".to_string(),
+        place: String::new(),
+    };
+    let pairs = (0..all.len().max(written.len()))
+        .map(|at| (all.get(at).unwrap_or(&end), written.get(at).unwrap_or(&end)));
     let mut differing = pairs.filter(|(source, written)| source.text != written.text);
     differing.next().map(|(source, written)| {
-        format!("{}: `{}`, and in {}: `{}`", source.place, source.text, written.place, written.text)
+        format!(
+            "{}: `{}`, and in {}: `{}`",
+            source.place, source.text, written.place, written.text
+        )
     })
 }
 
@@ -212,11 +274,14 @@ fn planted_differences() {
     assert_eq!(WRITTEN.matches("steps.tick();\n").count(), 32);
     let erased = difference(&WRITTEN.replace("steps.tick();\n", "\n"));
     assert!(erased.is_some_and(|said| said.contains("fixed_word/src/digits.rt")));
-    let added = difference(&WRITTEN.replacen("steps.tick();\n", "steps.tick(); steps.tick();\n", 1));
+    let added =
+        difference(&WRITTEN.replacen("steps.tick();\n", "steps.tick(); steps.tick();\n", 1));
     assert!(added.is_some_and(|said| said.contains("fixed_word/src/digits.rt")));
     let checked = "Checked, CheckedSigned";
     let moved = difference(&WRITTEN.replacen(checked, "CheckedSigned, Checked", 1));
     assert!(moved.is_some_and(|said| said.contains("fixed_policy/src/lib.rt")));
+    let docs = difference(&WRITTEN.replacen("    /// The bits.\n", "", 1));
+    assert!(docs.is_some_and(|said| said.contains("fixed_num/src/format.rt")));
     let cut = difference(&WRITTEN[..WRITTEN.len() - 2]);
     assert!(cut.is_some_and(|said| said.contains("the end")));
 }

@@ -35,7 +35,11 @@ fn copied(name: &str, crates: &[&str], changes: &[(&str, &str, &str)]) -> PathBu
 }
 
 /// What the script makes of crates with changes. Paths in an error begin at the crates.
-fn of_crates(name: &str, crates: &[&str], changes: &[(&str, &str, &str)]) -> Result<String, String> {
+fn of_crates(
+    name: &str,
+    crates: &[&str],
+    changes: &[(&str, &str, &str)],
+) -> Result<String, String> {
     let top = copied(name, crates, changes);
     let from = format!("{}/", top.display());
     written(&top, crates, &[]).map_err(|error| error.replace(&from, ""))
@@ -49,7 +53,11 @@ fn with_changes(name: &str, changes: &[(&str, &str, &str)]) -> Result<String, St
 /// What it makes of `fixed_num` with one more file.
 fn with_file(name: &str, text: &str) -> Result<String, String> {
     let at_end = [
-        ("fixed_num/src/lib.rt", "mod wide;", "mod wide;\npub mod planted;"),
+        (
+            "fixed_num/src/lib.rt",
+            "mod wide;",
+            "mod wide;\npub mod planted;",
+        ),
         ("fixed_num/src/planted.rt", "", text),
     ];
     of_crates(name, &["num"], &at_end)
@@ -57,7 +65,9 @@ fn with_file(name: &str, text: &str) -> Result<String, String> {
 
 /// The lines of a file's module, up to its last.
 fn module<'a>(library: &'a str, name: &str) -> &'a str {
-    let (_, text) = library.split_once(&format!("mod {name} {{\n")).expect("the module");
+    let (_, text) = library
+        .split_once(&format!("mod {name} {{\n"))
+        .expect("the module");
     text.split_once("\npub mod ").map_or(text, |(text, _)| text)
 }
 
@@ -86,17 +96,17 @@ const REFUSED: [(&str, &str, &str); 19] = [
     (
         "another_name_of_a_parameter",
         "trait A: Word {\n    fn f(self, by: u32)\n        requires { by ≤ 64 };\n}\n\nimpl A for u8 {\n    fn f(self, rhs: u32) {}\n}\n",
-        "7: f: parameters [\"self\", \"rhs\"], and in the trait [\"self\", \"by\"]",
+        "7: A::f: parameters [\"self\", \"rhs\"], and in the trait [\"self\", \"by\"]",
     ),
     (
         "parameters_of_another_order",
         "trait A {\n    fn f(a: u32, by: u32)\n        requires { by ≤ 64 };\n}\nimpl A for u8 {\n    fn f(by: u32, a: u32) {}\n}\n",
-        "6: f: parameters [\"by\", \"a\"], and in the trait [\"a\", \"by\"]",
+        "6: A::f: parameters [\"by\", \"a\"], and in the trait [\"a\", \"by\"]",
     ),
     (
         "constants_of_another_order",
         "trait A<const A: u32, const B: u32> {\n    fn f()\n        requires { A ≤ T.BITS };\n}\nimpl<const A: u32, const B: u32> A<B, A> for u8 {\n    fn f() {}\n}\n",
-        "6: f: arguments [\"B\", \"A\"], and in the trait [\"A\", \"B\"]",
+        "6: A::f: arguments [\"B\", \"A\"], and in the trait [\"A\", \"B\"]",
     ),
     (
         "the_left_side_of_an_implication",
@@ -146,7 +156,7 @@ const REFUSED: [(&str, &str, &str); 19] = [
     (
         "a_trait_that_is_not_found",
         "impl super::super::FromDecimal for S {\n    fn from_decimal() {}\n}\n",
-        "2: from_decimal: no known trait: num::super::FromDecimal",
+        "2: FromDecimal::from_decimal: no known trait: num::super::FromDecimal",
     ),
     (
         "brackets_without_an_end",
@@ -164,19 +174,35 @@ const REFUSED: [(&str, &str, &str); 19] = [
 fn what_would_be_lost_stops_the_build() {
     for (name, text, error) in REFUSED {
         let said = with_file(name, text).err();
-        assert_eq!(said, Some(format!("fixed_num/src/planted.rt:{error}")), "{name}");
+        assert_eq!(
+            said,
+            Some(format!("fixed_num/src/planted.rt:{error}")),
+            "{name}"
+        );
     }
 }
 
 #[test]
 fn a_public_module_of_any_name() {
     let planted = [
-        ("fixed_num/src/lib.rt", "mod wide;", "mod wide;\npub mod line;"),
-        ("fixed_num/src/line.rt", "", "/// One.\npub fn one() -> u8 {\n    let line;\n    line = 1;\n    line\n}\n"),
+        (
+            "fixed_num/src/lib.rt",
+            "mod wide;",
+            "mod wide;\npub mod line;",
+        ),
+        (
+            "fixed_num/src/line.rt",
+            "",
+            "/// One.\npub fn one() -> u8 {\n    let line;\n    line = 1;\n    line\n}\n",
+        ),
     ];
     let library = of_crates("line", &["num"], &planted).expect("a library");
     let body = "/// One.\npub fn one() -> u8 {\n    let line;\n    line = 1;\n    line\n}\n";
-    assert!(library.contains(&format!("pub mod line {{\n{body}}}")), "{}", module(&library, "line"));
+    assert!(
+        library.contains(&format!("pub mod line {{\n{body}}}")),
+        "{}",
+        module(&library, "line")
+    );
 }
 
 /// A file that a table of the script names, and an item of one, has to be there.
@@ -185,14 +211,29 @@ fn entries_that_match_nothing() {
     let no_module = |krate, name| {
         let path = format!("fixed_{krate}/src/lib.rt");
         let item = format!("mod {name};\n");
-        of_crates(name, &[krate], &[(&path, &item, "")]).err().unwrap_or_default()
+        of_crates(name, &[krate], &[(&path, &item, "")])
+            .err()
+            .unwrap_or_default()
     };
-    assert_eq!(no_module("interval", "op"), "rust/script/modules.rs: no file interval/op");
-    assert_eq!(no_module("logs", "exact"), "rust/script/modules.rs: no file logs/exact");
-    let without = |name, path, old, new| with_changes(name, &[(path, old, new)]).err().unwrap_or_default();
+    assert_eq!(
+        no_module("interval", "op"),
+        "rust/script/modules.rs: no file interval/op"
+    );
+    assert_eq!(
+        no_module("logs", "exact"),
+        "rust/script/modules.rs: no file logs/exact"
+    );
+    let without = |name, path, old, new| {
+        with_changes(name, &[(path, old, new)])
+            .err()
+            .unwrap_or_default()
+    };
     let outcome = "fixed_num/src/from_outcome.rt";
     let item = without("item", outcome, "fn exact_number", "fn fitting_number");
-    assert_eq!(item, "rust/script/added.txt:4: nothing matches num/from_outcome::exact_number");
+    assert_eq!(
+        item,
+        "rust/script/added.txt:4: nothing matches num/from_outcome::exact_number"
+    );
     let strict = "fixed_kernel/src/powers.rt";
     let form = without("form", strict, "requires { T.SIGNED ≡ false }", "");
     assert!(form.ends_with("nothing matches T.SIGNED ≡ false"), "{form}");
@@ -201,9 +242,14 @@ fn entries_that_match_nothing() {
 /// A clause counts wherever it stands.
 #[test]
 fn a_clause_behind_another_on_its_line() {
-    let text = "pub fn f(by: u32) -> u32\n    ensures { result ≡ by } requires { by ≤ 64 } { by }\n";
+    let text =
+        "pub fn f(by: u32) -> u32\n    ensures { result ≡ by } requires { by ≤ 64 } { by }\n";
     let library = with_file("one_line", text).expect("a library");
-    assert!(module(&library, "planted").contains("assert!(by <= 64"), "{}", module(&library, "planted"));
+    assert!(
+        module(&library, "planted").contains("assert!(by <= 64"),
+        "{}",
+        module(&library, "planted")
+    );
 }
 
 const SHIFT: &str = "pub trait Shift: Word {\n    fn shift(self, by: u32) -> Self\n        requires { by ≤ 64 };\n}\n";
@@ -218,13 +264,17 @@ fn an_implementation_anywhere() {
     let texts = [
         by_path.to_string(),
         format!("use crate::traits::Shift;\n\n{imported}"),
-        format!("use crate::traits::{{self, Shift as Moved}};\n\n{}", imported.replace("Shift", "Moved")),
+        format!(
+            "use crate::traits::{{self, Shift as Moved}};\n\n{}",
+            imported.replace("Shift", "Moved")
+        ),
         format!("use fixed_num::traits::Shift;\n\n{imported}"),
         format!("use crate::traits;\n\n{}", by_path.replace("crate::", "")),
         format!("use crate::Shift;\n\n{imported}"),
     ];
     for (at, text) in texts.iter().enumerate() {
-        let modules = "mod wide;\npub mod planted;\npub mod others;\npub mod traits;\npub use traits::Shift;";
+        let modules =
+            "mod wide;\npub mod planted;\npub mod others;\npub mod traits;\npub use traits::Shift;";
         let planted = [
             ("fixed_num/src/lib.rt", "mod wide;", modules),
             ("fixed_num/src/planted.rt", "", text),
@@ -232,11 +282,18 @@ fn an_implementation_anywhere() {
             ("fixed_num/src/traits.rt", "", SHIFT),
         ];
         let library = of_crates(&format!("anywhere_{at}"), &["num"], &planted).expect("a library");
-        assert!(module(&library, "planted").contains("assert!(by <= 64"), "{text}");
+        assert!(
+            module(&library, "planted").contains("assert!(by <= 64"),
+            "{text}"
+        );
     }
     let of_other = format!("use crate::others::Shift;\n\n{imported}");
     let planted = [
-        ("fixed_num/src/lib.rt", "mod wide;", "mod wide;\npub mod planted;\npub mod others;\npub mod traits;"),
+        (
+            "fixed_num/src/lib.rt",
+            "mod wide;",
+            "mod wide;\npub mod planted;\npub mod others;\npub mod traits;",
+        ),
         ("fixed_num/src/planted.rt", "", of_other.as_str()),
         ("fixed_num/src/others.rt", "", other),
         ("fixed_num/src/traits.rt", "", SHIFT),
@@ -249,10 +306,16 @@ fn an_implementation_anywhere() {
 #[test]
 fn strict_calls_by_the_path_of_their_trait() {
     let strict = "fixed_strict/src/strict.rt";
-    let named = ("Strict for Fixed<T, F>", "crate::strict::Strict for Fixed<T, F>");
+    let named = (
+        "Strict for Fixed<T, F>",
+        "crate::strict::Strict for Fixed<T, F>",
+    );
     let before = with_changes("strict", &[]).expect("a library");
     let after = with_changes("strict_by_path", &[(strict, named.0, named.1)]).expect("a library");
-    assert_eq!(before.replacen(named.0, "crate::strict::strict::Strict for Fixed<T, F>", 1), after);
+    assert_eq!(
+        before.replacen(named.0, "crate::strict::strict::Strict for Fixed<T, F>", 1),
+        after
+    );
     assert!(module(&after, "strict").contains("assert!(rhs < T::BITS"));
 }
 
@@ -268,13 +331,39 @@ fn slices_of_exports() {
     let whole = face("face", "", "").expect("a face");
     assert!(whole.contains("coefs: *const i8, coefs_count: usize,"));
     assert!(whole.contains("past: *mut u64, past_count: usize,"));
-    assert_eq!(whole.matches("unsafe { crate::slice(coefs, coefs_count) }").count(), 8);
-    assert_eq!(whole.matches("unsafe { crate::slice_mut(past, past_count) }").count(), 8);
+    assert_eq!(
+        whole
+            .matches("unsafe { crate::slice(coefs, coefs_count) }")
+            .count(),
+        8
+    );
+    assert_eq!(
+        whole
+            .matches("unsafe { crate::slice_mut(past, past_count) }")
+            .count(),
+        8
+    );
     let refused = [
-        ("    x: i8,\n", "    x: &[i8],\n", "a slice that is not in the table: fixed_i8_horner: x"),
-        ("coefs: &[i8]", "coefs: Option<&[i8]>", "fixed_i8_horner: a slice of no known form: Option < & [ i8 ]"),
-        ("fn fixed_i8_horner", "fn fixed_i8_value", "nothing matches the slice fixed_i8_horner: coefs"),
-        ("horner(coefs, x, frac", "horner(if x == 0 { coefs } else { coefs }, x, frac", "fixed_i8_horner: coefs is not used once"),
+        (
+            "    x: i8,\n",
+            "    x: &[i8],\n",
+            "a slice that is not in the table: fixed_i8_horner: x",
+        ),
+        (
+            "coefs: &[i8]",
+            "coefs: Option<&[i8]>",
+            "fixed_i8_horner: a slice of no known form: Option < & [ i8 ]",
+        ),
+        (
+            "fn fixed_i8_horner",
+            "fn fixed_i8_value",
+            "nothing matches the slice fixed_i8_horner: coefs",
+        ),
+        (
+            "horner(coefs, x, frac",
+            "horner(if x == 0 { coefs } else { coefs }, x, frac",
+            "fixed_i8_horner: coefs is not used once",
+        ),
     ];
     for (at, (old, new, error)) in refused.into_iter().enumerate() {
         let said = face(&format!("face_{at}"), old, new).err();
