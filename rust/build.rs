@@ -1,9 +1,9 @@
-//! Writes the proved sources as files of Rust, which `lib.rs`, the program and the runs include: no copy of a source is
-//! kept.
+//! Writes the proved sources as files of Rust, which `lib.rs` and the program include: no copy of a source is kept.
 
 mod script;
 
-use script::modules::{LIBRARY, write};
+use script::modules::{CALCULATOR, LIBRARY, write};
+use std::env;
 
 /// The tests of the library, and the example that they test.
 const TESTS: [&str; 5] = [
@@ -14,20 +14,22 @@ const TESTS: [&str; 5] = [
     "tests_policy",
 ];
 
-/// The crates of the calculator, and the adapters of its program.
-const PROGRAM: [&str; 6] = ["stream", "text", "script", "machine", "calc", "prog"];
-
-/// The crates of the runs over text, for benches and the example.
-const RUNS: [&str; 4] = ["text", "poly", "filter", "interval"];
-
-/// What the proved language has by itself, for crates that take memory.
-const MEMORY: &str = "use std::alloc::{Drop, Vec};\n";
+/// The crates that take memory for a feature: the calculator's, and those of the runs over text.
+const FEATURES: [(&str, &[&str]); 2] = [
+    ("CALC", &["text", "stream", "script", "machine", "calc"]),
+    ("RUNS", &["text", "poly", "filter", "interval"]),
+];
 
 fn main() -> Result<(), String> {
     println!("cargo::rerun-if-changed=crates");
     println!("cargo::rerun-if-changed=rust");
-    write("library.rs", &LIBRARY, "")?;
-    write("tests.rs", &TESTS, "")?;
-    write("program.rs", &PROGRAM, MEMORY)?;
-    write("runs.rs", &RUNS, MEMORY)
+    let is_on = |name: &str| env::var_os(format!("CARGO_FEATURE_{name}")).is_some();
+    let asked = FEATURES.iter().filter(|(name, _)| is_on(name));
+    let with_memory: Vec<&str> = asked
+        .flat_map(|(_, crates)| crates.iter().copied())
+        .collect();
+    write("library.rs", &LIBRARY, &with_memory)?;
+    write("calculator.rs", &CALCULATOR, &with_memory)?;
+    write("tests.rs", &TESTS, &[])?;
+    write("adapters.rs", &["prog"], &[])
 }

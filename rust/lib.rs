@@ -54,7 +54,7 @@
 #![no_std]
 // The code below is the proved sources' own, which name the traits of the calls that they use and the operands of laws,
 // and have what only the runs beside the library call.
-#![allow(dead_code, unused_imports, unused_variables)]
+#![allow(dead_code, unused_imports, unused_labels, unused_variables)]
 // Their links name each target, which the docs of the proved language ask for.
 #![allow(rustdoc::redundant_explicit_links)]
 // Taste, not faults: proved sources keep the forms of which their proofs speak.
@@ -62,17 +62,23 @@
     clippy::implicit_saturating_add,
     clippy::manual_div_ceil,
     clippy::manual_is_multiple_of,
+    clippy::manual_map,
+    clippy::manual_range_contains,
+    clippy::match_like_matches_macro,
     clippy::module_inception,
-    clippy::new_without_default
+    clippy::new_without_default,
+    clippy::question_mark,
+    clippy::while_let_on_iterator
 )]
-// The tests compare numbers with themselves and divide by -1, since these are the calls under test.
+// The tests compare numbers with themselves, divide by -1, and read floats between two, since these are the calls under
+// test.
 #![cfg_attr(
     test,
     allow(
         clippy::bool_assert_comparison,
         clippy::eq_op,
+        clippy::excessive_precision,
         clippy::items_after_test_module,
-        clippy::manual_map,
         clippy::modulo_one,
         clippy::partialeq_to_none,
         clippy::single_element_loop,
@@ -80,10 +86,17 @@
     )
 )]
 
+#[cfg(any(feature = "calc", feature = "runs"))]
+extern crate alloc;
 #[cfg(test)]
 extern crate std;
 
+#[cfg(any(feature = "calc", feature = "runs"))]
+pub mod memory;
+
 include!(concat!(env!("OUT_DIR"), "/library.rs"));
+#[cfg(feature = "calc")]
+include!(concat!(env!("OUT_DIR"), "/calculator.rs"));
 #[cfg(test)]
 include!(concat!(env!("OUT_DIR"), "/tests.rs"));
 

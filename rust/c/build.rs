@@ -15,7 +15,7 @@ fn main() -> Result<(), String> {
     let folder = env::var("OUT_DIR").map_err(|error| error.to_string())?;
     // The script finds the crates from the top of the repository.
     env::set_current_dir("../..").map_err(|error| error.to_string())?;
-    write("face.rs", &["c"], "")?;
+    write("face.rs", &["c"], &[])?;
     let path = format!("{folder}/face.rs");
     let text = fs::read_to_string(&path).map_err(|error| error.to_string())?;
     fs::write(path, with_pointers(text)).map_err(|error| error.to_string())

@@ -13,6 +13,9 @@ const CHANGES: &str = include_str!("changes.txt");
 /// How attributes begin that speak to the prover, or of what Rust does not have.
 const DROPPED: [&str; 3] = ["#![tactic(", "#[tactic(", "#[error("];
 
+/// The fact that always holds.
+const ALWAYS: &str = "Unit {0}";
+
 /// How lines begin that go on with an item whose first line stands as far left.
 const LEVEL: [&str; 5] = ["{", "}", ")", "]", "where"];
 
@@ -192,7 +195,8 @@ fn facts_of(clause: &str) -> Vec<String> {
         Some((operands, facts)) if operands.starts_with('λ') => facts,
         _ => inner,
     };
-    facts.split(" × ").map(str::to_string).collect()
+    let facts = facts.split(" × ").filter(|fact| *fact != ALWAYS);
+    facts.map(str::to_string).collect()
 }
 
 /// The name of the function that an item is, if any.

@@ -10,10 +10,16 @@ pub const LIBRARY: [&str; 17] = [
     "policy", "strict", "ops", "poly", "filter", "interval",
 ];
 
+/// The crates of the calculator, lowest first.
+pub const CALCULATOR: [&str; 4] = ["stream", "script", "machine", "calc"];
+
+/// What the proved language has by itself, for crates that take memory.
+const MEMORY: &str = "use std::alloc::{Drop, String, Vec};\n";
+
 /// The files that no crate offers: their public calls are made by the proved code beside them alone.
-const INSIDE: [&str; 10] = [
+const INSIDE: [&str; 11] = [
     "decimal/halves", "decimal/numeral", "decimal/tens", "kernel/whole", "kernel/wide",
-    "logs/exact", "text/numerals", "text/pieces", "text/tokens", "text/written",
+    "logs/exact", "text/added", "text/numerals", "text/pieces", "text/tokens", "text/written",
 ];
 
 /// The modules that take memory, or serve the runs that do, and so are left out where there is none.
@@ -22,13 +28,15 @@ const LEFT_OUT: [&str; 12] = [
     "text/added", "text/numbers", "text/output",
 ];
 
-/// Writes crates as the modules of one file, each with the line `memory`, which is empty where they take none.
-pub fn write(name: &str, crates: &[&str], memory: &str) -> Result<(), String> {
+/// Writes crates as the modules of one file. Those of `with_memory` take memory, and the others have no module that
+/// does.
+pub fn write(name: &str, crates: &[&str], with_memory: &[&str]) -> Result<(), String> {
     let folder = env::var("OUT_DIR").map_err(|error| error.to_string())?;
     let mut erasing = Erasing::default();
     let mut out = String::new();
     for krate in crates {
         let root = if *krate == "prog" { "adapters" } else { "lib" };
+        let memory = if with_memory.contains(krate) { MEMORY } else { "" };
         let text = file(krate, root, memory, &mut erasing)?;
         out += &format!("pub mod {krate} {{\n{text}}}\n");
     }
@@ -40,7 +48,7 @@ fn file(krate: &str, name: &str, memory: &str, erasing: &mut Erasing) -> Result<
     let path = format!("crates/fixed_{krate}/src/{name}.rt").replace("fixed_tests_", "tests_");
     let at = |error| format!("{path}: {error}");
     let source = fs::read_to_string(&path).map_err(|error| at(error.to_string()))?;
-    let is_library = memory.is_empty() && LIBRARY.contains(&krate);
+    let is_library = LIBRARY.contains(&krate) || CALCULATOR.contains(&krate);
     let is_public = is_library && !INSIDE.contains(&format!("{krate}/{name}").as_str());
     let is_strict = krate == "strict";
     // Strict forms stop in every build.

@@ -1,19 +1,12 @@
 //! The programs of docs/CALLING.md as Cargo builds them, and that the page quotes what stands in the sources.
 
-// The calculator's modules are the proved sources' own.
-#![allow(dead_code, unused, drop_bounds, clippy::style, clippy::complexity)]
-
-#[path = "../program/memory.rs"]
-mod memory;
-
-include!(concat!(env!("OUT_DIR"), "/program.rs"));
-
-use calc::{Cause, Failed, Room, RunFault, Source, Status, SureSink, calc_main, run_in};
-use memory::Global;
 use std::fs;
 use std::path::PathBuf;
+use zugyelmas::calc::{
+    Cause, Failed, Room, RunFault, Source, Status, SureSink, calc_main, run_in,
+};
+use zugyelmas::memory::Global;
 use zugyelmas::prelude::*;
-use zugyelmas::*;
 
 fn transfer(from: &mut FixedI64<8>, to: &mut FixedI64<8>, amount: FixedI64<8>) -> Option<()> {
     let less = from.checked_sub(amount)?;

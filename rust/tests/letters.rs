@@ -47,6 +47,7 @@ fn written(line: &str) -> String {
     let one = |line: String, name: &String| line.replacen(name, "crate::", 1);
     let line = line
         .replace("crate::stopping::", "crate::")
+        .replace("crate::memory::", "core::alloc::")
         .replace("std::", "core::");
     names
         .iter()
@@ -61,7 +62,7 @@ fn lines(text: &str, named: fn(&str) -> String, counted: &mut Lines) {
     for line in text.lines() {
         let code = named(head_of(line.split("//").next().unwrap_or_default()));
         let code = code.replace("derive(Clone, Copy", "derive(Copy");
-        let code = code.replace(", Error)]", ")]");
+        let code = code.replace(", Error)]", ")]").replace(", Drop)]", ")]");
         let code = code.replace("fmt<W: fmt::Write>(", "fmt(").replace("Formatter<W>", "Formatter<'_>");
         if code.chars().any(char::is_alphanumeric) {
             *counted.entry(code).or_default() += 1;
@@ -89,6 +90,7 @@ fn is_added(line: &str) -> bool {
     line.starts_with("assert!(")
         || line.starts_with("debug_assert!(")
         || line == "#[track_caller]"
+        || line == "use core::alloc::{Drop, String, Vec}"
         || module.starts_with("mod ")
 }
 

@@ -1,18 +1,9 @@
-//! The runs over text as Cargo builds them, which benches and the example include: scripts with known answers.
+//! The runs over text as Cargo builds them: scripts with known answers.
 
-// The modules of the runs, which are the proved sources' own.
-#![allow(dead_code, unused, drop_bounds, clippy::style, clippy::complexity)]
-
-#[path = "../program/memory.rs"]
-mod memory;
-
-include!(concat!(env!("OUT_DIR"), "/runs.rs"));
-
-use crate::filter::{FilterFault, filter_run};
-use crate::interval::{IntervalFault, interval_run};
-use crate::poly::{PolyFault, poly_run};
-use memory::Global;
-use zugyelmas::*;
+use zugyelmas::filter::{FilterFault, filter_run};
+use zugyelmas::interval::{IntervalFault, interval_run};
+use zugyelmas::memory::Global;
+use zugyelmas::poly::{PolyFault, poly_run};
 
 #[test]
 fn the_examples_answer_as_stated() {

@@ -1,10 +1,11 @@
-//! Memory as the proved sources ask for it: from an allocator that is passed, and with an answer that says where memory
-//! ran out.
+//! Memory as the proved sources ask for it: from an allocator that is passed, and with a result that says whether memory
+//! ran out. This module is not proved: each call forwards to `alloc`.
 
-use std::ops::{Deref, DerefMut};
-use std::vec;
+pub use alloc::string::String;
+use alloc::vec;
+use core::ops::{Deref, DerefMut};
 
-/// The allocator, which is that of the process.
+/// The allocator, which is the process's own.
 #[derive(Clone, Copy)]
 pub struct Global;
 
