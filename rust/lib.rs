@@ -52,6 +52,7 @@
 //! width or more. The strict and unwrapped forms stop where the number does not fit. The operators and plain calls do
 //! so in builds with debug assertions, and otherwise answer the wrapped number, as those of integers do.
 #![no_std]
+#![forbid(unsafe_code)]
 // The code below is the proved sources' own, which name the traits of the calls that they use and the operands of laws,
 // and have what only the runs beside the library call.
 #![allow(dead_code, unused_imports, unused_labels, unused_variables)]

@@ -25,6 +25,7 @@ pub struct Vec<T> {
 }
 
 impl<T> Vec<T> {
+    #[must_use]
     pub fn new(_alloc: Global) -> Vec<T> {
         Vec {
             held: vec::Vec::new(),
@@ -86,6 +87,7 @@ impl<T> Vec<T> {
         self.held.clear();
     }
 
+    #[must_use]
     pub fn as_slice(&self) -> &[T] {
         &self.held
     }

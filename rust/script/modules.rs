@@ -1,5 +1,6 @@
 //! Crates as modules of Rust: each file becomes an inline module where its `mod` item stood.
 
+use crate::script::attributes::with_must_use;
 use crate::script::conditions::KNOWN;
 use crate::script::erasing::Erasing;
 use std::{env, fs};
@@ -55,7 +56,11 @@ fn file(krate: &str, name: &str, memory: &str, erasing: &mut Erasing) -> Result<
     let debugging = if is_strict { "assert" } else { "debug_assert" };
     let known = KNOWN.replace("debug_assert", debugging);
     erasing.known = if is_public { known } else { String::new() };
-    let text = erasing.erased(&source).map_err(at)? + memory;
+    let mut text = erasing.erased(&source).map_err(at)?;
+    if is_library {
+        text = with_must_use(&text);
+    }
+    text += memory;
     let mut out = String::new();
     for line in named(&text, krate, is_library).lines() {
         let item = line.strip_suffix(';').unwrap_or_default();

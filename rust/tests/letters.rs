@@ -90,6 +90,7 @@ fn is_added(line: &str) -> bool {
     line.starts_with("assert!(")
         || line.starts_with("debug_assert!(")
         || line == "#[track_caller]"
+        || line == "#[must_use]"
         || line == "use core::alloc::{Drop, String, Vec}"
         || module.starts_with("mod ")
 }
