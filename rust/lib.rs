@@ -101,6 +101,43 @@ include!(concat!(env!("OUT_DIR"), "/calculator.rs"));
 #[cfg(test)]
 include!(concat!(env!("OUT_DIR"), "/tests.rs"));
 
+/// Keeps the traits of words to Rust's own integers and floats, since nothing proves what another type would say of
+/// itself.
+///
+/// ```compile_fail,E0277
+/// #[derive(Clone, Copy)]
+/// struct Byte(u8);
+///
+/// impl zugyelmas::word::Valued for Byte {
+///     const BITS: u32 = 8;
+/// }
+/// ```
+mod sealed {
+    pub trait Sealed {}
+
+    // A test of the proved crates has a word of its own, which counts.
+    #[cfg(test)]
+    impl<T> Sealed for T {}
+
+    #[cfg(not(test))]
+    mod words {
+        use super::Sealed;
+
+        impl Sealed for i8 {}
+        impl Sealed for i16 {}
+        impl Sealed for i32 {}
+        impl Sealed for i64 {}
+        impl Sealed for i128 {}
+        impl Sealed for u8 {}
+        impl Sealed for u16 {}
+        impl Sealed for u32 {}
+        impl Sealed for u64 {}
+        impl Sealed for u128 {}
+        impl Sealed for f32 {}
+        impl Sealed for f64 {}
+    }
+}
+
 /// What the strict forms know as the numbers: the same, but that the number has to fit in every build.
 mod stopping {
     use crate::word::{Outcome, Word, strict_of};
@@ -136,10 +173,12 @@ pub use strict::{Strict, StrictMulAdd, StrictProducts, StrictSigned, StrictUnsig
 pub use strict::{
     Unwrapped, UnwrappedMulAdd, UnwrappedProducts, UnwrappedSigned, UnwrappedUnsigned,
 };
-pub use word::{SignedWord, UnsignedWord, Word};
+pub use word::{RawWord, SignedWord, UnsignedWord, Word};
 
-/// What most programs import: the numbers, and the traits of their calls.
+/// What most programs import: the numbers, and the traits of their calls. The traits whose names std has too, such as
+/// `Wrapping`, stay in scope beside `use std::num::Wrapping`.
 pub mod prelude {
+    pub use crate::{Binary as _, Saturating as _, Wrapping as _};
     pub use crate::{Binary, FloatNumber};
     pub use crate::{Checked, CheckedMulAdd, CheckedProducts, CheckedSigned, CheckedUnsigned};
     pub use crate::{
@@ -154,7 +193,7 @@ pub mod prelude {
         Saturating, SaturatingMulAdd, SaturatingProducts, SaturatingSigned, SaturatingUnsigned,
     };
     pub use crate::{FromNum, Order, ToNum, ToWhole};
-    pub use crate::{SignedWord, UnsignedWord, Word};
+    pub use crate::{RawWord, SignedWord, UnsignedWord, Word};
     pub use crate::{Strict, StrictMulAdd, StrictProducts, StrictSigned, StrictUnsigned};
     pub use crate::{
         Unwrapped, UnwrappedMulAdd, UnwrappedProducts, UnwrappedSigned, UnwrappedUnsigned,

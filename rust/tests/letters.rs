@@ -48,6 +48,9 @@ fn written(line: &str) -> String {
     let line = line
         .replace("crate::stopping::", "crate::")
         .replace("crate::memory::", "core::alloc::")
+        .replace(" + crate::sealed::Sealed", "")
+        .replace("type Unsigned: UnsignedWord", "type Unsigned: RawWord")
+        .replace("type Signed: SignedWord", "type Signed: RawWord")
         .replace("std::", "core::");
     names
         .iter()
