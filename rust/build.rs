@@ -3,6 +3,7 @@
 mod script;
 
 use script::modules::{CALCULATOR, LIBRARY, write};
+use script::references::write_references;
 use std::env;
 
 /// The tests of the library, and the example that they test.
@@ -30,6 +31,7 @@ fn main() -> Result<(), String> {
         .collect();
     write("library.rs", &LIBRARY, &with_memory)?;
     write("calculator.rs", &CALCULATOR, &with_memory)?;
+    write_references("references.rs")?;
     write("tests.rs", &TESTS, &[])?;
     write("adapters.rs", &["prog"], &[])
 }

@@ -92,6 +92,7 @@ extern crate alloc;
 #[cfg(test)]
 extern crate std;
 
+mod edge;
 #[cfg(any(feature = "calc", feature = "runs"))]
 pub mod memory;
 

@@ -4,3 +4,4 @@ pub mod attributes;
 pub mod conditions;
 pub mod erasing;
 pub mod modules;
+pub mod references;
