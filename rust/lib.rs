@@ -97,8 +97,6 @@ mod edge;
 pub mod memory;
 
 include!(concat!(env!("OUT_DIR"), "/library.rs"));
-#[cfg(feature = "calc")]
-include!(concat!(env!("OUT_DIR"), "/calculator.rs"));
 #[cfg(test)]
 include!(concat!(env!("OUT_DIR"), "/tests.rs"));
 

@@ -4,4 +4,3 @@ pub mod attributes;
 pub mod conditions;
 pub mod erasing;
 pub mod modules;
-pub mod references;

@@ -37,7 +37,7 @@ fn operators_on_references() {
         ([gain ^ level, GAIN ^ level, gain ^ LEVEL], 98304 ^ 131072),
         ([gain * &2, GAIN * &2, gain * 2], 3 << 16),
         ([gain / &2, GAIN / &2, gain / 2], 3 << 14),
-        ([gain % &1, GAIN % &1, gain % 1], 1 << 15),
+        ([gain % &2, GAIN % &2, gain % 2], 98304),
         ([gain << &2, GAIN << &2, gain << 2], 98304 << 2),
         ([gain >> &2, GAIN >> &2, gain >> 2], 98304 >> 2),
         ([-gain, -GAIN, -&GAIN], -98304),

@@ -7,9 +7,9 @@ use std::path::{Path, PathBuf};
 
 const LIBRARY: &str = include_str!(concat!(env!("OUT_DIR"), "/library.rs"));
 
-const MODULES: [&str; 17] = [
+const MODULES: [&str; 21] = [
     "word", "bits", "root", "logs", "kernel", "convert", "text", "decimal", "num", "float", "cast",
-    "policy", "strict", "ops", "poly", "filter", "interval",
+    "policy", "strict", "ops", "poly", "filter", "interval", "stream", "script", "machine", "calc",
 ];
 
 /// How often each line of code stands in a text.
