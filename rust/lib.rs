@@ -40,9 +40,31 @@
 //! # What is trusted
 //!
 //! The proofs are those of the kit `rattle-kit-13b logic dac8208d650f15bf` and speak of its language. That rustc's
-//! code does the same stands on rustc itself, on the build script, and on the kit's table of forms that compile in
-//! both languages and act apart: none of them is used here (`docs/DECISIONS.md` says how that was seen). The tests
-//! of the proved crates run here too.
+//! code does the same rests on:
+//!
+//! - rustc, and the build script, which leaves contracts out and writes assertions in.
+//! - The kit's table of forms that compile in both languages and run differently. None of them is used here
+//!   (`docs/DECISIONS.md` says how that was checked).
+//! - `stopping::exact_number` in `rust/lib.rs`: Rust without a proof, which every strict and unwrapped call makes.
+//! - `rust/edge.rs` and `rust/script/references.rs`: operators on references, [`Sum`](core::iter::Sum) and
+//!   [`Product`](core::iter::Product), and replies as results, which forward to proved calls. With a feature also
+//!   `rust/memory.rs`, which forwards to `alloc`.
+//! - A `usize` of 64 bits, as it has in every proof. On a smaller target nothing is proved of lengths and indexes.
+//! - Every implementation of this library's traits in another crate. Nothing is proved of one, nor of a generic call
+//!   that uses it. The traits of words and floats are sealed, since a word that misstates itself would break every
+//!   call.
+//!
+//! The tests of the proved crates run here too.
+//!
+//! # Features
+//!
+//! No feature is on by default, and the library then has no dependency and takes no memory. Both features take memory,
+//! by `alloc`:
+//!
+//! - `calc`: the calculator, in the module `calc`. `calc::run` runs a script, `calc::run_in` does so in memory that was
+//!   made before, and `calc::explicit` spells a script out. The program `zugyelmas` asks for this feature.
+//! - `runs`: the runs over text, `filter::filter_run`, `poly::poly_run` and `interval::interval_run`, and
+//!   `filter::Bank`, which holds channels of filters.
 //!
 //! # Conditions
 //!

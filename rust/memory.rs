@@ -1,5 +1,5 @@
-//! Memory as the proved sources ask for it: from an allocator that is passed, and with a result that says whether memory
-//! ran out. This module is not proved: each call forwards to `alloc`.
+//! Memory as the proved sources ask for it: from an allocator that is passed, and with a result that says whether
+//! memory ran out. This module is not proved: each call forwards to `alloc`.
 
 pub use alloc::string::String;
 use alloc::vec;

@@ -1,5 +1,5 @@
-//! The operators on references to numbers, as Rust's integers have them. They are not proved: each copies what it refers
-//! to and forwards to a proved operator.
+//! The operators on references to numbers, as Rust's integers have them. They are not proved: each copies what it
+//! refers to and forwards to a proved operator.
 
 use std::{env, fs};
 
