@@ -1,51 +1,37 @@
 //! `#[must_use]` on each public call that returns a value and changes nothing: without its result such a call does
 //! nothing.
 
-/// The text of a file with the attribute above each such call. Members of an `impl` of a trait have it from the trait.
-pub fn with_must_use(text: &str) -> String {
-    let mut out = String::new();
-    let mut declared = "pub ";
-    let mut rest = text;
-    while let Some(line) = rest.split_inclusive('\n').next() {
-        if !line.starts_with([' ', '\n']) {
-            declared = of_members(line);
-        }
-        let code = line.trim_start();
-        if is_function(code, declared) && is_pure(head_of(rest)) {
-            let indent = &line[..line.len() - code.len()];
-            out += &format!("{indent}#[must_use]\n");
-        }
-        out += line;
-        rest = &rest[line.len()..];
-    }
-    out
-}
+use crate::script::edits::{Edits, bytes};
+use crate::script::items::{Function, Item, Part, Source};
 
-/// What stands before the `fn` of a public function among the members of an item, of which this is the first line.
-fn of_members(line: &str) -> &'static str {
-    match line {
-        _ if line.starts_with("pub trait ") => "",
-        _ if line.starts_with("impl") && line.contains(" for ") => "no member",
-        _ => "pub ",
+/// The edits that mark each such call of a source.
+pub fn mark(source: &Source, edits: &mut Edits) {
+    for item in &source.items {
+        if let Part::Function(function) = &item.part {
+            if is_public(source, item, function) && is_pure(source, function) {
+                let start = bytes(source, &item.place).start;
+                let before = &source.text[..start];
+                let indent = " ".repeat(before.len() - before.trim_end_matches(' ').len());
+                edits.insert(start, &format!("#[must_use]\n{indent}"));
+            }
+        }
     }
 }
 
-fn is_function(code: &str, declared: &str) -> bool {
-    let code = code.strip_prefix(declared);
-    let code = code.map(|code| code.strip_prefix("const ").unwrap_or(code));
-    code.is_some_and(|code| code.starts_with("fn "))
+/// Whether users call a function by its own item. An implementation of a trait has the attribute from the trait.
+fn is_public(source: &Source, item: &Item, function: &Function) -> bool {
+    match item.block.map(|block| &source.items[block].part) {
+        Some(Part::Trait(_)) => true,
+        Some(Part::Impl(Some(_), _)) => false,
+        _ => function.is_public,
+    }
 }
 
-/// The head of the function with which a text begins.
-fn head_of(text: &str) -> &str {
-    let end = [" {", ";\n"].iter().filter_map(|end| text.find(end)).min();
-    &text[..end.unwrap_or(text.len())]
-}
-
-/// Whether a function of this head returns a value, and has no operand that it could change. A `Result` has the
-/// attribute itself.
-fn is_pure(head: &str) -> bool {
-    let result = head.split_once(") -> ").map_or("", |(_, result)| result);
-    let is_value = !result.is_empty() && !result.contains("Result");
-    is_value && !head.contains("&mut ")
+/// Whether a function returns a value, and has no operand that it could change. A `Result` has the attribute itself.
+fn is_pure(source: &Source, function: &Function) -> bool {
+    let parameters = source.code(&function.parameters);
+    let is_changed = |signs: &[&str]| signs[1] == "mut" && signs[0].starts_with(['&', '\'']);
+    let result = source.code(&(function.parameters.end..function.head_end));
+    let is_value = result.starts_with(&["-", ">"]) && !result.contains(&"Result");
+    is_value && !parameters.windows(2).any(is_changed)
 }

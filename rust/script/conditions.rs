@@ -1,33 +1,189 @@
 //! The conditions of calls: what Rust tests, and says in docs, where the proved language has a proof.
 
-/// The known forms of facts, and the calls that stop by themselves.
-pub const KNOWN: &str = include_str!("conditions.txt");
-const STOPPING: &str = include_str!("stopping.txt");
+use crate::script::items::Source;
+use crate::script::table::Table;
+use crate::script::tokens::code;
+use std::ops::Range;
 
-/// What "Panics" says of the conditions `$` that are asserted in every build, and with debug assertions alone.
-const ALWAYS: &str = "Unless all of this holds: $.";
-const DEBUGGING: &str = "With debug assertions, unless $; without them the answer is wrapped.";
+/// What docs say of the conditions `$` of a kind, and how the kind is asserted, with `$` for the test and its words.
+struct Kind {
+    name: &'static str,
+    assertion: &'static str,
+    heading: &'static str,
+    sentence: &'static str,
+}
 
-/// A condition: the macro that asserts it, its test in Rust, and the words. The test is empty where what the body calls
+const KINDS: [Kind; 5] = [
+    Kind {
+        name: "const",
+        assertion: "const { assert!($) };",
+        heading: "Compile errors",
+        sentence: "Compiles only if $.",
+    },
+    Kind {
+        name: "assert",
+        assertion: "assert!($);",
+        heading: "Panics",
+        sentence: "Panics unless $.",
+    },
+    Kind {
+        name: "uncounted",
+        assertion: "assert!($);",
+        heading: "Panics",
+        sentence: "If the ledger `L` counts nothing, panics unless $. If it counts, nothing is tested, and the result has a \
+            meaning only if $.",
+    },
+    Kind {
+        name: "debug_assert",
+        assertion: "debug_assert!($);",
+        heading: "Panics",
+        sentence: "With debug assertions, panics unless $. Without them, the result is wrapped.",
+    },
+    Kind {
+        name: "overflow",
+        assertion: "debug_assert!($);",
+        heading: "Panics",
+        sentence: "With debug assertions or overflow checks, panics unless $. Without both, the result is wrapped.",
+    },
+];
+
+/// The fact that always holds.
+const ALWAYS: &str = "Unit {0}";
+
+/// Signs that join facts, so that what is known of a part is not known of the whole.
+const JOINING: [&str; 4] = ["→", "↔", "×", "⊎"];
+
+/// A condition: the name of its kind, its test in Rust, and the words. The test is empty where what the body calls
 /// stops by itself.
-pub type Condition = [String; 3];
+#[derive(Clone, Debug, PartialEq, Eq)]
+pub struct Condition {
+    pub kind: String,
+    pub test: String,
+    pub words: String,
+}
 
-/// The condition of a fact, by a table of known forms. One that is unknown, or that nothing in a body sees, is an
-/// error, so that none is dropped unseen.
-pub fn condition_of(fact: &str, known: &str, body: &str) -> Result<Condition, String> {
-    let found = known.lines().find_map(|row| {
-        let columns: Vec<&str> = row.split(" | ").map(str::trim).collect();
-        let name = name_in(columns[0], fact)?;
-        let condition = <[&str; 3]>::try_from(&columns[1..]).ok()?;
-        Some(condition.map(|column| column.replace('$', name)))
-    });
-    let condition = found.ok_or_else(|| format!("a clause of no known form: {fact}"))?;
-    let [_, test, words] = &condition;
-    let stops = STOPPING.lines().any(|call| body.contains(call));
-    if test.is_empty() && !stops && body != ";" {
-        return Err(format!("nothing in its body stops unless {words}"));
+/// The known forms of facts, the bodies that stop by themselves, and the assertions that no contract requires.
+pub struct Known {
+    pub forms: Table,
+    pub stopping: Table,
+    pub added: Table,
+    /// The functions that the stopping bodies call.
+    called: Vec<&'static str>,
+}
+
+impl Known {
+    pub fn new() -> Known {
+        let stopping = Table::new("stopping.txt", include_str!("stopping.txt"));
+        let called = stopping.rows().flat_map(|row| called(row[0])).collect();
+        Known {
+            forms: Table::new("conditions.txt", include_str!("conditions.txt")),
+            stopping,
+            added: Table::new("added.txt", include_str!("added.txt")),
+            called,
+        }
     }
-    Ok(condition)
+
+    /// The condition of a fact. One that is unknown, or that nothing in a body sees, is an error, so that none is
+    /// dropped unseen.
+    pub fn condition(&self, fact: &str, body: &[&str]) -> Result<Condition, String> {
+        let found = self.forms.find_map(|columns| {
+            let name = name_in(columns[0], fact)?;
+            let [kind, test, words] = <[&str; 3]>::try_from(&columns[1..]).ok()?;
+            let is_constant = kind == "assert" && is_constant(name);
+            Some(Condition {
+                kind: if is_constant { "const" } else { kind }.to_string(),
+                test: test.replace('$', name),
+                words: words.replace('$', name),
+            })
+        });
+        let condition = found.ok_or_else(|| format!("a clause of no known form: {fact}"))?;
+        if condition.test.is_empty() && body != [";"] && !self.stops(body) {
+            return Err(format!(
+                "nothing in its body stops unless {}",
+                condition.words
+            ));
+        }
+        Ok(condition)
+    }
+
+    /// The condition that is asserted of an item beside its contract.
+    pub fn added(&self, item: &str) -> Option<Condition> {
+        self.added.find_map(|columns| {
+            let [place, kind, test, words] = <[&str; 4]>::try_from(columns).ok()?;
+            (place == item).then(|| Condition {
+                kind: kind.to_string(),
+                test: test.to_string(),
+                words: words.to_string(),
+            })
+        })
+    }
+
+    /// Whether a body is one that stops by itself.
+    fn stops(&self, body: &[&str]) -> bool {
+        let [_, inner @ .., _] = body else {
+            return false;
+        };
+        let stops = |columns: &[&str]| is_of_form(&code(columns[0]), inner).then_some(());
+        self.stopping.find_map(stops).is_some()
+    }
+
+    /// Whether bodies that stop by themselves call a function of this name, which is no method.
+    pub fn is_called(&self, name: &str) -> bool {
+        self.called.contains(&name)
+    }
+
+    /// The rows that nothing matched.
+    pub fn unused(&self) -> Vec<String> {
+        let tables = [&self.forms, &self.stopping, &self.added];
+        tables.iter().flat_map(|table| table.unused()).collect()
+    }
+}
+
+/// The functions that a body calls, without methods and what is called by a path.
+fn called(body: &'static str) -> Vec<&'static str> {
+    let signs = [vec!["{"], code(body)].concat();
+    let calls = signs
+        .windows(3)
+        .filter(|signs| signs[2] == "(" && ![".", ":"].contains(&signs[0]));
+    calls.map(|signs| signs[1]).collect()
+}
+
+/// Whether a body is of a form: `(…)` has any arguments from which nothing returns early, and `…` behind a name has the
+/// rest of the name.
+fn is_of_form(form: &[&str], body: &[&str]) -> bool {
+    match (form, body) {
+        ([], []) => true,
+        (["(", "…", form @ ..], ["(", ..]) => {
+            let end = arguments(body);
+            let (inner, rest) = body.split_at(end);
+            let is_early = |sign: &&str| ["return", "?"].contains(sign);
+            !inner.iter().any(is_early) && is_of_form(form, rest)
+        }
+        ([name, "…", form @ ..], [sign, body @ ..]) => {
+            sign.starts_with(name) && is_of_form(form, body)
+        }
+        ([name, form @ ..], [sign, body @ ..]) => name == sign && is_of_form(form, body),
+        _ => false,
+    }
+}
+
+/// How many signs stand before the bracket that closes the first.
+fn arguments(signs: &[&str]) -> usize {
+    let mut depth = 0;
+    let close = signs.iter().position(|sign| {
+        depth += match *sign {
+            "(" | "[" | "{" => 1,
+            ")" | "]" | "}" => -1,
+            _ => 0,
+        };
+        depth == 0
+    });
+    close.unwrap_or(signs.len())
+}
+
+fn is_constant(name: &str) -> bool {
+    let is_capital = |sign: char| sign.is_ascii_uppercase() || sign == '_';
+    !name.is_empty() && name.chars().all(is_capital)
 }
 
 /// What stands in a fact where its form has `$` for a name or `…` for the rest; nothing where it has neither.
@@ -36,34 +192,89 @@ fn name_in<'a>(form: &str, fact: &'a str) -> Option<&'a str> {
     let name = fact.strip_prefix(before)?.strip_suffix(after)?;
     let is_of_name = |sign: char| sign.is_alphanumeric() || "_.".contains(sign);
     let is_name = name.chars().all(is_of_name) && name.is_empty() != form.contains('$');
-    (is_name || form.ends_with('…')).then_some(name)
+    let is_rest = form.ends_with('…') && is_one_fact(name);
+    (is_name || is_rest).then_some(name)
+}
+
+/// Whether the rest of a fact has no part that is joined to what stands before it.
+fn is_one_fact(rest: &str) -> bool {
+    let mut depth = 0;
+    code(rest).into_iter().all(|sign| {
+        match sign {
+            "(" | "[" | "{" => depth += 1,
+            ")" | "]" | "}" => depth -= 1,
+            _ => {}
+        }
+        depth > 0 || !JOINING.contains(&sign)
+    })
+}
+
+/// The facts of a clause `requires NAME { FACT }`, or of an operator's `can_NAME = { λ a b. FACT × FACT }`.
+pub fn facts_of(source: &Source, clause: &Range<usize>) -> Vec<String> {
+    let sign_at = |sign: &str, mut range: Range<usize>| range.find(|at| source.sign(*at) == sign);
+    let open = sign_at("{", clause.clone()).unwrap_or(clause.end);
+    let close = source.group_end(open).map_or(clause.end, |end| end - 1);
+    let operands = sign_at("λ", open + 1..open + 2).and_then(|lambda| sign_at(".", lambda..close));
+    let start = operands.unwrap_or(open) + 1;
+    let mut depth = 0;
+    let parts = (start..close).filter(|at| {
+        match source.sign(*at) {
+            "(" | "[" | "{" => depth += 1,
+            ")" | "]" | "}" => depth -= 1,
+            _ => {}
+        }
+        depth == 0 && source.sign(*at) == "×"
+    });
+    let ends: Vec<usize> = parts.chain([close]).collect();
+    let starts = [start].into_iter().chain(ends.iter().map(|end| end + 1));
+    let words = |fact: Range<usize>| {
+        source
+            .slice(&fact)
+            .split_whitespace()
+            .collect::<Vec<_>>()
+            .join(" ")
+    };
+    starts
+        .zip(&ends)
+        .map(|(start, end)| words(start..*end))
+        .filter(|fact| fact != ALWAYS)
+        .collect()
 }
 
 /// The assertions of conditions, each on a line of its own.
 pub fn assertions(conditions: &[Condition], indent: &str) -> String {
-    let tested = conditions.iter().filter(|[_, test, _]| !test.is_empty());
-    let line = |[asserting, test, words]: &Condition| {
-        format!("\n{indent}    {asserting}!({test}, \"condition: {words}\");")
+    let tested = conditions
+        .iter()
+        .filter(|condition| !condition.test.is_empty());
+    let line = |condition: &Condition| {
+        let Condition { test, words, .. } = condition;
+        let kind = KINDS.iter().find(|kind| kind.name == condition.kind);
+        let assertion = kind.map_or("compile_error!($);", |kind| kind.assertion);
+        let said = format!("{test}, \"condition: {words}\"");
+        format!("\n{indent}    {}", assertion.replace('$', &said))
     };
     tested.map(line).collect()
 }
 
-/// The contract of a call as docs: when it stops, and what is proved of it.
+/// The contract of a call as docs: when it does not compile, when it panics, and what is proved of it.
 pub fn docs(contract: &[String], conditions: &[Condition], indent: &str) -> String {
-    let mut text = conditions
-        .first()
-        .map_or("", |_| "\n# Panics\n")
-        .to_string();
-    for (asserting, sentence) in [("assert", ALWAYS), ("debug_assert", DEBUGGING)] {
+    let mut text = String::new();
+    let mut above = "";
+    for kind in &KINDS {
         let those = conditions
             .iter()
-            .filter(|condition| condition[0] == asserting);
-        let words: Vec<&str> = those.map(|[_, _, words]| words.as_str()).collect();
+            .filter(|condition| condition.kind == kind.name);
+        let words: Vec<&str> = those.map(|condition| condition.words.as_str()).collect();
+        if !words.is_empty() && kind.heading != above {
+            text += &format!("\n# {}\n", kind.heading);
+            above = kind.heading;
+        }
         if !words.is_empty() {
-            text += &format!("\n{}\n", sentence.replace('$', &words.join("; ")));
+            text += &format!("\n{}\n", kind.sentence.replace('$', &words.join(", and ")));
         }
     }
     text += &format!("\n# Proved\n\n```text\n{}\n```", contract.join("\n"));
-    let lines = text.lines().map(|line| format!("{indent}/// {line}"));
-    lines.map(|line| format!("{}\n", line.trim_end())).collect()
+    let lines = text.lines().map(|line| format!("/// {line}"));
+    let on_a_line = |line: String| format!("{}\n{indent}", line.trim_end());
+    lines.map(on_a_line).collect()
 }

@@ -1,219 +1,306 @@
 //! A proved source as Rust: contracts, ghost items and what speaks to the prover go, code and docs stay letter for
 //! letter. The contract of a public call joins its docs, and its conditions are asserted before its body.
-//!
-//! Sources are formatted, so where its lines stand says what belongs to an item. No brace is counted, and one in a
-//! comment, a string or a character is as any sign.
 
-use crate::script::conditions::{assertions, condition_of, docs};
-use std::collections::BTreeMap;
+use crate::script::changes::change;
+use crate::script::conditions::{Condition, Known, assertions, docs, facts_of};
+use crate::script::edits::{Edits, bytes};
+use crate::script::items::{Function, Item, Part, Source};
+use crate::script::tokens::Kind;
+use crate::script::traits::{Trait, Traits, names_in};
+use std::ops::Range;
 
-/// What a source has, and what Rust has in its place.
-const CHANGES: &str = include_str!("changes.txt");
+/// The traits whose implementations go: in the proved language a `Clone` may fail, and `Model` speaks to the prover.
+const GOING: [&str; 2] = ["Clone", "Model"];
 
-/// How attributes begin that speak to the prover, or of what Rust does not have.
-const DROPPED: [&str; 3] = ["#![tactic(", "#[tactic(", "#[error("];
-
-/// The fact that always holds.
-const ALWAYS: &str = "Unit {0}";
-
-/// How lines begin that go on with an item whose first line stands as far left.
-const LEVEL: [&str; 5] = ["{", "}", ")", "]", "where"];
-
-/// Reads sources one after the other.
-#[derive(Default)]
-pub struct Erasing {
+/// Reads a source.
+pub struct Erasing<'a> {
+    pub source: &'a Source<'a>,
+    /// The file, such as `num/format`.
+    pub file: &'a str,
     /// The known conditions of public calls. Where there are none, contracts go.
-    pub known: String,
-    /// The facts that each function `TRAIT::NAME` requires, which an `impl` has without saying so.
-    clauses: BTreeMap<String, Vec<String>>,
-    /// The contract of an operator, which stands above its function.
-    operator: Vec<String>,
+    pub known: Option<&'a Known>,
+    /// Whether calls stop in every build.
+    pub is_strict: bool,
+    pub traits: &'a Traits,
 }
 
-impl Erasing {
-    /// A source in Rust.
-    pub fn erased(&mut self, source: &str) -> Result<String, String> {
-        self.items(&changed(source), "")
+impl Erasing<'_> {
+    /// The edits that make Rust of the source. An error names the line.
+    pub fn edits(&self) -> Result<Edits, String> {
+        let mut edits = Edits::default();
+        self.account()?;
+        for item in &self.source.items {
+            let done = match &item.part {
+                Part::Ghost => self.ghost(item, &mut edits),
+                Part::Function(function) => self.function(item, function, &mut edits),
+                Part::Impl(Some(path), _) if self.goes(path) => {
+                    edits.remove(self.source, self.source.with_above(item));
+                    Ok(())
+                }
+                _ => Ok(()),
+            };
+            done.map_err(|message| self.source.at_line(item.place.start, &message))?;
+        }
+        change(self.source, &mut edits);
+        Ok(edits)
     }
 
-    /// Items in Rust, around which a trait is declared or implemented, if any.
-    fn items(&mut self, text: &str, of_trait: &str) -> Result<String, String> {
-        let mut out: Vec<String> = Vec::new();
-        let mut rest = text;
-        while !rest.is_empty() {
-            let (item, after) = rest.split_at(length(rest));
-            rest = after;
-            let code = item.trim();
-            if let Some(member) = code.strip_prefix("ghost ") {
-                if member.starts_with("can_") || member.contains("_gives = ") {
-                    let lines = member.trim_end_matches(';').lines().map(str::trim);
-                    let lines: Vec<&str> = lines.collect();
-                    self.operator.push(lines.join("\n    "));
-                }
-                // The comments of a ghost item go with it.
-                while out.last().is_some_and(|above| begins(above, &["//"])) {
-                    out.pop();
-                }
-            } else if let Some(name) = function_name(code) {
-                let above = out.iter().rfind(|line| !begins(line, &["#["]));
-                let has_docs = above.is_some_and(|line| begins(line, &["///"]));
-                let function = self.function(item, of_trait, has_docs);
-                out.push(function.map_err(|error| format!("{name}: {error}"))?);
-            } else if !begins(code, &DROPPED) {
-                out.push(self.block(item)?);
-            }
-        }
-        match self.operator.pop() {
-            Some(clause) => Err(format!("a clause of no function: {clause}")),
-            None => Ok(out.concat()),
+    /// Each clause, wherever it stands, is one that a function was read with.
+    fn account(&self) -> Result<(), String> {
+        let functions = self.functions().map(|(_, function)| function);
+        let read: Vec<usize> = functions
+            .flat_map(|function| &function.clauses)
+            .map(|clause| clause.start)
+            .collect();
+        let lost = (0..self.source.tokens.len()).find(|at| {
+            ["requires", "ensures"].contains(&self.source.sign(*at)) && !read.contains(at)
+        });
+        match lost {
+            Some(at) => Err(self.source.at_line(at, "a clause of no function")),
+            None => Ok(()),
         }
     }
 
-    /// An item that is no function, with the items that it has in braces.
-    fn block(&mut self, item: &str) -> Result<String, String> {
-        let block = item.strip_suffix("}\n");
-        match block.and_then(|block| block.split_once("{\n")) {
-            // In the proved language a `Clone` may fail.
-            Some((head, _)) if ["Clone", "Model"].contains(&trait_of(head)) => Ok(String::new()),
-            Some((head, inner)) => {
-                let inner = self.items(inner, trait_of(head))?;
-                Ok(format!("{head}{{\n{inner}}}\n"))
-            }
-            None => Ok(item.to_string()),
+    fn functions(&self) -> impl Iterator<Item = (&Item, &Function)> {
+        self.source
+            .items
+            .iter()
+            .filter_map(|item| match &item.part {
+                Part::Function(function) => Some((item, function)),
+                _ => None,
+            })
+    }
+
+    /// Whether an implementation goes.
+    fn goes(&self, path: &Range<usize>) -> bool {
+        GOING.contains(&self.source.slice(path))
+    }
+
+    /// Whether a block has a function of this name.
+    fn has_function(&self, block: Option<usize>, name: &str) -> bool {
+        let mut functions = self.functions();
+        functions
+            .any(|(item, function)| item.block == block && self.source.sign(function.name) == name)
+    }
+
+    /// The name of a ghost item.
+    fn ghost_name(&self, ghost: &Item) -> &str {
+        let signs = self.source.code(&ghost.place);
+        let name = signs
+            .iter()
+            .position(|sign| *sign == "ghost")
+            .map_or(0, |at| at + 1);
+        signs.get(name).copied().unwrap_or_default()
+    }
+
+    /// A ghost item goes with what stands right above it. Docs there would be lost, and so would what an operator
+    /// requires that the block does not have.
+    fn ghost(&self, item: &Item, edits: &mut Edits) -> Result<(), String> {
+        let range = self.source.with_above(item);
+        let mut above = range.start..item.place.start;
+        if self.known.is_some() && above.any(|at| self.source.tokens[at].text.starts_with("///")) {
+            return Err("docs above a ghost item".to_string());
         }
+        let name = self.ghost_name(item);
+        let operator = name.strip_prefix("can_").filter(|_| self.known.is_some());
+        if operator.is_some_and(|operator| !self.has_function(item.block, operator)) {
+            return Err(format!("a clause of no function: {name}"));
+        }
+        edits.remove(self.source, range);
+        Ok(())
     }
 
     /// A function with assertions of its conditions, below its contract as docs if docs stand above.
-    fn function(&mut self, item: &str, of_trait: &str, has_docs: bool) -> Result<String, String> {
-        let (head, clauses, body) = parts(item).ok_or("a function without an end")?;
-        let contract: Vec<String> = self.operator.drain(..).chain(clauses).collect();
-        let is_public = !of_trait.is_empty() || head.trim_start().starts_with("pub ");
-        let mut conditions = Vec::new();
-        let mut out = String::new();
-        let indent = &" ".repeat(column(item));
-        if is_public && !self.known.is_empty() {
-            for fact in self.facts(of_trait, &head, &contract) {
-                conditions.push(condition_of(&fact, &self.known, body)?);
-            }
-            if has_docs && !contract.is_empty() {
-                out += &docs(&contract, &conditions, indent);
-            }
+    fn function(&self, item: &Item, function: &Function, edits: &mut Edits) -> Result<(), String> {
+        let path = self.source.path_of(item, function);
+        let conditions = self.conditions(item, function);
+        let conditions = conditions.map_err(|message| format!("{path}: {message}"))?;
+        let contract = self.contract(item, function);
+        let start = bytes(self.source, &item.place).start;
+        let before = &self.source.text[..start];
+        let indent = &" ".repeat(before.len() - before.trim_end_matches(' ').len());
+        if self.is_offered(item, function) && self.has_docs(item) && !contract.is_empty() {
+            edits.insert(start, &docs(&contract, &conditions, indent));
         }
-        if body != ";" && !conditions.is_empty() {
+        let name = self.source.sign(function.name);
+        let is_called = self.known.is_some_and(|known| known.is_called(name));
+        let is_declared = self.source.sign(function.body.start) == ";";
+        if !is_declared && (!conditions.is_empty() || is_called) {
             // A call that stops names the line of its caller.
-            out += &format!("{indent}#[track_caller]\n");
+            edits.insert(start, &format!("#[track_caller]\n{indent}"));
+            let open = bytes(self.source, &function.body).start + 1;
+            edits.insert(open, &assertions(&conditions, indent));
         }
-        let opening = format!(" {{{}", assertions(&conditions, indent));
-        Ok(out + &head + &body.replacen('{', &opening, 1) + "\n")
+        self.without_clauses(function, edits);
+        Ok(())
+    }
+
+    /// Takes out what stands between the head of a function and its body.
+    fn without_clauses(&self, function: &Function, edits: &mut Edits) {
+        if function.clauses.is_empty() {
+            return;
+        }
+        let is_code = |at: &usize| self.source.tokens[*at].kind != Kind::Comment;
+        let last = (function.name..function.head_end).rev().find(is_code);
+        let head_end = self.source.tokens[last.unwrap_or(function.name)].end();
+        let body = bytes(self.source, &function.body).start;
+        let gap = if self.source.sign(function.body.start) == ";" {
+            ""
+        } else {
+            " "
+        };
+        edits.replace(head_end..body, gap);
+    }
+
+    /// Whether a function is public, in a file whose calls are offered.
+    fn is_offered(&self, item: &Item, function: &Function) -> bool {
+        self.known.is_some() && (function.is_public || self.is_of_trait(item))
+    }
+
+    fn is_of_trait(&self, item: &Item) -> bool {
+        let block = item.block.map(|block| &self.source.items[block].part);
+        matches!(block, Some(Part::Trait(_) | Part::Impl(Some(_), _)))
+    }
+
+    fn has_docs(&self, item: &Item) -> bool {
+        let above = &self.source.tokens[item.above..item.place.start];
+        above.iter().any(|token| token.text.starts_with("///"))
+    }
+
+    /// The ghost members that state the contract of an operator: `can_NAME` and `NAME_gives`.
+    fn members<'b>(&'b self, item: &'b Item, names: Vec<String>) -> impl Iterator<Item = &'b Item> {
+        let beside = self
+            .source
+            .items
+            .iter()
+            .filter(|other| item.block.is_some() && other.block == item.block);
+        let ghosts = beside.filter(|other| matches!(other.part, Part::Ghost));
+        ghosts.filter(move |ghost| names.iter().any(|name| self.ghost_name(ghost) == name))
+    }
+
+    /// The contract of a function as its source states it.
+    fn contract(&self, item: &Item, function: &Function) -> Vec<String> {
+        let name = self.source.sign(function.name);
+        let names = vec![format!("can_{name}"), format!("{name}_gives")];
+        let ghosts = self.members(item, names).map(|ghost| &ghost.place);
+        ghosts
+            .chain(&function.clauses)
+            .map(|clause| self.stated(clause))
+            .collect()
+    }
+
+    /// A clause as docs state it.
+    fn stated(&self, clause: &Range<usize>) -> String {
+        let text = self.source.slice(clause);
+        let text = text
+            .strip_prefix("ghost ")
+            .unwrap_or(text)
+            .trim_end_matches(';');
+        let lines = text
+            .lines()
+            .map(str::trim)
+            .filter(|line| !line.starts_with("//"));
+        lines.collect::<Vec<_>>().join("\n    ")
+    }
+
+    /// The conditions of a function, if it is offered, and of one that has an assertion beside its contract.
+    fn conditions(&self, item: &Item, function: &Function) -> Result<Vec<Condition>, String> {
+        let name = self.source.sign(function.name);
+        let Some(known) = self.known else {
+            return Ok(Vec::new());
+        };
+        let mut conditions = Vec::new();
+        if self.is_offered(item, function) {
+            let body = self.source.code(&function.body);
+            for fact in self.facts(item, function, name)? {
+                conditions.push(known.condition(&fact, &body)?);
+            }
+        }
+        conditions.extend(known.added(&format!("{}::{name}", self.file)));
+        for condition in &mut conditions {
+            if self.is_strict && condition.kind == "debug_assert" {
+                condition.kind = "assert".to_string();
+            }
+        }
+        Ok(conditions)
     }
 
     /// The facts that a function requires: its own, or those of its operator, or else those of its trait.
-    fn facts(&mut self, of_trait: &str, head: &str, contract: &[String]) -> Vec<String> {
-        let name = function_name(head).unwrap_or_default();
-        let stated = contract
+    fn facts(&self, item: &Item, function: &Function, name: &str) -> Result<Vec<String>, String> {
+        let ghosts = self
+            .members(item, vec![format!("can_{name}")])
+            .map(|ghost| &ghost.place);
+        let own = function
+            .clauses
             .iter()
-            .filter(|clause| begins(clause, &["requires ", "can_"]));
-        let mut facts: Vec<String> = stated.flat_map(|clause| facts_of(clause)).collect();
-        if name == "exact_number" {
-            // It requires nothing, and promises something only where the number fits.
-            facts.push("the number of the outcome fits".to_string());
+            .filter(|clause| self.source.sign(clause.start) == "requires");
+        let clauses: Vec<&Range<usize>> = ghosts.chain(own).collect();
+        if clauses
+            .iter()
+            .any(|clause| self.source.sign(clause.start + 1) == "*")
+        {
+            return Err("a clause that speaks of memory".to_string());
         }
-        if !of_trait.is_empty() {
-            let place = self.clauses.entry(format!("{of_trait}::{name}"));
-            let of_trait = place.or_insert_with(|| facts.clone());
-            if facts.is_empty() {
-                facts.clone_from(of_trait);
-            }
+        if !clauses.is_empty() {
+            return Ok(clauses
+                .iter()
+                .flat_map(|clause| facts_of(self.source, clause))
+                .collect());
         }
-        facts
-    }
-}
-
-/// A source with the changes of the table.
-fn changed(source: &str) -> String {
-    let mut text = source.to_string();
-    for row in CHANGES.lines() {
-        if let [_, old, _, new, _] = row.split('`').collect::<Vec<&str>>()[..] {
-            let end = if new.is_empty() { "\n" } else { "" };
-            text = text.replace(&format!("{old}{end}"), new).replace(old, new);
+        match item.block.map(|block| &self.source.items[block].part) {
+            Some(Part::Impl(Some(path), _)) => self.facts_of_trait(path, function, name),
+            _ => Ok(Vec::new()),
         }
     }
-    text
-}
 
-fn begins(line: &str, starts: &[&str]) -> bool {
-    let code = line.trim_start();
-    starts.iter().any(|start| code.starts_with(start))
-}
+    /// The facts that a trait requires of an implementation, whose names have to be those that the facts speak of.
+    fn facts_of_trait(
+        &self,
+        path: &Range<usize>,
+        function: &Function,
+        name: &str,
+    ) -> Result<Vec<String>, String> {
+        let signs = self.source.code(path);
+        let end = signs
+            .iter()
+            .position(|sign| *sign == "<")
+            .unwrap_or(signs.len());
+        let names: Vec<&str> = signs[..end]
+            .iter()
+            .copied()
+            .filter(|sign| *sign != ":")
+            .collect();
+        let module = self.file.replace("/lib", "").replace('/', "::");
+        let Some(of_trait) = self.traits.of_path(&module, &names)? else {
+            return Ok(Vec::new());
+        };
+        let Some(method) = of_trait
+            .methods
+            .get(name)
+            .filter(|method| !method.facts.is_empty())
+        else {
+            return Ok(Vec::new());
+        };
+        let parameters = names_in(&self.source.code(&function.parameters)[1..]);
+        if parameters != method.parameters {
+            return Err(format!(
+                "parameters {parameters:?}, and in the trait {:?}",
+                method.parameters
+            ));
+        }
+        self.same_generics(of_trait, &signs[end..])?;
+        Ok(method.facts.clone())
+    }
 
-/// Where a line begins; a blank one stands furthest right.
-fn column(line: &str) -> usize {
-    let code = line.find(|sign: char| !sign.is_whitespace());
-    code.unwrap_or(usize::MAX)
-}
-
-/// How long the first item of a text is, without the blank lines below it.
-fn length(text: &str) -> usize {
-    let mut lines = text.split_inclusive('\n');
-    let first = lines.next().unwrap_or_default();
-    let at = column(first);
-    let goes_on = |line: &&str| column(line) > at || column(line) == at && begins(line, &LEVEL);
-    let more: usize = lines.take_while(goes_on).map(str::len).sum();
-    let item = text[..first.len() + more].trim_end();
-    text.len().min(item.len() + 1)
-}
-
-/// The head of a function, its clauses, and its body or a semicolon; nothing where its end is of no known form.
-fn parts(item: &str) -> Option<(String, Vec<String>, &str)> {
-    let text = item.trim_end();
-    // Under clauses and bounds a body has its brace on a line of its own.
-    let own_line = format!("\n{}{{", " ".repeat(column(item)));
-    let end = match text.strip_suffix(';') {
-        Some(declared) => Some(declared.len()),
-        None => text.find(&own_line).or(text.find(" {")),
-    };
-    let (front, body) = text.split_at(end.filter(|_| text.ends_with([';', '}']))?);
-    let (mut head, mut clauses) = (String::new(), Vec::<String>::new());
-    for line in front.lines().filter(|line| !begins(line, &["//"])) {
-        if begins(line, &["requires ", "ensures "]) {
-            clauses.push(line.trim().to_string());
-        } else if let Some(clause) = clauses.last_mut() {
-            *clause += &format!("\n    {}", line.trim());
-        } else {
-            head += &format!("{line}\n");
+    /// The arguments of a trait have to be named as its parameters are.
+    fn same_generics(&self, of_trait: &Trait, arguments: &[&str]) -> Result<(), String> {
+        let arguments = names_in(arguments.get(1..).unwrap_or_default());
+        match arguments == of_trait.generics {
+            true => Ok(()),
+            false => Err(format!(
+                "arguments {arguments:?}, and in the trait {:?}",
+                of_trait.generics
+            )),
         }
     }
-    Some((head.trim_end().to_string(), clauses, body.trim_start()))
-}
-
-/// The facts of a clause `requires NAME { FACT }`, or of an operator's `can_NAME = { λ a b. FACT × FACT }`.
-fn facts_of(clause: &str) -> Vec<String> {
-    let clause = clause.replace("\n    ", " ");
-    let (_, inner) = clause.split_once("{ ").unwrap_or_default();
-    let inner = inner.strip_suffix(" }").unwrap_or_default();
-    let facts = match inner.split_once(". ") {
-        Some((operands, facts)) if operands.starts_with('λ') => facts,
-        _ => inner,
-    };
-    let facts = facts.split(" × ").filter(|fact| *fact != ALWAYS);
-    facts.map(str::to_string).collect()
-}
-
-/// The name of the function that an item is, if any.
-fn function_name(item: &str) -> Option<&str> {
-    let (before, after) = item.trim_start().split_once("fn ")?;
-    let is_modifier = |sign: char| sign.is_alphanumeric() || " ()\"".contains(sign);
-    let is_function = before.chars().all(is_modifier);
-    after.split(['(', '<']).next().filter(|_| is_function)
-}
-
-/// The trait that the head of a block declares or implements, if any.
-fn trait_of(head: &str) -> &str {
-    let declared = head.split_once("trait ").map(|(_, named)| named);
-    let implemented = head
-        .split_once(" for ")
-        .and_then(|(before, _)| before.rsplit("> ").next());
-    let named = declared.or(implemented).unwrap_or_default();
-    let mut words = named.trim_start_matches("impl ").split([' ', '<', ':']);
-    words.next().unwrap_or_default()
 }

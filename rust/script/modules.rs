@@ -1,8 +1,14 @@
 //! Crates as modules of Rust: each file becomes an inline module where its `mod` item stood.
 
-use crate::script::attributes::with_must_use;
-use crate::script::conditions::KNOWN;
+use crate::script::attributes::mark;
+use crate::script::conditions::Known;
+use crate::script::edits::{Edits, bytes};
 use crate::script::erasing::Erasing;
+use crate::script::items::{Part, Source};
+use crate::script::names::Names;
+use crate::script::traits::{Traits, imports};
+use std::collections::BTreeMap;
+use std::path::Path;
 use std::{env, fs};
 
 /// The crates of the library, lowest first, without the `fixed_` in front.
@@ -14,86 +20,234 @@ pub const LIBRARY: [&str; 17] = [
 /// The crates of the calculator, lowest first.
 pub const CALCULATOR: [&str; 4] = ["stream", "script", "machine", "calc"];
 
-/// What the proved language has by itself, for crates that take memory.
-const MEMORY: &str = "use std::alloc::{Drop, String, Vec};\n";
-
 /// The files that no crate offers: their public calls are made by the proved code beside them alone.
 const INSIDE: [&str; 11] = [
-    "decimal/halves", "decimal/numeral", "decimal/tens", "kernel/whole", "kernel/wide",
-    "logs/exact", "text/added", "text/numerals", "text/pieces", "text/tokens", "text/written",
+    "decimal/halves",
+    "decimal/numeral",
+    "decimal/tens",
+    "kernel/whole",
+    "kernel/wide",
+    "logs/exact",
+    "text/added",
+    "text/numerals",
+    "text/pieces",
+    "text/tokens",
+    "text/written",
 ];
 
-/// The modules that take memory, or serve the runs that do, and so are left out where there is none.
-const LEFT_OUT: [&str; 12] = [
-    "arriving", "bank", "channel", "desk", "fault", "header", "line", "op", "running",
-    "text/added", "text/numbers", "text/output",
+/// The files that take memory, or serve the runs that do, and so are left out where there is none.
+pub const LEFT_OUT: [&str; 20] = [
+    "filter/bank",
+    "filter/channel",
+    "filter/fault",
+    "filter/header",
+    "filter/running",
+    "guide/arriving",
+    "guide/desk",
+    "interval/fault",
+    "interval/header",
+    "interval/line",
+    "interval/op",
+    "interval/running",
+    "poly/fault",
+    "poly/header",
+    "poly/running",
+    "text/added",
+    "text/fault",
+    "text/numbers",
+    "text/output",
+    "text/running",
 ];
+
+/// What the proved language has by itself, for crates that take memory.
+pub const MEMORY: &str = "use crate::memory::{Drop, String, Vec};\n";
 
 /// Writes crates as the modules of one file. Those of `with_memory` take memory, and the others have no module that
 /// does.
 pub fn write(name: &str, crates: &[&str], with_memory: &[&str]) -> Result<(), String> {
     let folder = env::var("OUT_DIR").map_err(|error| error.to_string())?;
-    let mut erasing = Erasing::default();
-    let mut out = String::new();
-    for krate in crates {
-        let root = if *krate == "prog" { "adapters" } else { "lib" };
-        let memory = if with_memory.contains(krate) { MEMORY } else { "" };
-        let text = file(krate, root, memory, &mut erasing)?;
-        out += &format!("pub mod {krate} {{\n{text}}}\n");
-    }
+    let out = written(Path::new("crates"), crates, with_memory)?;
     fs::write(format!("{folder}/{name}"), out).map_err(|error| error.to_string())
 }
 
-/// A file of a crate in Rust, with those that it names.
-fn file(krate: &str, name: &str, memory: &str, erasing: &mut Erasing) -> Result<String, String> {
-    let path = format!("crates/fixed_{krate}/src/{name}.rt").replace("fixed_tests_", "tests_");
-    let at = |error| format!("{path}: {error}");
-    let source = fs::read_to_string(&path).map_err(|error| at(error.to_string()))?;
-    let is_library = LIBRARY.contains(&krate) || CALCULATOR.contains(&krate);
-    let is_public = is_library && !INSIDE.contains(&format!("{krate}/{name}").as_str());
-    let is_strict = krate == "strict";
-    // Strict forms stop in every build.
-    let debugging = if is_strict { "assert" } else { "debug_assert" };
-    let known = KNOWN.replace("debug_assert", debugging);
-    erasing.known = if is_public { known } else { String::new() };
-    let mut text = erasing.erased(&source).map_err(at)?;
-    if is_library {
-        text = with_must_use(&text);
+/// Crates, which are folders of `top`, as modules of Rust.
+pub fn written(top: &Path, crates: &[&str], with_memory: &[&str]) -> Result<String, String> {
+    let mut files = BTreeMap::new();
+    for krate in crates {
+        gather(top, krate, root(krate), with_memory, &mut files)?;
     }
-    text += memory;
+    let mut modules = Modules::default();
+    for (name, file) in &files {
+        let module = name.replace("/lib", "").replace('/', "::");
+        let source = Source::new(&file.text).map_err(|error| file.named(&error))?;
+        modules
+            .traits
+            .read(&module, &source)
+            .map_err(|error| file.named(&error))?;
+        modules.sources.insert(name, (file, source));
+    }
+    modules.with_memory = with_memory;
+    let known = Known::new();
     let mut out = String::new();
-    for line in named(&text, krate, is_library).lines() {
-        let item = line.strip_suffix(';').unwrap_or_default();
-        let item = item.strip_prefix("pub ").unwrap_or(item);
-        let (kind, path) = item.split_once(' ').unwrap_or_default();
-        let (module, offered) = path.split_once("::").unwrap_or((path, ""));
-        let path = format!("{krate}/{module}");
-        let is_left_out = LEFT_OUT.contains(&module) || LEFT_OUT.contains(&path.as_str());
-        if memory.is_empty() && is_left_out {
-            // No link leads to what the module would offer.
-            out = out.replace(&format!("[`{offered}`]"), &format!("`{offered}`"));
-        } else if kind == "mod" {
-            let text = file(krate, module, memory, erasing)?;
-            out += &format!("{}{text}}}\n", line.replace(';', " {\n"));
-        } else {
-            out += &format!("{line}\n");
-        }
+    for krate in crates {
+        let text = modules.written(&format!("{krate}/{}", root(krate)), &known)?;
+        out += &format!("pub mod {krate} {{\n{text}}}\n");
     }
-    Ok(out)
+    let mut all = LIBRARY.iter().chain(&CALCULATOR);
+    let is_whole =
+        all.all(|krate| crates.contains(krate)) && files.values().all(|file| !file.is_left_out);
+    let unused = known.unused().into_iter().filter(|_| is_whole);
+    let unmatched: Vec<String> = unmatched(crates, &files).chain(unused).collect();
+    if unmatched.is_empty() {
+        Ok(out)
+    } else {
+        Err(unmatched.join("\n"))
+    }
 }
 
-/// A text with the names of crates as modules, which stand in `use` items and in links alone. The front crate `fixed`
-/// is the package itself.
-fn named(text: &str, krate: &str, is_library: bool) -> String {
-    // The strict forms know the numbers by the module where each number has to fit.
-    let numbers = if krate == "strict" { "stopping" } else { "num" };
-    let std = if is_library { "core" } else { "std" };
-    text.replace("use crate::", &format!("use crate::{krate}::"))
-        .replace("](crate::", &format!("](crate::{krate}::"))
-        .replace("use fixed_num::", &format!("use crate::{numbers}::"))
-        .replace("use fixed_", "use crate::")
-        .replace("use fixed::", "use crate::")
-        .replace("](fixed_", "](crate::")
-        .replace("use std::alloc::", "use crate::memory::")
-        .replace("use std::", &format!("use {std}::"))
+/// The file in which a crate begins.
+fn root(krate: &str) -> &str {
+    if krate == "prog" { "adapters" } else { "lib" }
+}
+
+/// The entries of tables that name no file of the crates.
+fn unmatched<'a>(
+    crates: &'a [&str],
+    files: &'a BTreeMap<String, File>,
+) -> impl Iterator<Item = String> + 'a {
+    let entries = INSIDE.iter().chain(&LEFT_OUT);
+    let of_crates = entries.filter(|entry| {
+        crates
+            .iter()
+            .any(|krate| entry.split('/').next() == Some(krate))
+    });
+    let missing = of_crates.filter(|entry| !files.contains_key(**entry));
+    missing.map(|entry| format!("rust/script/modules.rs: no file {entry}"))
+}
+
+/// A file of a crate.
+struct File {
+    path: String,
+    text: String,
+    is_left_out: bool,
+}
+
+impl File {
+    /// An error with the path in front of its line.
+    fn named(&self, error: &str) -> String {
+        format!("{}:{error}", self.path)
+    }
+}
+
+/// Reads a file of a crate, with those that it names.
+fn gather(
+    top: &Path,
+    krate: &str,
+    name: &str,
+    with_memory: &[&str],
+    files: &mut BTreeMap<String, File>,
+) -> Result<(), String> {
+    let folder = format!("fixed_{krate}").replace("fixed_tests_", "tests_");
+    let path = format!("{}/{folder}/src/{name}.rt", top.display());
+    let text = fs::read_to_string(&path).map_err(|error| format!("{path}: {error}"))?;
+    let source = Source::new(&text).map_err(|error| format!("{path}:{error}"))?;
+    let key = format!("{krate}/{name}");
+    let is_left_out = LEFT_OUT.contains(&key.as_str()) && !with_memory.contains(&krate);
+    for item in source.items.iter().filter(|_| !is_left_out) {
+        if let Part::Module(module) = item.part {
+            gather(top, krate, source.sign(module), with_memory, files)?;
+        }
+    }
+    let text = text.clone();
+    files.insert(
+        key,
+        File {
+            path,
+            text,
+            is_left_out,
+        },
+    );
+    Ok(())
+}
+
+/// The files of crates.
+#[derive(Default)]
+struct Modules<'a> {
+    sources: BTreeMap<&'a str, (&'a File, Source<'a>)>,
+    traits: Traits,
+    with_memory: &'a [&'a str],
+}
+
+impl Modules<'_> {
+    /// A file in Rust, with those that it names.
+    fn written(&self, name: &str, known: &Known) -> Result<String, String> {
+        let (file, source) = self
+            .sources
+            .get(name)
+            .ok_or_else(|| format!("no file {name}"))?;
+        let krate = name.split('/').next().unwrap_or_default();
+        let has_memory = self.with_memory.contains(&krate);
+        let is_library = LIBRARY.contains(&krate) || CALCULATOR.contains(&krate);
+        let is_offered = is_library && !INSIDE.contains(&name);
+        let erasing = Erasing {
+            source,
+            file: name,
+            known: is_offered.then_some(known),
+            // Strict forms stop in every build.
+            is_strict: krate == "strict",
+            traits: &self.traits,
+        };
+        let mut edits = erasing.edits().map_err(|error| file.named(&error))?;
+        if is_library {
+            mark(source, &mut edits);
+        }
+        let left_out = self.modules(krate, source, known, &mut edits)?;
+        let names = Names {
+            krate,
+            is_library,
+            left_out,
+        };
+        names.edit(source, &mut edits);
+        let memory = if has_memory { MEMORY } else { "" };
+        Ok(edits.applied(source.text) + memory)
+    }
+
+    /// The edits for the modules that a file names. It says which names would be offered by those that are left out.
+    fn modules(
+        &self,
+        krate: &str,
+        source: &Source,
+        known: &Known,
+        edits: &mut Edits,
+    ) -> Result<Vec<String>, String> {
+        let mut left_out = Vec::new();
+        for item in &source.items {
+            let name = match &item.part {
+                Part::Module(name) => *name,
+                Part::Use(path) => path.start,
+                _ => continue,
+            };
+            let path = format!("{krate}/{}", source.sign(name));
+            let found = self.sources.get(path.as_str());
+            let is_left_out = found.is_some_and(|(file, _)| file.is_left_out);
+            match &item.part {
+                Part::Use(path) if is_left_out => {
+                    let (names, _) = imports(&source.code(path), &[]);
+                    left_out.extend(names.into_iter().map(|(name, _)| name));
+                    edits.remove(source, source.with_above(item));
+                }
+                Part::Module(_) if is_left_out => edits.remove(source, source.with_above(item)),
+                Part::Module(name) => {
+                    let text = self.written(&path, known)?;
+                    let end = bytes(source, &(*name..item.place.end));
+                    edits.replace(
+                        source.tokens[*name].end()..end.end,
+                        &format!(" {{\n{text}}}"),
+                    );
+                }
+                _ => {}
+            }
+        }
+        Ok(left_out)
+    }
 }

@@ -4,7 +4,9 @@
 #[allow(dead_code)]
 mod script;
 
-use script::attributes::with_must_use;
+use script::attributes::mark;
+use script::edits::Edits;
+use script::items::Source;
 
 /// Items of a module, in which `+` stands for the attribute.
 const ITEMS: &str = "
@@ -66,5 +68,8 @@ impl<T> Pair<T> {
 fn a_call_that_only_returns_a_value() {
     let written = ITEMS.replace("    +", "    #[must_use]\n    ");
     let written = written.replace("\n+", "\n#[must_use]\n");
-    assert_eq!(with_must_use(&ITEMS.replace('+', "")), written);
+    let text = ITEMS.replace('+', "");
+    let mut edits = Edits::default();
+    mark(&Source::new(&text).expect("items"), &mut edits);
+    assert_eq!(edits.applied(&text), written);
 }

@@ -1,5 +1,9 @@
-//! Each kind of condition stops the call, at each layer that has it.
+//! Each kind of condition stops the call, at each layer that has it, and names the line of the caller. Conditions on
+//! constants are in `fractions.rs`.
 
+use std::cell::RefCell;
+use std::panic::{self, PanicHookInfo, UnwindSafe};
+use std::sync::Once;
 use zugyelmas::prelude::*;
 use zugyelmas::{
     bits, filter, float, interval, kernel, logs, num, ops, policy, poly, root, strict, word,
@@ -8,15 +12,8 @@ use zugyelmas::{
 type Byte = FixedI8<4>;
 type Unsigned = FixedU8<4>;
 
-/// A format with more bits behind the point than there are.
-type Past = FixedI8<9>;
-
 fn byte(bits: i8) -> Byte {
     Byte::from_bits(bits)
-}
-
-fn past(bits: i8) -> Past {
-    Past::from_bits(bits)
 }
 
 /// The interval from 1 to 4 bits.
@@ -24,24 +21,72 @@ fn ends() -> interval::Interval<i8> {
     interval::Interval::new(1, 4).expect("ends in order")
 }
 
-/// A test for each call: it stops, and the message has the condition in words.
+thread_local! {
+    /// What stopped on this thread: the file and the message. Nothing where nobody watches.
+    static STOPPED: RefCell<Option<(String, String)>> = const { RefCell::new(None) };
+}
+
+/// What a panic says.
+fn message(info: &PanicHookInfo) -> String {
+    let formatted = info.payload().downcast_ref::<String>().cloned();
+    let constant = info
+        .payload()
+        .downcast_ref::<&str>()
+        .map(|text| text.to_string());
+    formatted.or(constant).unwrap_or_default()
+}
+
+/// Keeps the file and the message of a panic on a thread that watches.
+fn watch() {
+    static ONCE: Once = Once::new();
+    ONCE.call_once(|| {
+        let before = panic::take_hook();
+        panic::set_hook(Box::new(move |info: &PanicHookInfo| {
+            let file = info.location().map_or("", |location| location.file());
+            let stopped = Some((file.to_string(), message(info)));
+            match STOPPED.replace(None) {
+                Some(_) => drop(STOPPED.replace(stopped)),
+                None => before(info),
+            }
+        }));
+    });
+    STOPPED.set(Some(Default::default()));
+}
+
+/// The call stops in this file, and the message has the condition in words.
+fn assert_stops(words: &str, call: impl FnOnce() + UnwindSafe) {
+    watch();
+    let result = panic::catch_unwind(call);
+    let (file, message) = STOPPED.take().unwrap_or_default();
+    assert!(result.is_err(), "it does not stop");
+    assert!(message.contains(words), "{message}");
+    assert_eq!(file, file!());
+}
+
+/// A test for each call: it stops.
 macro_rules! stops {
     ($($name:ident, $words:literal, $call:expr;)*) => {$(
         #[test]
-        #[should_panic(expected = $words)]
         fn $name() {
-            let _ = $call;
+            assert_stops($words, || {
+                let _ = $call;
+            });
         }
     )*};
 }
 
-/// The same of calls that stop on overflow where assertions for debugging are compiled in.
+/// The same of calls that stop where assertions for debugging are compiled in, and otherwise wrap.
 macro_rules! stops_when_debugging {
     ($($name:ident, $words:literal, $call:expr, $wrapped:expr;)*) => {$(
         #[test]
-        #[cfg_attr(debug_assertions, should_panic(expected = $words))]
         fn $name() {
-            assert_eq!($call, $wrapped);
+            if cfg!(debug_assertions) {
+                assert_stops($words, || {
+                    let _ = $call;
+                });
+            } else {
+                assert_eq!($call, $wrapped);
+            }
         }
     )*};
 }
@@ -77,50 +122,42 @@ stops! {
     kernel_widths, "both words have one width", kernel::mixed_add_of(1_i8, 1_u16);
     kernel_places_down, "frac_nbits is at most twice the width", kernel::overflowing_mul_add(1_i8, 1, 1, 17);
     kernel_places_up, "frac_nbits is at least minus the width", kernel::overflowing_mul_add(1_i8, 1, 1, -9);
-    num_fraction, "the fraction F is at most the width", Past::int_nbits();
     num_one, "the number 1 fits", FixedI8::<7>::one();
+    num_one_of_any_fraction, "the number 1 fits", FixedI32::<{ u32::MAX }>::one();
+    num_unsigned_one, "the number 1 fits", FixedU64::<64>::one();
+    num_minus_one_of_any_fraction, "the number -1 fits", FixedI32::<{ u32::MAX }>::neg_one();
     num_minus_one, "the number -1 fits", FixedU8::<4>::neg_one();
     num_logarithm, "the number is above 0", byte(0).int_log2();
     num_base, "the base is at least 2", byte(1).int_log(1);
     num_counted_root, "the number is not below 0",
         byte(-1).sqrt_counted(&mut word::Steps::new(word::Silent::new()));
-    num_sum_of_fractions, "H is F + G", byte(1).wide_mul::<4, 9>(byte(1));
-    num_place, "H + G is the width and F", byte(1).wide_div::<4, 9>(byte(1));
-    num_signed_place, "H + G + 1 is the width and F", byte(1).wide_sdiv::<4, 8>(byte(1));
-    num_twice_the_width, "the fraction H is at most twice the width",
-        FixedI8::<8>::from_bits(1).wide_div::<0, 17>(FixedI8::<0>::from_bits(1));
     num_wide_divisor, "the divisor is not 0", byte(1).wide_div::<4, 8>(byte(0));
     num_wide_unsigned_divisor, "the divisor is not 0", byte(1).wide_div_unsigned::<4, 8>(Unsigned::from_bits(0));
     num_wide_quotient, "the quotient fits", FixedI8::<0>::MIN.wide_div::<0, 8>(FixedI8::<0>::from_bits(-1));
-    num_operator_fraction, "the fraction F is at most the width", past(1) * past(1);
     num_operator_divisor, "the divisor is not 0", byte(1) / byte(0);
     num_operator_integer, "the divisor is not 0", byte(1) % 0;
     num_operator_shift, "the shift is below the width", byte(1) << 8;
-    policy_fraction, "the fraction F is at most the width", past(1).checked_mul(past(1));
-    policy_fraction_before_the_divisor, "the fraction F is at most the width", past(1).checked_div(past(0));
     policy_divisor, "the divisor is not 0", byte(1).wrapping_div(byte(0));
     policy_integer, "the divisor is not 0", byte(1).overflowing_div_int(0);
     policy_root, "the number is not below 0", byte(-1).wrapping_sqrt();
-    policy_factor, "the fraction G is at most the width", byte(1).checked_mul_add(past(1), byte(1));
     policy_lengths, "both slices have one length", byte(1).checked_dot_acc(&[byte(1)], &[] as &[Byte]);
+    cast_strict_number, "the number fits", Byte::strict_from_num(8);
+    cast_unwrapped_number, "the number fits", byte(-16).unwrapped_to_num::<u8>();
     strict_overflow, "the number fits", Byte::MAX.strict_add(Byte::DELTA);
     strict_product, "the number fits", Byte::MAX.strict_mul_add(Byte::MAX, Byte::MAX);
     strict_divisor, "the divisor is not 0", byte(1).strict_div(byte(0));
     strict_root, "the number is not below 0", byte(-1).strict_sqrt();
     strict_shift, "the shift is below the width", byte(1).strict_shl(8);
-    strict_fraction, "the fraction F is at most the width", past(1).strict_recip();
     unwrapped_overflow, "the number fits", Byte::MIN.unwrapped_neg();
     unwrapped_shift, "the shift is below the width", byte(1).unwrapped_shr(8);
     saturating_divisor, "the divisor is not 0", byte(1).saturating_next_multiple_of(byte(0));
     ops_divisor, "the divisor is not 0", byte(0).recip();
     ops_root, "the number is not below 0", byte(-1).sqrt();
     ops_product_of_none, "the number 1 fits", ops::product::<i8, 7>(&[]);
-    ops_factors, "the fraction A is at most the width", byte(1).add_prod(past(1), byte(1));
     filter_past, "there is a past sample", filter::put_in_front(1_i8, &mut []);
     poly_coefficient, "there is a coefficient", poly::horner_of(&[] as &[i8], 1, 4);
     poly_fraction, "the fraction frac is at most the width", poly::horner_of(&[1_u16], 1, 17);
     poly_typed_coefficient, "there is a coefficient", poly::horner(&[], byte(1));
-    poly_typed_fraction, "the fraction F is at most the width", poly::horner(&[past(1)], past(1));
     interval_product, "the fraction frac is at most the width", interval::mul_in(&ends(), &ends(), 9);
     interval_quotient, "the fraction frac is at most the width", interval::div_in(&ends(), &ends(), 9);
     interval_root, "the fraction frac is at most the width", interval::sqrt_in(&ends(), 9);
@@ -128,7 +165,8 @@ stops! {
 
 stops_when_debugging! {
     float_past, "the number fits", Byte::from_float(8.0_f64), byte(-128);
-    word_sum, "overflow", word::Integer::plus(i16::MAX, 1), i16::MIN;
+    word_sum, "the sum fits", word::Integer::plus(i16::MAX, 1), i16::MIN;
+    word_product, "the product fits", word::Integer::times(u16::MAX, 2), u16::MAX - 1;
     word_up, "the number fits", word::Integer::scaled(i16::MAX, 1), -2;
     word_euclid, "the number fits", word::Integer::euclid_quotient(i16::MIN, -1), i16::MIN;
     num_root, "the root fits",
@@ -139,6 +177,8 @@ stops_when_debugging! {
     num_integer_first, "the number fits", 2 * Byte::MAX, byte(-2);
     ops_overflow, "the number fits", Byte::MIN.abs(), Byte::MIN;
     ops_sum, "the number fits", ops::sum(&[Byte::MAX, Byte::DELTA]), Byte::MIN;
+    cast_number, "there is a number and it fits", Byte::from_num(8), byte(-128);
+    cast_to_number, "there is a number and it fits", byte(-16).to_num::<u8>(), 255;
     ops_product, "the number fits", ops::product(&[Byte::MAX, Byte::MAX]), byte(-16);
 }
 

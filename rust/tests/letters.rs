@@ -1,110 +1,275 @@
-//! The library's code is the proved sources', letter for letter: each line of code that the build script wrote stands
-//! there as often, but for assertions and the names of modules.
+//! The library's code is the proved sources', letter for letter: file by file and in order, each sign of the one is a sign
+//! of the other, but for what speaks to the prover, assertions and the names of crates. What goes is said here once more,
+//! without the build script's reading of items.
 
-use std::collections::BTreeMap;
+#[path = "../script/mod.rs"]
+#[allow(dead_code)]
+mod script;
+
+use script::modules::{CALCULATOR, LEFT_OUT, LIBRARY, MEMORY};
+use script::tokens::{Kind, code, tokens};
 use std::fs;
-use std::path::{Path, PathBuf};
 
-const LIBRARY: &str = include_str!(concat!(env!("OUT_DIR"), "/library.rs"));
+const WRITTEN: &str = include_str!(concat!(env!("OUT_DIR"), "/library.rs"));
 
-const MODULES: [&str; 21] = [
-    "word", "bits", "root", "logs", "kernel", "convert", "text", "decimal", "num", "float", "cast",
-    "policy", "strict", "ops", "poly", "filter", "interval", "stream", "script", "machine", "calc",
+/// Forms of sources, and what Rust has in their place.
+const FORMS: [(&str, &str); 10] = [
+    ("use std::alloc::AllocError;", ""),
+    ("std::alloc", "crate::memory"),
+    ("Valued: Copy {", "Valued: Copy + crate::sealed::Sealed {"),
+    ("Binary: Copy {", "Binary: Copy + crate::sealed::Sealed {"),
+    ("type Unsigned: RawWord", "type Unsigned: UnsignedWord"),
+    ("type Signed: RawWord;", "type Signed: SignedWord;"),
+    ("use std::marker::Model;", ""),
+    ("use thiserror::Error;", ""),
+    ("fmt<W: fmt::Write>(", "fmt("),
+    ("fmt::Formatter<W>", "fmt::Formatter<'_>"),
 ];
 
-/// How often each line of code stands in a text.
-type Lines = BTreeMap<String, usize>;
+/// A sign, and the file and the line where it stands.
+struct Sign {
+    text: String,
+    place: String,
+}
 
-/// The files of a folder.
-fn sources(folder: &Path, found: &mut Vec<PathBuf>) {
-    for entry in fs::read_dir(folder).expect("a folder of sources") {
-        let path = entry.expect("a source").path();
-        if path.is_dir() {
-            sources(&path, found);
-        } else {
-            found.push(path);
+/// The signs of a text, without comments.
+fn signs(path: &str, text: &str) -> Vec<Sign> {
+    let (mut at, mut line) = (0, 1);
+    let mut found = Vec::new();
+    for token in tokens(text) {
+        line += text[at..token.at].matches('\n').count();
+        at = token.at;
+        if token.kind != Kind::Comment {
+            let (text, place) = (token.text.to_string(), format!("{path}:{line}"));
+            found.push(Sign { text, place });
         }
+    }
+    found
+}
+
+/// Whether signs begin with those of a text.
+fn begin(signs: &[Sign], text: &str) -> bool {
+    let is_first = signs
+        .first()
+        .is_some_and(|sign| text.starts_with(&sign.text));
+    if !is_first {
+        return false;
+    }
+    let text = code(text);
+    signs.len() >= text.len() && signs.iter().zip(text).all(|(sign, text)| sign.text == text)
+}
+
+/// How many signs there are up to the first of some outside of brackets, that one among them. What has brackets ends with
+/// them where `}` is one of the signs.
+fn length(signs: &[Sign], ends: &[&str]) -> usize {
+    let mut depth = 0;
+    let last = signs.iter().position(|sign| {
+        match sign.text.as_str() {
+            "(" | "[" | "{" => depth += 1,
+            ")" | "]" | "}" => depth -= 1,
+            _ => {}
+        }
+        depth == 0 && ends.contains(&sign.text.as_str())
+    });
+    last.expect("an end") + 1
+}
+
+/// How many signs speak to the prover.
+fn ghost(signs: &[Sign]) -> usize {
+    let first = signs[0].text.as_str();
+    match first {
+        "ghost" => length(signs, &[";", ","]),
+        "pub" if begin(signs, "pub ghost") => length(signs, &[";", ","]),
+        "requires" | "ensures" => length(signs, &["}"]),
+        "#" if ["#[tactic(", "#![tactic(", "#[error("]
+            .iter()
+            .any(|form| begin(signs, form)) =>
+        {
+            length(signs, &["]"])
+        }
+        "impl" => {
+            let head = signs
+                .iter()
+                .position(|sign| sign.text == "{")
+                .expect("a block");
+            let of_prover = |pair: &[Sign]| begin(pair, "Clone for") || begin(pair, "Model for");
+            match signs[..head].windows(2).any(of_prover) {
+                true => head + length(&signs[head..], &["}"]),
+                false => 0,
+            }
+        }
+        _ => 0,
     }
 }
 
-/// A line without the brace or semicolon behind a function's head, which clauses may separate from it.
-fn head_of(line: &str) -> &str {
-    let line = line.trim();
-    let line = line.strip_suffix("{}").unwrap_or(line);
-    line.trim_end_matches(['{', ';', ' '])
+/// The derives that Rust has, of those that begin the signs; and how many signs there are.
+fn derives(signs: &[Sign]) -> (String, usize) {
+    let end = length(signs, &["]"]);
+    let names = signs[4..end - 2].iter().map(|sign| sign.text.as_str());
+    let mut names: Vec<&str> = names
+        .filter(|name| ![",", "Drop", "Error"].contains(name))
+        .collect();
+    if names.first() == Some(&"Copy") {
+        names.insert(0, "Clone");
+    }
+    match names.is_empty() {
+        true => (String::new(), end),
+        false => (format!("#[derive({})]", names.join(", ")), end),
+    }
 }
 
-/// A line of the sources, with one name for all crates.
-fn proved(line: &str) -> String {
-    let names = MODULES.map(|name| format!("fixed_{name}::"));
-    let one = |line: String, name: &String| line.replace(name, "crate::");
-    names.iter().fold(line.replace("std::", "core::"), one)
+/// Whether a crate takes memory, by the features of this build.
+fn has_memory(krate: &str) -> bool {
+    let of_runs = cfg!(feature = "runs") && ["text", "poly", "filter", "interval"].contains(&krate);
+    of_runs || cfg!(feature = "calc") && (krate == "text" || CALCULATOR.contains(&krate))
 }
 
-/// A line of the library, with one name for all modules.
-fn written(line: &str) -> String {
-    let names = MODULES.map(|name| format!("crate::{name}::"));
-    let one = |line: String, name: &String| line.replacen(name, "crate::", 1);
-    let line = line
-        .replace("crate::stopping::", "crate::")
-        .replace("crate::memory::", "core::alloc::")
-        .replace(" + crate::sealed::Sealed", "")
-        .replace("type Unsigned: UnsignedWord", "type Unsigned: RawWord")
-        .replace("type Signed: SignedWord", "type Signed: RawWord")
-        .replace("std::", "core::");
-    names
+/// What the library has to have of a file, with those that it names.
+fn expected(krate: &str, file: &str, out: &mut Vec<Sign>) {
+    let path = format!("crates/fixed_{krate}/src/{file}.rt");
+    let source = fs::read_to_string(&path).expect("a source");
+    let source = signs(&path, &source);
+    let mut at = 0;
+    while at < source.len() {
+        let rest = &source[at..];
+        let mut put = |text: &str| {
+            let place = rest[0].place.clone();
+            out.extend(signs("", text).into_iter().map(|sign| Sign {
+                place: place.clone(),
+                ..sign
+            }));
+        };
+        let is_left_out = |name: &Sign| {
+            !has_memory(krate) && LEFT_OUT.contains(&format!("{krate}/{}", name.text).as_str())
+        };
+        let form = FORMS.iter().find(|(old, _)| begin(rest, old));
+        at += match ghost(rest) {
+            0 if form.is_some() => form.map_or(0, |(old, new)| {
+                put(new);
+                code(old).len()
+            }),
+            0 if begin(rest, "#[derive(") => {
+                let (derives, length) = derives(rest);
+                put(&derives);
+                length
+            }
+            0 if begin(rest, "mod") && rest[2].text == ";" => {
+                if !is_left_out(&rest[1]) {
+                    put(&format!("mod {} {{", rest[1].text));
+                    expected(krate, &rest[1].text, out);
+                    out.extend(signs(&path, "}"));
+                }
+                3
+            }
+            0 if begin(rest, "pub use") && is_left_out(&rest[2]) => length(rest, &[";"]),
+            0 if begin(&rest[1..], "::") => {
+                put(&crate_name(krate, &rest[0].text));
+                1
+            }
+            0 => {
+                put(&rest[0].text);
+                1
+            }
+            ghost => ghost,
+        };
+    }
+    if has_memory(krate) {
+        out.extend(signs(&path, MEMORY));
+    }
+}
+
+/// The name of a crate in the library, where a path begins with one.
+fn crate_name(krate: &str, name: &str) -> String {
+    match name {
+        "crate" => format!("crate::{krate}"),
+        "std" => "core".to_string(),
+        "fixed_num" if krate == "strict" => "crate::stopping".to_string(),
+        _ => name
+            .strip_prefix("fixed_")
+            .map_or(name.to_string(), |of| format!("crate::{of}")),
+    }
+}
+
+/// The signs of the library, without the assertions of conditions.
+fn written(text: &str) -> Vec<Sign> {
+    let all = signs("library.rs", text);
+    let mut kept = vec![true; all.len()];
+    let mut at = 0;
+    while at < all.len() {
+        let added = added(&all[at..]);
+        kept[at..at + added].fill(false);
+        at += added.max(1);
+    }
+    let pairs = all.into_iter().zip(kept);
+    pairs
+        .filter(|(_, kept)| *kept)
+        .map(|(sign, _)| sign)
+        .collect()
+}
+
+/// How many signs the build script adds.
+fn added(signs: &[Sign]) -> usize {
+    for attribute in ["#[track_caller]", "#[must_use]"] {
+        if begin(signs, attribute) {
+            return code(attribute).len();
+        }
+    }
+    let is_assertion = ["const { assert!(", "assert!(", "debug_assert!("]
         .iter()
-        .find(|name| line.contains(*name))
-        .into_iter()
-        .fold(line, one)
+        .any(|form| begin(signs, form));
+    let end = if is_assertion {
+        length(signs, &[";"])
+    } else {
+        return 0;
+    };
+    let says = signs[..end]
+        .iter()
+        .any(|sign| sign.text.starts_with("\"condition: "));
+    if says { end } else { 0 }
 }
 
-/// The lines of code of a text, without comments and what has nothing but brackets. A `Clone` by hand is derived,
-/// and what an error and a formatter have for the prover goes.
-fn lines(text: &str, named: fn(&str) -> String, counted: &mut Lines) {
-    for line in text.lines() {
-        let code = named(head_of(line.split("//").next().unwrap_or_default()));
-        let code = code.replace("derive(Clone, Copy", "derive(Copy");
-        let code = code.replace(", Error)]", ")]").replace(", Drop)]", ")]");
-        let code = code.replace("fmt<W: fmt::Write>(", "fmt(").replace("Formatter<W>", "Formatter<'_>");
-        if code.chars().any(char::is_alphanumeric) {
-            *counted.entry(code).or_default() += 1;
-        }
+/// Where a library and the sources first differ.
+fn difference(library: &str) -> Option<String> {
+    let mut all = Vec::new();
+    let calculator = CALCULATOR.iter().filter(|_| cfg!(feature = "calc"));
+    for krate in LIBRARY.iter().chain(calculator) {
+        all.extend(signs("", &format!("pub mod {krate} {{")));
+        expected(krate, "lib", &mut all);
+        all.extend(signs("", "}"));
     }
-}
-
-fn of_sources() -> Lines {
-    let mut counted = Lines::new();
-    for name in MODULES {
-        let top = PathBuf::from(env!("CARGO_MANIFEST_DIR")).join("crates");
-        let mut files = Vec::new();
-        sources(&top.join(format!("fixed_{name}/src")), &mut files);
-        for file in files {
-            let source = fs::read_to_string(file).expect("a source");
-            lines(&source, proved, &mut counted);
-        }
-    }
-    counted
-}
-
-/// Whether the build script adds such a line.
-fn is_added(line: &str) -> bool {
-    let module = line.trim_start_matches("pub ");
-    line.starts_with("assert!(")
-        || line.starts_with("debug_assert!(")
-        || line == "#[track_caller]"
-        || line == "#[must_use]"
-        || line == "use core::alloc::{Drop, String, Vec}"
-        || module.starts_with("mod ")
+    let written = written(library);
+    let end = Sign {
+        text: "the end".to_string(),
+        place: String::new(),
+    };
+    let pairs = (0..all.len().max(written.len()))
+        .map(|at| (all.get(at).unwrap_or(&end), written.get(at).unwrap_or(&end)));
+    let mut differing = pairs.filter(|(source, written)| source.text != written.text);
+    differing.next().map(|(source, written)| {
+        format!(
+            "{}: `{}`, and in {}: `{}`",
+            source.place, source.text, written.place, written.text
+        )
+    })
 }
 
 #[test]
-fn each_written_line_stands_in_the_sources() {
-    let sources = of_sources();
-    let mut added = Lines::new();
-    lines(LIBRARY, written, &mut added);
-    added.retain(|line, count| {
-        !is_added(line) && *count > sources.get(line).copied().unwrap_or_default()
-    });
-    assert!(added.is_empty(), "{added:#?}");
+fn each_sign_is_that_of_the_sources() {
+    assert_eq!(difference(WRITTEN), None);
+}
+
+/// What goes, what comes and what changes places is seen.
+#[test]
+fn planted_differences() {
+    assert_eq!(WRITTEN.matches("steps.tick();\n").count(), 32);
+    let erased = difference(&WRITTEN.replace("steps.tick();\n", "\n"));
+    assert!(erased.is_some_and(|said| said.contains("fixed_word/src/digits.rt")));
+    let added =
+        difference(&WRITTEN.replacen("steps.tick();\n", "steps.tick(); steps.tick();\n", 1));
+    assert!(added.is_some_and(|said| said.contains("fixed_word/src/digits.rt")));
+    let checked = "Checked, CheckedSigned";
+    let moved = difference(&WRITTEN.replacen(checked, "CheckedSigned, Checked", 1));
+    assert!(moved.is_some_and(|said| said.contains("fixed_policy/src/lib.rt")));
+    let cut = difference(&WRITTEN[..WRITTEN.len() - 2]);
+    assert!(cut.is_some_and(|said| said.contains("the end")));
 }

@@ -4,13 +4,28 @@
 #[allow(dead_code)]
 mod script;
 
-use script::conditions::{KNOWN, condition_of};
+use script::conditions::{Condition, Known};
 use script::erasing::Erasing;
+use script::items::Source;
+use script::traits::Traits;
+
+/// The source read as a file of a library, whose public calls are offered or not.
+fn erased(text: &str, known: Option<&Known>) -> Result<String, String> {
+    let source = Source::new(text)?;
+    let mut traits = Traits::default();
+    traits.read("a::b", &source)?;
+    let erasing = Erasing {
+        source: &source,
+        file: "a/b",
+        known,
+        is_strict: false,
+        traits: &traits,
+    };
+    Ok(erasing.edits()?.applied(text))
+}
 
 fn library(source: &str) -> Result<String, String> {
-    let mut erasing = Erasing::default();
-    erasing.known = KNOWN.to_string();
-    erasing.erased(source)
+    erased(source, Some(&Known::new()))
 }
 
 /// The source read as one of a library, where no clause is unknown.
@@ -100,7 +115,7 @@ struct D;"
     let source = "trait V {
     const B: u32;
 
-    /// The state.
+    // The state.
     ghost state: { Self → ℕ };
 
     fn v(&self);
@@ -183,7 +198,7 @@ pub fn div<T: Word>(a: T, b: T, frac: u32) -> T
 ///
 /// # Panics
 ///
-/// Unless all of this holds: the fraction frac is at most the width; the divisor is not 0.
+/// Panics unless the fraction frac is at most the width, and the divisor is not 0.
 ///
 /// # Proved
 ///
@@ -206,7 +221,7 @@ pub fn div<T: Word>(a: T, b: T, frac: u32) -> T {
         !private.contains("assert") && !private.contains("Panics"),
         "{private}"
     );
-    let inside = Erasing::default().erased(source).unwrap();
+    let inside = erased(source, None).unwrap();
     assert!(
         !inside.contains("assert") && !inside.contains("Panics"),
         "{inside}"
@@ -246,10 +261,10 @@ fn an_operator() {
 }
 ";
     let text = read(source);
-    assert!(text.contains("assert!(F <= T::BITS"), "{text}");
+    assert!(text.contains("const { assert!(F <= T::BITS"), "{text}");
     assert!(text.contains("assert!(rhs.bits != T::ZERO"), "{text}");
     assert!(
-        text.contains("/// With debug assertions, unless the number fits"),
+        text.contains("/// With debug assertions, panics unless the number fits"),
         "{text}"
     );
     assert!(
@@ -263,7 +278,7 @@ fn an_unknown_clause() {
     let source = "pub fn f(x: u8)\n    requires { x ≡ 7 }\n{}\n";
     assert_eq!(
         library(source),
-        Err("f: a clause of no known form: x ≡ 7".to_string())
+        Err("1: f: a clause of no known form: x ≡ 7".to_string())
     );
     assert!(library(&source.replace("pub ", "")).is_ok());
 }
@@ -278,39 +293,36 @@ fn a_condition_that_nothing_sees() {
 ";
     assert!(library(source).is_ok());
     let unseen = library(&source.replace("exact_number", "wrapped"));
-    let error = "f: nothing in its body stops unless the number fits";
+    let error = "1: f: nothing in its body stops unless the number fits";
     assert_eq!(unseen, Err(error.to_string()));
 }
 
 #[test]
-fn what_belongs_to_no_function() {
-    let member = "impl Neg for S {\n    ghost can_neg = { λ a. a };\n}\n";
-    let error = "a clause of no function: can_neg = { λ a. a }";
-    assert_eq!(library(member), Err(error.to_string()));
-    let unended = "fn f() -> u8 { 1 } // one\npub fn g() {}\n";
-    let error = "f: a function without an end";
-    assert_eq!(library(unended), Err(error.to_string()));
+fn modified_functions() {
     let modified = "pub extern \"C\" fn f(x: u8)\n    requires { x ≡ 7 }\n{}\n";
     assert!(library(modified).is_err());
 }
 
+fn condition(fact: &str) -> Result<Condition, String> {
+    Known::new().condition(fact, &[";"])
+}
+
 #[test]
 fn forms_of_clauses() {
-    let condition = |fact| condition_of(fact, KNOWN, ";");
-    let [asserting, test, _] = condition("G ≤ T.BITS").unwrap();
-    assert_eq!(
-        (asserting.as_str(), test.as_str()),
-        ("assert", "G <= T::BITS")
-    );
+    let fraction = |name: &str| {
+        let found = condition(&format!("{name} ≤ T.BITS")).unwrap();
+        (found.kind, found.test)
+    };
+    let asserted = |kind: &str, test: &str| (kind.to_string(), test.to_string());
+    assert_eq!(fraction("frac"), asserted("assert", "frac <= T::BITS"));
+    assert_eq!(fraction("G"), asserted("const", "G <= T::BITS"));
     let fits = "InRange T.SIGNED T.BITS (neg_ℤ (T.value a))";
-    assert_eq!(condition(fits).unwrap()[0], "debug_assert");
-    let strict = KNOWN.replace("debug_assert", "assert");
-    assert_eq!(condition_of(fits, &strict, ";").unwrap()[0], "assert");
-    let [_, test, _] = condition("IsShape T.BITS shape.now").unwrap();
-    assert!(test.starts_with("shape.out_frac.max("), "{test}");
-    assert!(condition("F + G ≤ T.BITS").is_err());
-    assert!(condition(" ≤ T.BITS").is_err());
-    assert!(condition("").is_err());
+    assert_eq!(condition(fits).unwrap().kind, "debug_assert");
+    let shape = condition("IsShape T.BITS shape.now").unwrap();
+    assert!(shape.test.starts_with("shape.out_frac.max("), "{shape:?}");
+    for unknown in ["F + G ≤ T.BITS", " ≤ T.BITS", ""] {
+        assert!(condition(unknown).is_err(), "{unknown}");
+    }
 }
 
 #[test]
@@ -338,7 +350,7 @@ fn t() {
     assert_eq!(f(1), 2, \"rt; a\");
     assert!(
         g(
-                        1,
+            1,
         )
     );
 }

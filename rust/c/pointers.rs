@@ -1,0 +1,112 @@
+//! The slices of exports as pointers and counts, since Rust does not say how a slice crosses to C.
+
+use crate::script::edits::{Edits, bytes};
+use crate::script::items::{Function, Item, Part, Source};
+use std::ops::Range;
+
+const WORDS: [&str; 8] = ["i8", "i16", "i32", "i64", "u8", "u16", "u32", "u64"];
+
+/// The exports `fixed_WORD_NAME` that take slices, and the names of these.
+const SLICES: [(&str, &[&str]); 2] = [("horner", &["coefs"]), ("filter", &["taps", "past"])];
+
+/// A slice that an export takes: its name, its whole parameter, the word and whether it is written.
+struct Slice<'a> {
+    name: &'a str,
+    parameter: Range<usize>,
+    word: &'a str,
+    is_written: bool,
+}
+
+/// The face with a pointer and a count in place of each slice that an export takes. The export puts them together where
+/// it hands the slice on. Each slice of the table is found, and no export has others.
+pub fn with_pointers(text: &str) -> Result<String, String> {
+    let source = Source::new(text)?;
+    let mut edits = Edits::default();
+    let mut found = Vec::new();
+    for (name, function) in source.items.iter().filter_map(|item| export(&source, item)) {
+        let at_export = |error| format!("fixed_c: {name}: {error}");
+        for slice in slices(&source, function).map_err(at_export)? {
+            change(&source, function, &slice, &mut edits).map_err(at_export)?;
+            found.push(format!("{name}: {}", slice.name));
+        }
+    }
+    let table = table();
+    let missing = table.iter().find(|entry| !found.contains(entry));
+    let other = found.iter().find(|entry| !table.contains(entry));
+    match (missing, other) {
+        (Some(entry), _) => Err(format!("fixed_c: nothing matches the slice {entry}")),
+        (_, Some(entry)) => Err(format!(
+            "fixed_c: a slice that is not in the table: {entry}"
+        )),
+        _ => Ok(edits.applied(text)),
+    }
+}
+
+/// The slices of the table, each behind the name of its export.
+fn table() -> Vec<String> {
+    let of_word = |word: &str| {
+        let entries = SLICES
+            .iter()
+            .flat_map(|(name, slices)| slices.iter().map(move |slice| (name, slice)));
+        let named = entries.map(|(name, slice)| format!("fixed_{word}_{name}: {slice}"));
+        named.collect::<Vec<_>>()
+    };
+    WORDS.iter().flat_map(|word| of_word(word)).collect()
+}
+
+/// The name and the parts of a function that C calls.
+fn export<'a, 'b>(source: &Source<'a>, item: &'b Item) -> Option<(&'a str, &'b Function)> {
+    match &item.part {
+        Part::Function(function) => {
+            let modifiers = source.code(&(item.place.start..function.name));
+            let is_export = modifiers.contains(&"extern");
+            is_export.then(|| (source.sign(function.name), function))
+        }
+        _ => None,
+    }
+}
+
+/// The slices among the parameters of an export.
+fn slices<'a>(source: &Source<'a>, function: &Function) -> Result<Vec<Slice<'a>>, String> {
+    let mut found = Vec::new();
+    for open in (function.name..function.head_end).filter(|at| source.sign(*at) == "[") {
+        let is_written = source.sign(open - 1) == "mut";
+        let name = open - 3 - usize::from(is_written);
+        let signs = source.code(&(name..open + 3));
+        match signs[..] {
+            [name_sign, ":", "&", "[", word, "]"]
+            | [name_sign, ":", "&", "mut", "[", word, "]"] => found.push(Slice {
+                name: name_sign,
+                parameter: name..open + 3,
+                word,
+                is_written,
+            }),
+            _ => return Err(format!("a slice of no known form: {}", signs.join(" "))),
+        }
+    }
+    Ok(found)
+}
+
+/// Changes the parameter, and the only place where the export hands the slice on.
+fn change(
+    source: &Source,
+    function: &Function,
+    slice: &Slice,
+    edits: &mut Edits,
+) -> Result<(), String> {
+    let Slice { name, word, .. } = slice;
+    let (pointer, call) = if slice.is_written {
+        ("*mut", "slice_mut")
+    } else {
+        ("*const", "slice")
+    };
+    let mut uses = function.body.clone().filter(|at| source.sign(*at) == *name);
+    let (Some(used), None) = (uses.next(), uses.next()) else {
+        return Err(format!("{name} is not used once"));
+    };
+    let parameter = format!("{name}: {pointer} {word}, {name}_count: usize");
+    edits.replace(bytes(source, &slice.parameter), &parameter);
+    let whole = format!("unsafe {{ crate::{call}({name}, {name}_count) }}");
+    edits.replace(bytes(source, &(used..used + 1)), &whole);
+    Ok(())
+}
