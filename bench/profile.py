@@ -2,9 +2,9 @@
 
     python3 bench/profile.py PROGRAM SCRIPT LINES
 
-PROGRAM is built with the lines of its source: CARGO_PROFILE_RELEASE_DEBUG=2 cargo build --release. Callgrind counts each
-instruction, and addr2line says of which function it is and into which others that one was put in line. The first row
-of PHASES with a word that stands in one of their names says the phase.
+PROGRAM is built with the lines of its source: CARGO_PROFILE_RELEASE_DEBUG=2 cargo build --release --features calc.
+Callgrind counts each instruction, and addr2line says of which function it is and into which others that one was put in
+line. The first row of PHASES with a word that stands in one of their names says the phase.
 """
 import re
 import subprocess

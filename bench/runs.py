@@ -35,7 +35,7 @@ def main():
         subprocess.run(["gcc", "-O2", "-o", native, TOP / "bench/native.c"], check=True)
         for _ in range(rounds):
             theirs = rows([native, word])
-            ours = rows(["cargo", "bench", "--offline", "--bench", "runs", "--", word])
+            ours = rows(["cargo", "bench", "--offline", "--features", "runs", "--bench", "runs", "--", word])
             for name, (taken, check) in ours.items():
                 if theirs[name][1] != check:
                     sys.exit(f"{name}: the answers differ")

@@ -22,7 +22,8 @@ LINES = "i0 set {x} {x}\ni2 mul i0 i0\ni2 add i2 i1\ni3 sqrt i0\ni3 div i3 i2\n"
 def bands():
     """The two ends at each point, in units."""
     script = f"interval i16 {PLACES} 4\ni1 set {UNIT} {UNIT}\n" + "".join(LINES.format(x=x) for x in POINTS)
-    command = ["cargo", "run", "--quiet", "--release", "--offline", "--example", "runs", "--", "interval"]
+    built = ["--quiet", "--release", "--offline", "--features", "runs", "--example", "runs"]
+    command = ["cargo", "run", *built, "--", "interval"]
     done = subprocess.run(command, cwd=TOP, input=script, capture_output=True, text=True, check=True)
     return [tuple(map(int, line.split())) for line in done.stdout.splitlines()[5::5]]
 

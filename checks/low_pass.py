@@ -44,7 +44,8 @@ def script(word):
 
 def impulse_response(word):
     """What the filter prints, as numbers."""
-    command = ["cargo", "run", "--quiet", "--release", "--offline", "--example", "runs", "--", "filter"]
+    built = ["--quiet", "--release", "--offline", "--features", "runs", "--example", "runs"]
+    command = ["cargo", "run", *built, "--", "filter"]
     done = subprocess.run(command, cwd=TOP, input=script(word), capture_output=True, text=True, check=True)
     return [int(line) / (2 ** (int(word[1:]) - 1) - 1) for line in done.stdout.split()]
 

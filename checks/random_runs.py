@@ -259,7 +259,8 @@ def script_of(rnd, name):
 
 def main():
     seed, count = int(sys.argv[1]), int(sys.argv[2])
-    subprocess.run(["cargo", "build", "--quiet", "--release", "--offline", "--example", "runs"], cwd=TOP, check=True)
+    built = ["--quiet", "--release", "--offline", "--features", "runs", "--example", "runs"]
+    subprocess.run(["cargo", "build", *built], cwd=TOP, check=True)
     program = Path(os.environ.get("CARGO_TARGET_DIR", TOP / "target")) / "release/examples/runs"
     faults = 0
     for i in range(count):

@@ -1,9 +1,12 @@
-//! Writes the proved sources as files of Rust, which `lib.rs`, the program and the runs include: no copy of a source is
-//! kept.
+//! Writes the proved sources as files of Rust, which `lib.rs` and the program include: no copy of a source is kept.
 
+#[path = "script/references.rs"]
+mod references;
 mod script;
 
-use script::modules::{LIBRARY, write, write_library};
+use references::write_references;
+use script::modules::{CALCULATOR, LIBRARY, write, write_library};
+use std::env;
 
 /// The tests of the library, and the example that they test.
 const TESTS: [&str; 5] = [
@@ -14,18 +17,29 @@ const TESTS: [&str; 5] = [
     "tests_policy",
 ];
 
-/// The crates of the calculator, and the adapters of its program.
-const PROGRAM: [&str; 6] = ["stream", "text", "script", "machine", "calc", "prog"];
-
-/// The crates of the runs over text, for benches and the example.
+/// The crates of the runs over text. With the feature `runs` they take memory.
 const RUNS: [&str; 4] = ["text", "poly", "filter", "interval"];
 
 fn main() -> Result<(), String> {
     println!("cargo::rerun-if-changed=crates");
     println!("cargo::rerun-if-changed=docs");
     println!("cargo::rerun-if-changed=rust");
-    write_library(&LIBRARY, &[])?;
+    let (mut library, mut with_memory) = (LIBRARY.to_vec(), Vec::new());
+    if is_on("CALC") {
+        library.extend(CALCULATOR);
+        with_memory.push("text");
+        with_memory.extend(CALCULATOR);
+    }
+    if is_on("RUNS") {
+        with_memory.extend(RUNS);
+    }
+    write_library(&library, &with_memory)?;
+    write_references("references.rs")?;
     write("tests.rs", &TESTS, &[])?;
-    write("program.rs", &PROGRAM, &PROGRAM)?;
-    write("runs.rs", &RUNS, &RUNS)
+    write("adapters.rs", &["prog"], &[])
+}
+
+/// Whether the package is built with a feature.
+fn is_on(feature: &str) -> bool {
+    env::var_os(format!("CARGO_FEATURE_{feature}")).is_some()
 }

@@ -40,9 +40,31 @@
 //! # What is trusted
 //!
 //! The proofs are those of the kit `rattle-kit-13b logic dac8208d650f15bf` and speak of its language. That rustc's
-//! code does the same stands on rustc itself, on the build script, and on the kit's table of forms that compile in
-//! both languages and act apart: none of them is used here (`docs/DECISIONS.md` says how that was seen). The tests
-//! of the proved crates run here too.
+//! code does the same rests on:
+//!
+//! - rustc, and the build script, which leaves contracts out and writes assertions in.
+//! - The kit's table of forms that compile in both languages and run differently. None of them is used here
+//!   (`docs/DECISIONS.md` says how that was checked).
+//! - `stopping::exact_number` in `rust/lib.rs`: Rust without a proof, which every strict and unwrapped call makes.
+//! - `rust/edge.rs` and `rust/script/references.rs`: operators on references, [`Sum`](core::iter::Sum) and
+//!   [`Product`](core::iter::Product), and replies as results, which forward to proved calls. With a feature also
+//!   `rust/memory.rs`, which forwards to `alloc`.
+//! - A `usize` of 64 bits, as it has in every proof. On a smaller target nothing is proved of lengths and indexes.
+//! - Every implementation of this library's traits in another crate. Nothing is proved of one, nor of a generic call
+//!   that uses it. The traits of words and floats are sealed, since a word that misstates itself would break every
+//!   call.
+//!
+//! The tests of the proved crates run here too.
+//!
+//! # Features
+//!
+//! No feature is on by default, and the library then has no dependency and takes no memory. Both features take memory,
+//! by `alloc`:
+//!
+//! - `calc`: the calculator, in the module `calc`. `calc::run` runs a script, `calc::run_in` does so in memory that was
+//!   made before, and `calc::explicit` spells a script out. The program `zugyelmas` asks for this feature.
+//! - `runs`: the runs over text, `filter::filter_run`, `poly::poly_run` and `interval::interval_run`, and
+//!   `filter::Bank`, which holds channels of filters.
 //!
 //! # Conditions
 //!
@@ -52,9 +74,10 @@
 //! width or more. The strict and unwrapped forms stop where the number does not fit. The operators and plain calls do
 //! so in builds with debug assertions, and otherwise answer the wrapped number, as those of integers do.
 #![no_std]
+#![forbid(unsafe_code)]
 // The code below is the proved sources' own, which name the traits of the calls that they use and the operands of laws,
 // and have what only the runs beside the library call.
-#![allow(dead_code, unused_imports, unused_variables)]
+#![allow(dead_code, unused_imports, unused_labels, unused_variables)]
 // Their links name each target, which the docs of the proved language ask for.
 #![allow(rustdoc::redundant_explicit_links)]
 // Taste, not faults: proved sources keep the forms of which their proofs speak.
@@ -62,17 +85,23 @@
     clippy::implicit_saturating_add,
     clippy::manual_div_ceil,
     clippy::manual_is_multiple_of,
+    clippy::manual_map,
+    clippy::manual_range_contains,
+    clippy::match_like_matches_macro,
     clippy::module_inception,
-    clippy::new_without_default
+    clippy::new_without_default,
+    clippy::question_mark,
+    clippy::while_let_on_iterator
 )]
-// The tests compare numbers with themselves and divide by -1, since these are the calls under test.
+// The tests compare numbers with themselves, divide by -1, and read floats between two, since these are the calls under
+// test.
 #![cfg_attr(
     test,
     allow(
         clippy::bool_assert_comparison,
         clippy::eq_op,
+        clippy::excessive_precision,
         clippy::items_after_test_module,
-        clippy::manual_map,
         clippy::modulo_one,
         clippy::partialeq_to_none,
         clippy::single_element_loop,
@@ -80,14 +109,57 @@
     )
 )]
 
+#[cfg(any(feature = "calc", feature = "runs"))]
+extern crate alloc;
 #[cfg(test)]
 extern crate std;
+
+mod edge;
+#[cfg(any(feature = "calc", feature = "runs"))]
+pub mod memory;
 
 include!(concat!(env!("OUT_DIR"), "/library.rs"));
 #[cfg(doc)]
 include!(concat!(env!("OUT_DIR"), "/pages.rs"));
 #[cfg(test)]
 include!(concat!(env!("OUT_DIR"), "/tests.rs"));
+
+/// Keeps the traits of words to Rust's own integers and floats, since nothing proves what another type would say of
+/// itself.
+///
+/// ```compile_fail,E0277
+/// #[derive(Clone, Copy)]
+/// struct Byte(u8);
+///
+/// impl zugyelmas::word::Valued for Byte {
+///     const BITS: u32 = 8;
+/// }
+/// ```
+mod sealed {
+    pub trait Sealed {}
+
+    // A test of the proved crates has a word of its own, which counts.
+    #[cfg(test)]
+    impl<T> Sealed for T {}
+
+    #[cfg(not(test))]
+    mod words {
+        use super::Sealed;
+
+        impl Sealed for i8 {}
+        impl Sealed for i16 {}
+        impl Sealed for i32 {}
+        impl Sealed for i64 {}
+        impl Sealed for i128 {}
+        impl Sealed for u8 {}
+        impl Sealed for u16 {}
+        impl Sealed for u32 {}
+        impl Sealed for u64 {}
+        impl Sealed for u128 {}
+        impl Sealed for f32 {}
+        impl Sealed for f64 {}
+    }
+}
 
 /// What the strict forms know as the numbers: the same, but that the number has to fit in every build.
 mod stopping {
@@ -124,10 +196,12 @@ pub use strict::{Strict, StrictMulAdd, StrictProducts, StrictSigned, StrictUnsig
 pub use strict::{
     Unwrapped, UnwrappedMulAdd, UnwrappedProducts, UnwrappedSigned, UnwrappedUnsigned,
 };
-pub use word::{SignedWord, UnsignedWord, Word};
+pub use word::{RawWord, SignedWord, UnsignedWord, Word};
 
-/// What most programs import: the numbers, and the traits of their calls.
+/// What most programs import: the numbers, and the traits of their calls. The traits whose names std has too, such as
+/// `Wrapping`, stay in scope beside `use std::num::Wrapping`.
 pub mod prelude {
+    pub use crate::{Binary as _, Saturating as _, Wrapping as _};
     pub use crate::{Binary, FloatNumber};
     pub use crate::{Checked, CheckedMulAdd, CheckedProducts, CheckedSigned, CheckedUnsigned};
     pub use crate::{
@@ -142,7 +216,7 @@ pub mod prelude {
         Saturating, SaturatingMulAdd, SaturatingProducts, SaturatingSigned, SaturatingUnsigned,
     };
     pub use crate::{FromNum, Order, ToNum, ToWhole};
-    pub use crate::{SignedWord, UnsignedWord, Word};
+    pub use crate::{RawWord, SignedWord, UnsignedWord, Word};
     pub use crate::{Strict, StrictMulAdd, StrictProducts, StrictSigned, StrictUnsigned};
     pub use crate::{
         Unwrapped, UnwrappedMulAdd, UnwrappedProducts, UnwrappedSigned, UnwrappedUnsigned,

@@ -1,26 +1,19 @@
 //! Nanoseconds a tap of a filter's `push`, a sample of `filter_run`, a step of `horner`, and a call of `mul_in` and
 //! `div_in`. `bench/runs.py` runs this beside the same loops in C, and compares.
 //!
-//!     cargo bench --bench runs -- push|run|horner|interval
-
-// The modules of the runs, which are the proved sources' own.
-#![allow(dead_code, unused, drop_bounds, clippy::style, clippy::complexity)]
+//!     cargo bench --features runs --bench runs -- push|run|horner|interval
 
 mod draws;
-#[path = "../program/memory.rs"]
-mod memory;
 
-include!(concat!(env!("OUT_DIR"), "/runs.rs"));
-
-use crate::filter::{Bank, Reply, Shape, filter_run};
-use crate::interval::{Interval, div_in, mul_in};
-use crate::poly::{PolyReply, horner};
 use draws::Draws;
-use memory::Global;
 use std::fmt::Write;
 use std::hint::black_box;
 use std::time::Instant;
-use zugyelmas::*;
+use zugyelmas::Fixed;
+use zugyelmas::filter::{Bank, Reply, Shape, filter_run};
+use zugyelmas::interval::{Interval, div_in, mul_in};
+use zugyelmas::memory::Global;
+use zugyelmas::poly::{PolyReply, horner};
 
 const PASSES: usize = 2001;
 const SAMPLES: usize = 256;
@@ -78,7 +71,7 @@ fn push(bank: &mut Bank<i32>, sample: i32) -> Reply<i32> {
 
 fn measure_push(count: usize) {
     let mut draws = Draws(42);
-    let taps: std::vec::Vec<i32> = (0..count).map(|_| draws.sample()).collect();
+    let taps: Vec<i32> = (0..count).map(|_| draws.sample()).collect();
     let samples: [i32; SAMPLES] = std::array::from_fn(|_| draws.sample());
     let mut bank = Bank::new(Global, SHAPE);
     bank.add_channel(&taps).expect("memory");
@@ -198,10 +191,12 @@ fn measure_run(count: usize) {
 }
 
 fn main() {
-    let words: std::vec::Vec<String> = std::env::args().skip(1).collect();
+    let words: Vec<String> = std::env::args().skip(1).collect();
     let wanted = |word: &str| words.iter().any(|w| w == word);
     if wanted("push") {
-        [16, 64, 256].map(measure_push);
+        for count in [16, 64, 256] {
+            measure_push(count);
+        }
     }
     if wanted("run") {
         measure_run(64);

@@ -1,22 +1,14 @@
 //! Seconds in which a script is spelled out, beside a copy of the same bytes.
 //!
-//!     cargo bench --bench spelled [-- SCRIPT..]
+//!     cargo bench --features calc --bench spelled [-- SCRIPT..]
 //!
 //! The scripts are those of the files that are named; with no words, or the word `spelled`, that of `demo 1000000`.
 //! What is spelled out is tried first: spelled out again it stays as it is. The least of many samples counts.
 
-// The calculator's modules, as the program has them.
-#![allow(unused, drop_bounds, clippy::style)]
-
-#[path = "../program/memory.rs"]
-mod memory;
-
-include!(concat!(env!("OUT_DIR"), "/program.rs"));
-
-use memory::Global;
 use std::hint::black_box;
 use std::time::Instant;
-use zugyelmas::*;
+use zugyelmas::calc;
+use zugyelmas::memory::Global;
 
 const SAMPLES: u32 = 51;
 

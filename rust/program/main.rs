@@ -4,36 +4,21 @@
 //!
 //! usage: zugyelmas [demo N]
 
-// The code that is included is the proved sources' own, in the forms of which their proofs speak.
-#![allow(
-    dead_code,
-    drop_bounds,
-    unused_imports,
-    unused_labels,
-    unused_variables
-)]
-#![allow(
-    clippy::manual_map,
-    clippy::manual_range_contains,
-    clippy::match_like_matches_macro,
-    clippy::question_mark,
-    clippy::single_match,
-    clippy::while_let_on_iterator
-)]
+#![forbid(unsafe_code)]
+// The code that is included is the proved source's own, in the forms of which its proofs speak.
+#![allow(clippy::single_match)]
 
-mod memory;
+include!(concat!(env!("OUT_DIR"), "/adapters.rs"));
 
-include!(concat!(env!("OUT_DIR"), "/program.rs"));
-
-use memory::Global;
 use prog::{StdErrors, StdSink, StdSource};
 use std::process::ExitCode;
 use std::{env, io};
-use zugyelmas::*;
+use zugyelmas::calc;
+use zugyelmas::memory::Global;
 
 /// The words of the command line. Where one is no text, one empty word stands for them, which is no form of the
 /// command.
-fn words() -> std::vec::Vec<String> {
+fn words() -> Vec<String> {
     let words: Result<_, _> = env::args_os()
         .skip(1)
         .map(|word| word.into_string())

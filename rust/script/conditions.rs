@@ -47,6 +47,9 @@ const KINDS: [Kind; 5] = [
     },
 ];
 
+/// The fact that always holds.
+const ALWAYS: &str = "Unit {0}";
+
 /// Signs that join facts, so that what is known of a part is not known of the whole.
 const JOINING: [&str; 4] = ["→", "↔", "×", "⊎"];
 
@@ -234,6 +237,7 @@ pub fn facts_of(source: &Source, clause: &Range<usize>) -> Vec<String> {
     starts
         .zip(&ends)
         .map(|(start, end)| words(start..*end))
+        .filter(|fact| fact != ALWAYS)
         .collect()
 }
 

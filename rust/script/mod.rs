@@ -1,5 +1,6 @@
 //! What the build script reads and writes: the sources of the proved crates, as modules of Rust.
 
+pub mod attributes;
 pub mod changes;
 pub mod conditions;
 pub mod edits;

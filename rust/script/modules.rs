@@ -1,5 +1,6 @@
 //! Crates as modules of Rust: each file becomes an inline module where its `mod` item stood.
 
+use crate::script::attributes::mark;
 use crate::script::conditions::Known;
 use crate::script::edits::{Edits, bytes};
 use crate::script::erasing::Erasing;
@@ -17,14 +18,18 @@ pub const LIBRARY: [&str; 17] = [
     "policy", "strict", "ops", "poly", "filter", "interval",
 ];
 
+/// The crates of the calculator, lowest first.
+pub const CALCULATOR: [&str; 4] = ["stream", "script", "machine", "calc"];
+
 /// The files that no crate offers: their public calls are made by the proved code beside them alone.
-const INSIDE: [&str; 10] = [
+const INSIDE: [&str; 11] = [
     "decimal/halves",
     "decimal/numeral",
     "decimal/tens",
     "kernel/whole",
     "kernel/wide",
     "logs/exact",
+    "text/added",
     "text/numerals",
     "text/pieces",
     "text/tokens",
@@ -56,7 +61,7 @@ pub const LEFT_OUT: [&str; 20] = [
 ];
 
 /// What the proved language has by itself, for crates that take memory.
-const MEMORY: &str = "use crate::memory::{Drop, Vec};\n";
+pub const MEMORY: &str = "use crate::memory::{Drop, String, Vec};\n";
 
 /// Writes the crates of the library with what the docs of their calls have, and the pages of the docs.
 pub fn write_library(crates: &[&str], with_memory: &[&str]) -> Result<(), String> {
@@ -112,7 +117,9 @@ fn written_with(
         let text = modules.written(&format!("{krate}/{}", root(krate)), &known)?;
         out += &format!("pub mod {krate} {{\n{text}}}\n");
     }
-    let is_whole = LIBRARY.iter().all(|krate| crates.contains(krate));
+    let mut all = LIBRARY.iter().chain(&CALCULATOR);
+    let is_whole =
+        all.all(|krate| crates.contains(krate)) && files.values().all(|file| !file.is_left_out);
     let unused = known.unused().into_iter().filter(|_| is_whole);
     let unmatched: Vec<String> = unmatched(crates, &files).chain(unused).collect();
     if unmatched.is_empty() {
@@ -205,7 +212,7 @@ impl Modules<'_> {
             .ok_or_else(|| format!("no file {name}"))?;
         let krate = name.split('/').next().unwrap_or_default();
         let has_memory = self.with_memory.contains(&krate);
-        let is_library = LIBRARY.contains(&krate) && !has_memory;
+        let is_library = LIBRARY.contains(&krate) || CALCULATOR.contains(&krate);
         let is_offered = is_library && !INSIDE.contains(&name);
         let erasing = Erasing {
             source,
@@ -217,6 +224,9 @@ impl Modules<'_> {
             pages: self.pages,
         };
         let mut edits = erasing.edits().map_err(|error| file.named(&error))?;
+        if is_library {
+            mark(source, &mut edits);
+        }
         let left_out = self.modules(krate, source, known, &mut edits)?;
         let names = Names {
             krate,

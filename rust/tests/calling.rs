@@ -1,19 +1,12 @@
 //! The programs of docs/CALLING.md as Cargo builds them, and that the page quotes what stands in the sources.
 
-// The calculator's modules are the proved sources' own.
-#![allow(dead_code, unused, drop_bounds, clippy::style, clippy::complexity)]
-
-#[path = "../program/memory.rs"]
-mod memory;
-
-include!(concat!(env!("OUT_DIR"), "/program.rs"));
-
-use calc::{Cause, Failed, Room, RunFault, Source, Status, SureSink, calc_main, run_in};
-use memory::Global;
 use std::fs;
 use std::path::PathBuf;
+use zugyelmas::calc::{
+    Cause, Failed, Room, RunFault, Source, Status, SureSink, calc_main, demo_script, run_in,
+};
+use zugyelmas::memory::Global;
 use zugyelmas::prelude::*;
-use zugyelmas::*;
 
 fn transfer(from: &mut FixedI64<8>, to: &mut FixedI64<8>, amount: FixedI64<8>) -> Option<()> {
     let less = from.checked_sub(amount)?;
@@ -86,6 +79,19 @@ fn one_room() {
     assert_eq!(room.answers(), b"7\n14\n");
     let fault = RunFault::Script(Cause::OutOfRange(2));
     assert_eq!(run_again(b"i8 4\nr0 set 128\n", &mut room), Err(fault));
+}
+
+#[test]
+#[should_panic(expected = "the room suffices for the script")]
+fn a_room_that_is_too_small() {
+    let mut room = Room::for_script(Global, b"i8 4\nr0 set 5\n").expect("memory");
+    let _ = run_in(b"i8 4 4\nr0 set 7\nr1 checked add r0 r0\n", &mut room);
+}
+
+#[test]
+#[should_panic(expected = "there are at most 1,000,000 lines")]
+fn a_demonstration_of_too_many_lines() {
+    let _ = demo_script(Global, 1_000_001);
 }
 
 struct Arriving<'a> {

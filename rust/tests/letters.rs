@@ -6,15 +6,20 @@
 #[allow(dead_code)]
 mod script;
 
-use script::modules::{LEFT_OUT, LIBRARY};
+use script::modules::{CALCULATOR, LEFT_OUT, LIBRARY, MEMORY};
 use script::tokens::{Kind, code, tokens};
 use std::fs;
 
 const WRITTEN: &str = include_str!(concat!(env!("OUT_DIR"), "/library.rs"));
 
 /// Forms of sources, and what Rust has in their place.
-const FORMS: [(&str, &str); 5] = [
+const FORMS: [(&str, &str); 10] = [
     ("use std::alloc::AllocError;", ""),
+    ("std::alloc", "crate::memory"),
+    ("Valued: Copy {", "Valued: Copy + crate::sealed::Sealed {"),
+    ("Binary: Copy {", "Binary: Copy + crate::sealed::Sealed {"),
+    ("type Unsigned: RawWord", "type Unsigned: UnsignedWord"),
+    ("type Signed: RawWord;", "type Signed: SignedWord;"),
     ("use std::marker::Model;", ""),
     ("use thiserror::Error;", ""),
     ("fmt<W: fmt::Write>(", "fmt("),
@@ -129,6 +134,12 @@ fn derives(signs: &[Sign]) -> (String, usize) {
     }
 }
 
+/// Whether a crate takes memory, by the features of this build.
+fn has_memory(krate: &str) -> bool {
+    let of_runs = cfg!(feature = "runs") && ["text", "poly", "filter", "interval"].contains(&krate);
+    of_runs || cfg!(feature = "calc") && (krate == "text" || CALCULATOR.contains(&krate))
+}
+
 /// What the library has to have of a file, with those that it names.
 fn expected(krate: &str, file: &str, out: &mut Vec<Sign>) {
     let path = format!("crates/fixed_{krate}/src/{file}.rt");
@@ -144,8 +155,9 @@ fn expected(krate: &str, file: &str, out: &mut Vec<Sign>) {
                 ..sign
             }));
         };
-        let is_left_out =
-            |name: &Sign| LEFT_OUT.contains(&format!("{krate}/{}", name.text).as_str());
+        let is_left_out = |name: &Sign| {
+            !has_memory(krate) && LEFT_OUT.contains(&format!("{krate}/{}", name.text).as_str())
+        };
         let form = FORMS.iter().find(|(old, _)| begin(rest, old));
         at += match ghost(rest) {
             0 if form.is_some() => form.map_or(0, |(old, new)| {
@@ -176,6 +188,9 @@ fn expected(krate: &str, file: &str, out: &mut Vec<Sign>) {
             }
             ghost => ghost,
         };
+    }
+    if has_memory(krate) {
+        out.extend(signs(&path, MEMORY));
     }
 }
 
@@ -222,8 +237,10 @@ fn added(signs: &[Sign]) -> usize {
         let is_docs = |sign: &&Sign| sign.text.starts_with("///");
         return signs.iter().take_while(is_docs).count();
     }
-    if begin(signs, "#[track_caller]") {
-        return code("#[track_caller]").len();
+    for attribute in ["#[track_caller]", "#[must_use]"] {
+        if begin(signs, attribute) {
+            return code(attribute).len();
+        }
     }
     let is_assertion = ["const { assert!(", "assert!(", "debug_assert!("]
         .iter()
@@ -242,7 +259,8 @@ fn added(signs: &[Sign]) -> usize {
 /// Where a library and the sources first differ.
 fn difference(library: &str) -> Option<String> {
     let mut all = Vec::new();
-    for krate in LIBRARY {
+    let calculator = CALCULATOR.iter().filter(|_| cfg!(feature = "calc"));
+    for krate in LIBRARY.iter().chain(calculator) {
         all.extend(signs("", &format!("pub mod {krate} {{")));
         expected(krate, "lib", &mut all);
         all.extend(signs("", "}"));

@@ -8,7 +8,7 @@ mod script;
 mod pointers;
 
 use pointers::with_pointers;
-use script::modules::{LIBRARY, written};
+use script::modules::{CALCULATOR, LIBRARY, written};
 use std::fs;
 use std::path::{Path, PathBuf};
 
@@ -40,14 +40,18 @@ fn of_crates(
     crates: &[&str],
     changes: &[(&str, &str, &str)],
 ) -> Result<String, String> {
-    let top = copied(name, crates, changes);
-    let from = format!("{}/", top.display());
-    written(&top, crates, &[]).map_err(|error| error.replace(&from, ""))
+    written_of(&copied(name, crates, changes), crates, &[])
 }
 
-/// What it makes of the library.
+/// What it makes of the whole library, with each feature.
 fn with_changes(name: &str, changes: &[(&str, &str, &str)]) -> Result<String, String> {
-    of_crates(name, &LIBRARY, changes)
+    let crates = [&LIBRARY[..], &CALCULATOR].concat();
+    written_of(&copied(name, &crates, changes), &crates, &crates)
+}
+
+fn written_of(top: &Path, crates: &[&str], with_memory: &[&str]) -> Result<String, String> {
+    let from = format!("{}/", top.display());
+    written(top, crates, with_memory).map_err(|error| error.replace(&from, ""))
 }
 
 /// What it makes of `fixed_num` with one more file.
@@ -197,7 +201,8 @@ fn a_public_module_of_any_name() {
         ),
     ];
     let library = of_crates("line", &["num"], &planted).expect("a library");
-    let body = "/// One.\npub fn one() -> u8 {\n    let line;\n    line = 1;\n    line\n}\n";
+    let body =
+        "/// One.\n#[must_use]\npub fn one() -> u8 {\n    let line;\n    line = 1;\n    line\n}\n";
     assert!(
         library.contains(&format!("pub mod line {{\n{body}}}")),
         "{}",

@@ -1,18 +1,9 @@
-//! The runs over text as Cargo builds them, which benches and the example include: scripts with known answers.
+//! The runs over text as Cargo builds them: scripts with known answers.
 
-// The modules of the runs, which are the proved sources' own.
-#![allow(dead_code, unused, drop_bounds, clippy::style, clippy::complexity)]
-
-#[path = "../program/memory.rs"]
-mod memory;
-
-include!(concat!(env!("OUT_DIR"), "/runs.rs"));
-
-use crate::filter::{FilterFault, filter_run};
-use crate::interval::{IntervalFault, interval_run};
-use crate::poly::{PolyFault, poly_run};
-use memory::Global;
-use zugyelmas::*;
+use zugyelmas::filter::{Bank, FilterFault, Reply, Shape, filter_run};
+use zugyelmas::interval::{IntervalFault, interval_run};
+use zugyelmas::memory::Global;
+use zugyelmas::poly::{PolyFault, poly_run};
 
 #[test]
 fn the_examples_answer_as_stated() {
@@ -98,6 +89,50 @@ fn intervals() {
         let output = interval_run(Global, script.as_bytes()).expect("no cause");
         assert_eq!(output.as_bytes(), answer.as_bytes(), "{lines}");
     }
+}
+
+/// A bank for bytes with 4 fraction bits, and the taps of its one channel.
+fn bank(taps: &[i8]) -> Bank<i8> {
+    let shape = Shape {
+        out_frac: 4,
+        coef_frac: 4,
+        sample_frac: 4,
+    };
+    let mut bank = Bank::new(Global, shape);
+    bank.add_channel(taps).expect("memory");
+    bank
+}
+
+#[test]
+fn a_bank() {
+    let mut bank = bank(&[16, 8]); // 1 and 1/2
+    assert_eq!(bank.push(0, 32), Reply::Value(32)); // 2
+    assert_eq!(bank.push(0, 16), Reply::Value(32)); // 1 + 2/2
+    assert_eq!((bank.tap(0, 1), bank.past(0, 1)), (8, 32));
+}
+
+/// A test for each call of a bank: it stops, and the message has the condition in words.
+macro_rules! stops {
+    ($($name:ident, $words:literal, $call:expr;)*) => {$(
+        #[test]
+        #[should_panic(expected = $words)]
+        fn $name() {
+            let _ = $call;
+        }
+    )*};
+}
+
+stops! {
+    no_tap, "there is a tap", bank(&[]);
+    no_channel_to_push, "there is such a channel", bank(&[16]).push(1, 16);
+    no_channel_with_taps, "there is such a channel", bank(&[16]).taps(1);
+    no_channel_with_a_tap, "there is such a channel", bank(&[16]).tap(1, 0);
+    no_such_tap, "there is such a tap", bank(&[16]).tap(0, 1);
+    no_such_past_sample, "there is such a tap", bank(&[16]).past(0, 1);
+    no_such_shape, "each fraction is at most the width", Bank::<i8>::new(Global, Shape {
+        coef_frac: 9,
+        ..Shape::default()
+    });
 }
 
 #[test]

@@ -2,7 +2,7 @@
 
 /// How many bits stand behind the point of outputs, of taps and of samples: a number is its bits over 2 to the
 /// power of its fraction. A fraction is at most the width of the word.
-#[derive(Clone, Copy, PartialEq, Eq, Debug)]
+#[derive(Clone, Copy, PartialEq, Eq, Hash, Default, Debug)]
 pub struct Shape {
     /// That of outputs.
     pub out_frac: u32,

@@ -113,14 +113,14 @@ pub trait Number: Held {
 
 impl<T: RawWord, const F: u32> Fixed<T, F> {
     /// The number with these bits.
-    pub fn from_bits(bits: T) -> Self
+    pub const fn from_bits(bits: T) -> Self
         ensures { result.bits ≡ bits }
     {
         Fixed { bits }
     }
 
     /// The bits.
-    pub fn to_bits(self) -> T
+    pub const fn to_bits(self) -> T
         ensures { result ≡ self.bits }
     {
         self.bits

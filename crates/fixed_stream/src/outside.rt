@@ -21,11 +21,11 @@ pub enum Refusal {
 
 /// Where the script comes from.
 pub trait Source {
-    /// The bytes left, where the source says which they are, and a count of its faults.
+    // The bytes left, where the source says which they are, and a count of its faults.
     ghost state: { Self → SourceState };
 
-    /// What a read may do: from this, into a buffer of so many bytes, with this answer, to that.
-    /// Anything, where the source does not say.
+    // What a read may do: from this, into a buffer of so many bytes, with this answer, to that.
+    // Anything, where the source does not say.
     ghost read_gives: { Self → ℕ → Result ℕ Failed → Self → Type 0 } = { λ _ _ _ _. Unit {0} };
 
     /// Takes some of the bytes left into the front of the buffer. `Ok(0)` on a buffer that is not
@@ -40,12 +40,12 @@ pub trait Source {
 
 /// Where the answers, or the line for the errors, go.
 pub trait Sink {
-    /// The bytes taken, where the sink says which they are, and its counts of faults and of
-    /// shortages of memory.
+    // The bytes taken, where the sink says which they are, and its counts of faults and of
+    // shortages of memory.
     ghost state: { Self → SinkState };
 
-    /// What a write may do: from this, offering these bytes, with this answer, to that. Anything,
-    /// where the sink does not say.
+    // What a write may do: from this, offering these bytes, with this answer, to that. Anything,
+    // where the sink does not say.
     ghost write_gives: { Self → List ℕ → Result ℕ Refusal → Self → Type 0 } = { λ _ _ _ _. Unit {0} };
 
     /// Takes a prefix of the bytes, at least one where there is one. `Failed` comes only where the count

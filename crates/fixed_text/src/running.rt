@@ -13,7 +13,7 @@ use std::alloc::Global;
 
 /// The state of a run, which each line moves.
 pub trait Run: Sized + Drop {
-    /// What a line is to a state: the state that it leaves and the bytes that it prints, or its cause.
+    // What a line is to a state: the state that it leaves and the bytes that it prints, or its cause.
     ghost line: { Self → List ℕ → Reading (Self × List ℕ) };
 
     /// Moves by a line, which comes without its newline, and adds what it prints. Refused as

@@ -1,7 +1,7 @@
 //! Roundings by name.
 
 /// How a number between two units is rounded.
-#[derive(Clone, Copy, Debug, PartialEq, Eq)]
+#[derive(Clone, Copy, PartialEq, Eq, Hash, Debug)]
 pub enum Rounding {
     /// To the unit below.
     Down,

@@ -1,10 +1,11 @@
-//! Memory as the proved sources ask for it: from an allocator that is passed, and with an answer that says where memory
-//! ran out.
+//! Memory as the proved sources ask for it: from an allocator that is passed, and with a result that says whether
+//! memory ran out. This module is not proved: each call forwards to `alloc`.
 
-use std::ops::{Deref, DerefMut};
-use std::vec;
+pub use alloc::string::String;
+use alloc::vec;
+use core::ops::{Deref, DerefMut};
 
-/// The allocator, which is that of the process.
+/// The allocator, which is the process's own.
 #[derive(Clone, Copy)]
 pub struct Global;
 
@@ -24,6 +25,7 @@ pub struct Vec<T> {
 }
 
 impl<T> Vec<T> {
+    #[must_use]
     pub fn new(_alloc: Global) -> Vec<T> {
         Vec {
             held: vec::Vec::new(),
@@ -85,6 +87,7 @@ impl<T> Vec<T> {
         self.held.clear();
     }
 
+    #[must_use]
     pub fn as_slice(&self) -> &[T] {
         &self.held
     }
