@@ -1,6 +1,6 @@
-//! The library's code is the proved sources', letter for letter: file by file and in order, each sign of the one is a sign
-//! of the other, but for what speaks to the prover, assertions and the names of crates. What goes is said here once more,
-//! without the build script's reading of items.
+//! The library's code and docs are the proved sources', letter for letter: file by file and in order, each sign of the one
+//! is a sign of the other, but for what speaks to the prover, assertions, what docs say of contracts, and the names of
+//! crates. What goes is said here once more, without the build script's reading of items.
 
 #[path = "../script/mod.rs"]
 #[allow(dead_code)]
@@ -26,25 +26,41 @@ const FORMS: [(&str, &str); 10] = [
     ("fmt::Formatter<W>", "fmt::Formatter<'_>"),
 ];
 
-/// A sign, and the file and the line where it stands.
+/// The headings of docs that the build script writes, which come last.
+const HEADINGS: [&str; 4] = ["Examples", "Compile errors", "Panics", "Proved"];
+
+/// A sign or a line of docs, and the file and the line where it stands.
 struct Sign {
     text: String,
     place: String,
 }
 
-/// The signs of a text, without comments.
+/// The signs and docs of a text, without other comments.
 fn signs(path: &str, text: &str) -> Vec<Sign> {
     let (mut at, mut line) = (0, 1);
     let mut found = Vec::new();
     for token in tokens(text) {
         line += text[at..token.at].matches('\n').count();
         at = token.at;
+        let place = format!("{path}:{line}");
         if token.kind != Kind::Comment {
-            let (text, place) = (token.text.to_string(), format!("{path}:{line}"));
+            let text = token.text.to_string();
+            found.push(Sign { text, place });
+        } else if token.text.starts_with("///") || token.text.starts_with("//!") {
+            let text = without_links(token.text);
             found.push(Sign { text, place });
         }
     }
     found
+}
+
+/// A line of docs without the brackets and the targets of links.
+fn without_links(line: &str) -> String {
+    let mut parts = line.split("](");
+    let first = parts.next().unwrap_or_default().to_string();
+    let rest = parts.map(|part| part.split_once(')').map_or("", |(_, rest)| rest));
+    let text = rest.fold(first, |text, rest| text + rest);
+    text.trim_end().replace(['[', ']'], "")
 }
 
 /// Whether signs begin with those of a text.
@@ -207,8 +223,20 @@ fn written(text: &str) -> Vec<Sign> {
         .collect()
 }
 
+/// Whether signs begin with what the build script adds to docs: a blank line and a heading.
+fn begins_docs(signs: &[Sign]) -> bool {
+    let heading = signs
+        .get(1)
+        .and_then(|sign| sign.text.strip_prefix("/// # "));
+    signs[0].text == "///" && heading.is_some_and(|heading| HEADINGS.contains(&heading))
+}
+
 /// How many signs the build script adds.
 fn added(signs: &[Sign]) -> usize {
+    if begins_docs(signs) {
+        let is_docs = |sign: &&Sign| sign.text.starts_with("///");
+        return signs.iter().take_while(is_docs).count();
+    }
     for attribute in ["#[track_caller]", "#[must_use]"] {
         if begin(signs, attribute) {
             return code(attribute).len();
@@ -270,6 +298,8 @@ fn planted_differences() {
     let checked = "Checked, CheckedSigned";
     let moved = difference(&WRITTEN.replacen(checked, "CheckedSigned, Checked", 1));
     assert!(moved.is_some_and(|said| said.contains("fixed_policy/src/lib.rt")));
+    let docs = difference(&WRITTEN.replacen("    /// The bits.\n", "", 1));
+    assert!(docs.is_some_and(|said| said.contains("fixed_num/src/format.rt")));
     let cut = difference(&WRITTEN[..WRITTEN.len() - 2]);
     assert!(cut.is_some_and(|said| said.contains("the end")));
 }
