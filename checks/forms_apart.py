@@ -33,12 +33,12 @@ SAME_ERROR = "std's `fmt::Error` in both; the page names another error for `writ
 ALLOWED = [
     Allowed(DISPLAY, "text", "use std::{fmt, str};", 1, "names the trait that it implements; writes no `{:?}`"),
     Allowed(DISPLAY, "text", "impl<T: Word, const F: u32> fmt::Display for Fixed<T, F> {", 1,
-            "an implementation, whose text `pad_integral` writes in both languages"),
+            "its contract states the text, and rust/tests/decimals.rs prints such texts by Rust"),
     Allowed(DISPLAY, "text", "fn fmt<W: fmt::Write>(&self, f: &mut fmt::Formatter<W>) -> fmt::Result {", 1,
             "the build script writes Rust's form of it, which has no type parameter"),
     Allowed(DISPLAY, "text", "return Err(fmt::Error);", 1, SAME_ERROR),
     Allowed(DISPLAY, "text", "Ok(digits) => f.pad_integral(!below_zero, \"\", digits),", 1,
-            "proved to pad as the trait's contract says, which the tests compare with Rust's"),
+            "its contract states the padding, and rust/tests/decimals.rs pads by Rust"),
     Allowed(DISPLAY, "text", "Err(_) => Err(fmt::Error),", 1, SAME_ERROR),
     Allowed(f"{CAST}/to_num.rt", "impl", "impl<S: Source> ToNum for S {", 1, OWN_BOUND),
     Allowed(f"{CAST}/from_num.rt", "impl", "impl<N: Numeric> FromNum for N {", 1, OWN_BOUND),
@@ -262,6 +262,15 @@ class Code:
                 return [self.text(k) for k in range(place + 2, self.behind(place + 2, "=", ";"))]
         return []
 
+    def type_of_field(self, name):
+        """The tokens of the type that the source's structs give a field of that name."""
+        for at in self.all("struct"):
+            body = self.body_of(at)
+            for place in range(body, self.ends.get(body, body)):
+                if self.text(place) == name and self.text(place + 1) == ":":
+                    return [self.text(k) for k in range(place + 2, self.behind(place + 2, ",", "}"))]
+        return []
+
 
 # ---- the forms, each of a class, as the places where they stand
 
@@ -334,7 +343,7 @@ def functions_as_values(code):
 
 def ranges_with_no_end(code):
     for at in code.all(".."):
-        is_index = code.text(at + 1) == "]" and code.ends_operand(code.around[at] - 1)
+        is_index = code.text(at + 1) == "]" and code.ends_operand((code.around[at] or 0) - 1)
         is_pattern = code.text(at + 1) in ("=>", "=", "|", "if")
         is_last = at + 1 >= len(code.tokens) or code.text(at + 1) in (")", ",", ";", "{", "}", "]", "else")
         if code.ends_operand(at - 1) and is_last and not is_index and not is_pattern:
@@ -353,17 +362,24 @@ def bases(code):
 
 
 def patterns(code):
-    """Each pattern of a `let`: its range, where its value begins, and whether it may fail."""
+    """Each pattern of a `let`: its range, and where its value begins."""
     for at in code.all("let"):
         end = code.behind(at + 1, "=", ":", ";")
         value = code.behind(end, "=", ";") + 1
         yield range(at + 1, end), value
 
 
+def may_fail(code, pattern, value):
+    """Whether it is the pattern of an `if let`, a `while let`, a chain of these, or a `let` with an `else`."""
+    has_else = code.text(code.behind(value, ";", "else", "{")) == "else"
+    return has_else or code.text(pattern.start - 2) in ("if", "while", "&")
+
+
 def arrays_in_variants(code):
-    for pattern, _ in patterns(code):
+    for pattern, value in patterns(code):
         for at in pattern:
-            if code.text(at) == "[" and at in code.ends and code.around[at] != code.around[pattern.start]:
+            is_inside = code.around[at] != code.around[pattern.start] and code.text(code.around[at]) in ("(", "{")
+            if code.text(at) == "[" and is_inside and may_fail(code, pattern, value):
                 yield "array", at
 
 
@@ -559,17 +575,24 @@ def loops_over_options(code):
 
 def is_list(code, span):
     """Whether the expression shows that it is a range, an iterator, or a list by its type."""
-    depth = code.around[span.start]
-    tops = [at for at in span if code.around[at] == depth and code.text(at) in ("..", "..=")]
-    if tops:
+    if any(code.around[at] == code.around[span.start] and code.text(at) in ("..", "..=") for at in span):
         return True
     words = [at for at in span if code.text(at) not in ("&", "mut")]
-    if code.text(words[0]) == "[" or code.text(words[-1]) == "]" and ".." in [code.text(at) for at in span]:
+    texts = [code.text(at) for at in words]
+    if texts[0] == "[" or texts[-1] == "]" and ".." in texts:
         return True
     if len(words) == 1:
-        return "[" in code.type_of(code.text(words[0]), span.start)[:4]
+        return is_type_of_list(code.type_of(texts[0], span.start))
+    if len(words) == 3 and texts[:2] == ["self", "."]:
+        return is_type_of_list(code.type_of_field(texts[2]))
     steps = {code.text(at) for at in span if code.text(at - 1) == "." and code.text(at + 1) == "("}
     return bool(steps & SAME_STEPS)
+
+
+def is_type_of_list(words):
+    """Whether a type is an array, a slice or a vector, or a reference to one."""
+    bare = [word for word in words if word not in ("&", "mut") and not word.startswith("'")]
+    return bare[:1] in (["["], ["Vec"])
 
 
 READERS = [
