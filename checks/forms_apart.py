@@ -14,7 +14,7 @@ import sys
 from collections import Counter, namedtuple
 from pathlib import Path
 
-from tokens import closers, tokens_of
+from source_code import WORDS_BEFORE_OPERANDS, Code, heads
 
 TOP = Path(__file__).resolve().parent.parent
 
@@ -55,7 +55,8 @@ ALLOWED = [
 ]
 
 INTEGERS = {sign + width for sign in "iu" for width in ("8", "16", "32", "64", "128", "size")}
-STD_TYPES = INTEGERS | {"f32", "f64", "bool", "char", "str", "Option", "Result", "Vec", "String"}
+NUMBERS = INTEGERS | {"f32", "f64"}
+STD_TYPES = NUMBERS | {"bool", "char", "str", "Option", "Result", "Vec", "String"}
 
 # Where a name of these stands, the form is there.
 NAMES = {
@@ -114,9 +115,9 @@ TITLES = {
 
 TEXT_MACROS = set("write writeln format format_args print println eprint eprintln dbg panic todo bail ensure".split())
 SAME_MACROS = {"unreachable", "prove", "prove_eq", "prove_ne", "matches"}
-WORDS_BEFORE_NOT = {"if", "while", "match", "return", "in", "else", "break", "as", "let"}
 SAME_STEPS = set("iter iter_mut rev enumerate skip step_by bytes chars windows chunks chunks_exact lines".split())
-NUMBERS = INTEGERS | {"f32", "f64"}
+
+# The methods that std has for numbers, and for its other types.
 NUMBER_METHODS = set("""
     abs abs_diff add bitand bitor bitxor cast_signed cast_unsigned ceil clamp clone cmp count_ones count_zeros div
     div_ceil div_euclid div_floor eq floor fract from_be from_be_bytes from_bits from_le from_le_bytes from_str_radix
@@ -141,6 +142,9 @@ OTHER_METHODS = NUMBER_METHODS | set("""
     starts_with step_by sum swap swap_with_slice take then then_some to_ascii_lowercase to_ascii_uppercase to_digit
     to_lowercase to_uppercase trim truncate unwrap unwrap_or unwrap_or_else unzip windows xor zip
     """.split())
+
+# Types and traits whose arguments have a size; the traits of std that a type may meet in one language alone; and those
+# whose methods have their names from std.
 SIZED = {"Option", "Result", "Outcome", "Vec", "PhantomData", "From", "Into", "Sum", "Product"}
 STD_TRAITS = set("""Clone Copy Debug Default Display Eq Error Fn FnMut FnOnce From FromStr Hash Into Iterator Ord
     PartialEq PartialOrd Read Send Sized Sync Write BufRead Seek Any Borrow AsRef AsMut Extend FromIterator Sum Product
@@ -149,133 +153,10 @@ OPERATORS = set("""Add Sub Mul Div Rem Neg Not Shl Shr BitAnd BitOr BitXor Parti
     Copy Hash Model""".split())
 
 
-class Code:
-    """The tokens of a source, with the partner of each bracket and the bracket in which each token stands."""
-
-    def __init__(self, source, std_named=()):
-        self.tokens = tokens_of(source)
-        self.ends = closers(self.tokens)
-        self.around = self.surrounding()
-        self.functions = list(self.all_functions())
-        bodies = map(self.body_of, self.all("trait"))
-        self.traits = [range(body, self.ends[body]) for body in bodies if body in self.ends]
-        self.std_named = {*std_named, *std_named_methods(self)}
-
-    def surrounding(self):
-        """The index of the innermost bracket that is open before each token; None outside of all."""
-        around = [None] * (len(self.tokens) + 1)
-        for at, end in sorted(self.ends.items()):
-            around[at + 1 : end + 1] = [at] * (min(end, len(self.tokens)) - at)
-        return around
-
-    def text(self, at):
-        """The token's text, and that of no token outside of the source."""
-        return self.tokens[at].text if 0 <= at < len(self.tokens) else ""
-
-    def is_name(self, at):
-        return 0 <= at < len(self.tokens) and self.tokens[at].kind == "name"
-
-    def is_constructor(self, at):
-        """Whether the name is one of a type or a variant."""
-        name = self.text(at)
-        return self.is_name(at) and name[0].isupper() and (len(name) == 1 or name != name.upper())
-
-    def ends_operand(self, at):
-        """Whether an expression may end with that token."""
-        if not 0 <= at < len(self.tokens):
-            return False
-        is_word = self.tokens[at].kind in ("number", "name", "character", "text")
-        return is_word and self.text(at) not in WORDS_BEFORE_NOT or self.text(at) in (")", "]", "?", "}")
-
-    def all(self, *texts):
-        """Where a token has one of the texts."""
-        return [at for at, token in enumerate(self.tokens) if token.text in texts and token.kind in ("name", "sign")]
-
-    def behind(self, start, *texts):
-        """Where the first of the texts stands from there on, outside of brackets that open there, or the end."""
-        at = start
-        while at < len(self.tokens) and self.text(at) not in texts:
-            at = self.ends.get(at, at) + 1
-        return min(at, len(self.tokens))
-
-    def body_of(self, at):
-        """Where the body of the item that begins there begins."""
-        return self.behind(at, "{", ";")
-
-    def behind_angles(self, start):
-        """Where the list in angle brackets that begins there ends; there itself where none does."""
-        depth, at = 0, start
-        while at < len(self.tokens):
-            depth += {"<": 1, ">": -1}.get(self.text(at), 0)
-            if depth == 0:
-                return at + 1 if at > start else start
-            at = self.ends.get(at, at) + 1
-        return len(self.tokens)
-
-    def angle_before(self, at):
-        """The bracket `<` that is open there, within the same list of parameters or statement; None where none is."""
-        depth = 0
-        while self.text(at) not in (";", "{", "}", "(", "") and not (depth == 0 and self.text(at) == "<"):
-            depth += {">": 1, "<": -1}.get(self.text(at), 0)
-            at -= 1
-        return at if self.text(at) == "<" else None
-
-    def parts(self, start, end):
-        """The ranges between the commas that stand there outside of brackets."""
-        at = start
-        while at < end:
-            comma = min(self.comma_from(at, end), end)
-            yield range(at, comma)
-            at = comma + 1
-
-    def comma_from(self, at, end):
-        depth = 0
-        while at < end and not (depth == 0 and self.text(at) == ","):
-            depth += {"<": 1, ">": -1}.get(self.text(at), 0)
-            at = self.ends.get(at, at) + 1
-        return at
-
-    def all_functions(self):
-        """Each function: the range from its parameters to its body's end, and its parameters' types by their names."""
-        for at in self.all("fn"):
-            opening = self.behind_angles(at + 2)
-            if self.is_name(at + 1) and self.text(opening) == "(":
-                body = self.behind(self.ends[opening], "{", ";")
-                yield range(opening, self.ends.get(body, body) + 1), self.parameters(opening)
-
-    def parameters(self, opening):
-        types = {}
-        for part in self.parts(opening + 1, self.ends[opening]):
-            colon = self.behind(part.start, ":", ",", ")")
-            names = [self.text(at) for at in range(part.start, min(colon, part.stop))]
-            words = [self.text(at) for at in range(min(colon, part.stop), part.stop)]
-            types[names[-1] if names else ""] = [*(name for name in names if name == "&"), *words[1:]]
-        return types
-
-    def type_of(self, name, at):
-        """The tokens of the type that a name has there: of a parameter, or as the source writes it behind a colon."""
-        for body, types in self.functions:
-            if at in body and name in types:
-                return types[name]
-        for place in self.all(name):
-            if self.text(place + 1) == ":" and self.text(place - 1) in ("let", "mut", "const", "static"):
-                return [self.text(k) for k in range(place + 2, self.behind(place + 2, "=", ";"))]
-        return []
-
-    def type_of_field(self, name):
-        """The tokens of the type that the source's structs give a field of that name."""
-        for at in self.all("struct"):
-            body = self.body_of(at)
-            for place in range(body, self.ends.get(body, body)):
-                if self.text(place) == name and self.text(place + 1) == ":":
-                    return [self.text(k) for k in range(place + 2, self.behind(place + 2, ",", "}"))]
-        return []
-
-
 # ---- the forms, each of a class, as the places where they stand
 
 
-def named(code):
+def listed_names(code):
     """The names that have a class of their own, but where a function is declared."""
     by_name = {name: form for form, names in NAMES.items() for name in names.split()}
     called = {name: form for form, names in CALLS.items() for name in names.split()}
@@ -290,9 +171,9 @@ def named(code):
             yield METHODS[token.text], at
 
 
-def tests_of_builds(code):
-    """The attribute `cfg(test)` runs the same."""
-    for form, at in named(code):
+def named(code):
+    """The listed names, but for the attribute `cfg(test)`, which runs the same."""
+    for form, at in listed_names(code):
         is_of_tests = [code.text(at + k) for k in range(-2, 4)] == ["#", "[", "cfg", "(", "test", ")"]
         if not (form == "target" and is_of_tests):
             yield form, at
@@ -330,7 +211,7 @@ def macros(code):
         yield "macro", at
     for at in code.all("!"):
         name = code.text(at - 1)
-        is_call = code.is_name(at - 1) and name not in WORDS_BEFORE_NOT and code.text(at + 1) in ("(", "[", "{")
+        is_call = code.is_name(at - 1) and name not in WORDS_BEFORE_OPERANDS and code.text(at + 1) in ("(", "[", "{")
         if is_call and name not in SAME_MACROS:
             yield "text" if name in TEXT_MACROS else "macro", at - 1
 
@@ -446,62 +327,8 @@ def parameters_taken_apart(code):
                     yield "drop", part.start
 
 
-class Head:
-    """The head of an impl: its parameters, its trait, the type that it is for, and where its body begins."""
-
-    def __init__(self, code, at):
-        start = code.behind_angles(at + 1)
-        self.body = code.body_of(start)
-        self.inside = range(self.body, code.ends.get(self.body, self.body))
-        parameters = code.parts(at + 2, start - 1)
-        self.parameters = {code.text(part.start) for part in parameters if len(part)}
-        where = code.behind(start, "where", "{", ";")
-        bounded = [*range(at, start), *range(where, self.body)]
-        self.bounds = {code.text(k) for k in bounded if code.text(k - 1) in (":", "+", "::", "(")}
-        words = [code.text(k) for k in range(start, self.body)]
-        words = words[: words.index("where")] if "where" in words else words
-        split = words.index("for") if "for" in words else len(words)
-        self.of = words[:split]
-        self.type = words[split + 1 :]
-
-    def trait_name(self):
-        """The trait's name, without its path and its arguments."""
-        before = self.of[: self.of.index("<")] if "<" in self.of else self.of
-        return before[-1] if before else ""
-
-    def is_of_references(self):
-        """Whether it is for a type whose argument is a reference to a parameter, as `W<&T>`."""
-        words = [word for word in self.type or self.of if word != "mut" and not word.startswith("'")]
-        return any(word == "&" and words[k - 1] in ("<", ",") and behind in self.parameters
-                   for k, (word, behind) in enumerate(zip(words, words[1:])))
-
-    def type_name(self):
-        """The type's name, without its path and its arguments."""
-        words = [word for word in self.type or self.of if word not in ("&", "mut") and not word.startswith("'")]
-        before = words[: words.index("<")] if "<" in words else words
-        return before[-1] if before else ""
-
-    def methods_of_std(self):
-        """The names of the methods that std has for the type, which are none for a type of one's own."""
-        words = self.bare_type()
-        before = words[: words.index("<")] if "<" in words else words
-        if len(before) == 1 and before[0] in NUMBERS:
-            return NUMBER_METHODS
-        return OTHER_METHODS if STD_TYPES.intersection(before) else set()
-
-    def bare_type(self):
-        """The type without what only borrows it."""
-        return [word for word in self.type if word not in ("&", "mut", "(", ")") and not word.startswith("'")]
-
-
-def heads(code):
-    for at in code.all("impl"):
-        if code.text(at - 1) in ("", "}", ";", "]", "unsafe", "default", "{"):
-            yield at, Head(code, at)
-
-
 def impls(code):
-    """Impls with a drop of one's own, for each type that meets a bound, and of methods that are named as std's."""
+    """Impls with a drop of one's own, and for each type that meets a bound."""
     for at, head in heads(code):
         if not head.type:
             if head.is_of_references():
@@ -529,13 +356,22 @@ def std_named_methods(code):
             yield code.text(at + 1), name
 
 
-def methods_named_as_std(code):
+def methods_of_std(head):
+    """The names of the methods that std has for an impl's type, which are none for a type of one's own."""
+    words = head.bare_type()
+    before = words[: words.index("<")] if "<" in words else words
+    if len(before) == 1 and before[0] in NUMBERS:
+        return NUMBER_METHODS
+    return OTHER_METHODS if STD_TYPES.intersection(before) else set()
+
+
+def methods_named_as_std(code, std_named):
     """Impls for std's types of methods that are named as theirs."""
     for at, head in heads(code):
         if head.trait_name() in OPERATORS:
             continue
-        offered = {name for trait, name in code.std_named if trait == head.trait_name()}
-        if head.methods_of_std() & (methods_in(code, head.body) | offered):
+        offered = {name for trait, name in std_named if trait == head.trait_name()}
+        if methods_of_std(head) & (methods_in(code, head.body) | offered):
             yield "method", at
 
 
@@ -596,18 +432,20 @@ def is_type_of_list(words):
 
 
 READERS = [
-    tests_of_builds, paths, attributes, texts_shown_for_debugging, macros, functions_as_values, ranges_with_no_end,
-    bases, arrays_in_variants, self_taken_apart, parameters_taken_apart, impls, methods_named_as_std,
-    types_without_size, loops_over_options,
+    named, paths, attributes, texts_shown_for_debugging, macros, functions_as_values, ranges_with_no_end,
+    bases, arrays_in_variants, self_taken_apart, parameters_taken_apart, impls, types_without_size,
+    loops_over_options,
 ]
 
 
 def found_in(source, std_named=()):
     """The forms in a source: each class with the line on which it stands, once a line. `std_named` are the methods
     of other sources' traits that are named as one of std's."""
-    code = Code(source, std_named)
-    found = {(form, code.tokens[at].line) for reader in READERS for form, at in reader(code) if at < len(code.tokens)}
-    return sorted(found, key=lambda place: (place[1], place[0]))
+    code = Code(source)
+    found = [place for reader in READERS for place in reader(code)]
+    found += methods_named_as_std(code, {*std_named, *std_named_methods(code)})
+    lines = {(form, code.tokens[at].line) for form, at in found if at < len(code.tokens)}
+    return sorted(lines, key=lambda place: (place[1], place[0]))
 
 
 # ---- the sources
