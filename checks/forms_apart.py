@@ -28,18 +28,11 @@ ADAPTERS = "crates/fixed_prog/src/adapters.rt"
 ADAPTED = "no other impl has a method of that name for the type"
 STD_NAMED = "std's own method is called: another choice has other parameters, or would call itself without end"
 WORDS = ["u8", "u16", "u32", "u64", "i8", "i16", "i32", "i64"]
-SAME_ERROR = "std's `fmt::Error` in both; the page names another error for `write!` to a String alone"
 
 ALLOWED = [
-    Allowed(DISPLAY, "text", "use std::{fmt, str};", 1, "names the trait that it implements; writes no `{:?}`"),
+    Allowed(DISPLAY, "text", "use std::{fmt, str};", 1, "for the trait that it implements, and its own `fmt::Error`"),
     Allowed(DISPLAY, "text", "impl<T: Word, const F: u32> fmt::Display for Fixed<T, F> {", 1,
-            "its contract states the text, and rust/tests/decimals.rs prints such texts by Rust"),
-    Allowed(DISPLAY, "text", "fn fmt<W: fmt::Write>(&self, f: &mut fmt::Formatter<W>) -> fmt::Result {", 1,
-            "the build script writes Rust's form of it, which has no type parameter"),
-    Allowed(DISPLAY, "text", "return Err(fmt::Error);", 1, SAME_ERROR),
-    Allowed(DISPLAY, "text", "Ok(digits) => f.pad_integral(!below_zero, \"\", digits),", 1,
-            "its contract states the padding, and rust/tests/decimals.rs pads by Rust"),
-    Allowed(DISPLAY, "text", "Err(_) => Err(fmt::Error),", 1, SAME_ERROR),
+            "its contract states the text, which goes to its formatter; rust/tests/decimals.rs prints by Rust"),
     Allowed(f"{CAST}/to_num.rt", "impl", "impl<S: Source> ToNum for S {", 1, OWN_BOUND),
     Allowed(f"{CAST}/from_num.rt", "impl", "impl<N: Numeric> FromNum for N {", 1, OWN_BOUND),
     Allowed(f"{CAST}/order.rt", "impl", "impl<M: Numeric> Order for M {", 1, OWN_BOUND),
@@ -66,8 +59,7 @@ NAMES = {
         from_raw_parts_mut NonNull ptr_eq union""",
     "drop": "ManuallyDrop drop_in_place forget",
     "clone": "clone cloned clone_from clone_into to_owned into_owned to_vec",
-    "text": """fmt Display Formatter Arguments write_str write_char write_fmt pad pad_integral to_string anyhow eyre
-        LowerHex UpperHex LowerExp UpperExp root_cause downcast downcast_ref with_context""",
+    "text": """Arguments write_fmt to_string anyhow eyre root_cause downcast downcast_ref with_context""",
     "thread": """thread threads spawn mpsc mpmc sync_channel try_send try_recv recv_timeout send_timeout Sender
         Receiver SyncSender JoinHandle Mutex RwLock Condvar Barrier OnceLock OnceCell LazyLock LazyCell Arc rayon
         crossbeam crossbeam_channel park unpark thread_local try_lock try_read try_write available_parallelism""",
@@ -196,6 +188,19 @@ def attributes(code):
     """The attributes of a field that holds another error."""
     for at in code.all("from", "source", "backtrace"):
         if code.text(at - 1) == "[" and code.text(at - 2) == "#":
+            yield "text", at
+
+
+def formatting(code):
+    """Imports of `fmt`, its paths where there is no import, and text that goes anywhere but to a formatter."""
+    imported = [at for span in code.imports() for at in span if code.text(at) == "fmt"]
+    for at in code.all("fmt"):
+        is_of_std = code.text(at - 1) == "::" and code.text(at - 2) in ("std", "core")
+        if at in imported or is_of_std or not imported and code.text(at + 1) == "::":
+            yield "text", at
+    for at in code.all("write_str", "write_char"):
+        receiver = code.type_of(code.text(at - 2), at) if code.text(at - 1) == "." else []
+        if code.text(at - 1) != "fn" and "Formatter" not in receiver:
             yield "text", at
 
 
@@ -339,7 +344,7 @@ def impls(code):
         is_for_each = len(head.bare_type()) == 1 and head.bare_type()[0] in head.parameters
         if is_for_each or head.bounds & STD_TRAITS or head.is_of_references():
             yield "impl", at
-        if head.trait_name() in ("Debug", "Error"):
+        if head.trait_name() in ("Debug", "Display", "Error") or "fmt" in head.of:
             yield "text", at
 
 
@@ -432,7 +437,7 @@ def is_type_of_list(words):
 
 
 READERS = [
-    named, paths, attributes, texts_shown_for_debugging, macros, functions_as_values, ranges_with_no_end,
+    named, paths, attributes, formatting, texts_shown_for_debugging, macros, functions_as_values, ranges_with_no_end,
     bases, arrays_in_variants, self_taken_apart, parameters_taken_apart, impls, types_without_size,
     loops_over_options,
 ]

@@ -55,6 +55,10 @@ class Code:
             at = self.ends.get(at, at) + 1
         return min(at, len(self.tokens))
 
+    def imports(self):
+        """The range of each `use` item."""
+        return [range(at, self.behind(at, ";")) for at in self.all("use")]
+
     def body_of(self, at):
         """Where the body of the item that begins there begins."""
         return self.behind(at, "{", ";")
