@@ -3,7 +3,8 @@
     python3 checks/refused_memory.py
 
 Each run gives the status and the output of the run in which nothing is refused, or ends with 6 and has written a
-prefix of that output. Prints a line a run, and ends with 1 where one does neither. The program runs by `rt try`,
+prefix of that output; the script makes 6 requests, and the words 15. Prints a line a run, and ends with 1 where a run
+does neither or the requests are not so many. The program runs by `rt try`,
 without a proof, in about 20 seconds a run; the kit's `rt try` takes one number at a time, and fails requests for
 memory alone.
 """
@@ -29,8 +30,8 @@ def is_named(run, fine):
     return run == fine or (run[0] == MEMORY_RAN_OUT and fine[1].startswith(run[1]))
 
 
-def all_refused(name, words, script):
-    """Tries each request until none is left to refuse; whether each run is named."""
+def all_refused(name, words, script, requests):
+    """Tries each request until none is left to refuse; whether each run is named, and there are so many requests."""
     fine = tried(MORE_THAN_ALL, words, script)
     good = True
     refused = 1
@@ -39,12 +40,15 @@ def all_refused(name, words, script):
         good = good and is_named(run, fine)
         print(f"{name}: request {refused} refused, status {run[0]}, {len(run[1])} bytes written")
         if run == fine:
-            return good
+            break
         refused += 1
+    made = refused - 1
+    print(f"{name}: {made} requests, and {requests} are expected")
+    return good and made == requests
 
 
 def main():
-    both = [all_refused("a script", [], SCRIPT), all_refused("demo 50", ["demo", "50"], "")]
+    both = [all_refused("a script", [], SCRIPT, 6), all_refused("demo 50", ["demo", "50"], "", 15)]
     sys.exit(0 if all(both) else 1)
 
 

@@ -201,22 +201,22 @@ pub use word::{RawWord, SignedWord, UnsignedWord, Word};
 /// What most programs import: the numbers, and the traits of their calls. The traits whose names std has too, such as
 /// `Wrapping`, stay in scope beside `use std::num::Wrapping`.
 pub mod prelude {
-    pub use crate::{Binary as _, Saturating as _, Wrapping as _};
     pub use crate::{Binary, FloatNumber};
+    pub use crate::{Binary as _, Saturating as _, Wrapping as _};
     pub use crate::{Checked, CheckedMulAdd, CheckedProducts, CheckedSigned, CheckedUnsigned};
     pub use crate::{
         Constants, Fixed, FixedI8, FixedI16, FixedI32, FixedI64, FixedU8, FixedU16, FixedU32,
         FixedU64, Held, Number,
     };
+    pub use crate::{FromNum, Order, ToNum, ToWhole};
     pub use crate::{
         Overflowing, OverflowingMulAdd, OverflowingProducts, OverflowingSigned, OverflowingUnsigned,
     };
     pub use crate::{Plain, PlainMulAdd, PlainProducts, PlainSigned, PlainUnsigned};
+    pub use crate::{RawWord, SignedWord, UnsignedWord, Word};
     pub use crate::{
         Saturating, SaturatingMulAdd, SaturatingProducts, SaturatingSigned, SaturatingUnsigned,
     };
-    pub use crate::{FromNum, Order, ToNum, ToWhole};
-    pub use crate::{RawWord, SignedWord, UnsignedWord, Word};
     pub use crate::{Strict, StrictMulAdd, StrictProducts, StrictSigned, StrictUnsigned};
     pub use crate::{
         Unwrapped, UnwrappedMulAdd, UnwrappedProducts, UnwrappedSigned, UnwrappedUnsigned,

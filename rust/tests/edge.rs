@@ -146,6 +146,19 @@ fn words_beside_a_word() {
     assert_eq!(distance, Some(FixedU8::MAX));
 }
 
+/// The greatest of some numbers, 0 where there are none, and how many are 0.
+fn greatest<N: Number>(numbers: &[N]) -> (N, usize) {
+    let zeros = numbers.iter().filter(|number| **number == N::ZERO);
+    let greatest = numbers.iter().max().copied();
+    (greatest.unwrap_or_default(), zeros.count())
+}
+
+#[test]
+fn generic_numbers() {
+    assert_eq!(greatest(&[GAIN, LEVEL, Format::ZERO]), (LEVEL, 1));
+    assert_eq!(greatest::<FixedU8<8>>(&[]), (FixedU8::ZERO, 0));
+}
+
 fn is_plain<T: Clone + Eq + Hash + Debug>(value: T) {
     let values = HashSet::from([value.clone(), value]);
     assert_eq!(values.len(), 1);

@@ -13,13 +13,17 @@ use std::fs;
 const WRITTEN: &str = include_str!(concat!(env!("OUT_DIR"), "/library.rs"));
 
 /// Forms of sources, and what Rust has in their place.
-const FORMS: [(&str, &str); 10] = [
+const FORMS: [(&str, &str); 11] = [
     ("use std::alloc::AllocError;", ""),
     ("std::alloc", "crate::memory"),
     ("Valued: Copy {", "Valued: Copy + crate::sealed::Sealed {"),
     ("Binary: Copy {", "Binary: Copy + crate::sealed::Sealed {"),
     ("type Unsigned: RawWord", "type Unsigned: UnsignedWord"),
     ("type Signed: RawWord;", "type Signed: SignedWord;"),
+    (
+        "Number: Held {",
+        "Number: Held + Constants + Eq + Ord + Default {",
+    ),
     ("use std::marker::Model;", ""),
     ("use thiserror::Error;", ""),
     ("fmt<W: fmt::Write>(", "fmt("),

@@ -275,6 +275,25 @@ fn an_operator() {
 }
 
 #[test]
+fn a_clause_that_always_holds() {
+    let source = "impl Iterator for S {
+    type Item = u8;
+
+    ghost can_next = { λ _. Unit {0} };
+
+    fn next(&mut self) -> Option<u8> {
+        None
+    }
+}
+";
+    let text = read(source);
+    assert!(
+        !text.contains("assert") && !text.contains("Panics"),
+        "{text}"
+    );
+}
+
+#[test]
 fn an_unknown_clause() {
     let source = "pub fn f(x: u8)\n    requires { x ≡ 7 }\n{}\n";
     assert_eq!(

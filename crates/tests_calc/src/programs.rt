@@ -1,6 +1,6 @@
 //! What no clause says: worked scripts from bytes to bytes, printed texts, and ample memory.
 
-use fixed_calc::{Cause, Status, SureSink, SureSource, calc_main};
+use fixed_calc::{Cause, Source, Status, SureSink, SureSource, calc_main};
 use std::alloc::Global;
 use std::process::Abort;
 use std::test::Fail;
@@ -15,16 +15,20 @@ pub struct Seen {
 
 /// A call with no words, on a source of these bytes.
 pub fn outcome(alloc: Global, script: &[u8]) -> Result<Seen, Fail> {
+    Ok(outcome_of(alloc, &mut SureSource::new(script.to_vec(alloc)?)))
+}
+
+/// A call with no words on that source.
+pub fn outcome_of<S: Source>(alloc: Global, source: &mut S) -> Seen {
     let words = Vec::new(alloc);
-    let mut source = SureSource::new(script.to_vec(alloc)?);
     let mut sink = SureSink::new(alloc);
     let mut errors = SureSink::new(alloc);
-    let status = calc_main(alloc, &words, &mut source, &mut sink, &mut errors);
-    Ok(Seen {
+    let status = calc_main(alloc, &words, source, &mut sink, &mut errors);
+    Seen {
         status,
         sink,
         errors,
-    })
+    }
 }
 
 /// Asserts that the script is done with these answers.

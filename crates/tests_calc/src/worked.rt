@@ -1,7 +1,7 @@
 //! Scripts with known answers.
 
-use super::programs::{answers, outcome};
-use fixed_calc::{Cause, RunFault, Status, run};
+use super::programs::{answers, outcome_of};
+use fixed_calc::{Cause, RunFault, Status, SureSource, run};
 use std::alloc::Global;
 use std::process::Abort;
 use std::test::Fail;
@@ -193,23 +193,31 @@ fn runs_in_memory(rt: HostRuntime) -> Result<(), Fail> {
     Ok(())
 }
 
-/// A script of the greatest length is run, and one of a byte more is not.
+/// Asserts what the program leaves on a script of so many empty lines.
+fn leaves(
+    rt: &impl Abort,
+    alloc: Global,
+    length: usize,
+    status: Status,
+    line: &str,
+) -> Result<(), Fail> {
+    let script = vec![in alloc; b'\n'; length]?;
+    let seen = outcome_of(alloc, &mut SureSource::new(script));
+    let found = (seen.status, seen.sink.taken(), seen.errors.taken());
+    let wanted = (status, b"".as_slice(), line.as_bytes());
+    assert_eq!(rt; found, wanted, "{length} bytes");
+    Ok(())
+}
+
+/// A script of the greatest length is run, and its first line is no header.
 #[test]
 fn the_limit(rt: HostRuntime) -> Result<(), Fail> {
-    let alloc = rt.alloc();
-    for (length, status, line) in [
-        (
-            67_108_864,
-            Status::Script(Cause::Syntax(1)),
-            "line 1: syntax\n",
-        ),
-        (67_108_865, Status::TooLong, "too long\n"),
-    ] {
-        let script = vec![in alloc; b'a'; length]?;
-        let seen = outcome(alloc, &script)?;
-        let found = (seen.status, seen.sink.taken(), seen.errors.taken());
-        let wanted = (status, b"".as_slice(), line.as_bytes());
-        assert_eq!(rt; found, wanted, "{length} bytes");
-    }
-    Ok(())
+    let status = Status::Script(Cause::Syntax(1));
+    leaves(&rt, rt.alloc(), 67_108_864, status, "line 1: syntax\n")
+}
+
+/// A script of a byte more is not run.
+#[test]
+fn past_the_limit(rt: HostRuntime) -> Result<(), Fail> {
+    leaves(&rt, rt.alloc(), 67_108_865, Status::TooLong, "too long\n")
 }
