@@ -239,6 +239,20 @@ fn entries_that_match_nothing() {
     assert!(form.ends_with("nothing matches T.SIGNED ≡ false"), "{form}");
 }
 
+/// The files whose clauses no call tests are not offered.
+#[test]
+fn what_is_inside() {
+    let text = of_crates("text", &["text"], &[]).expect("a library");
+    assert!(
+        text.contains("pub(crate) use pieces::{body_of, piece_end};"),
+        "{text}"
+    );
+    let public = [("fixed_text/src/lib.rt", "mod pieces;", "pub mod pieces;")];
+    let said = of_crates("inside_and_public", &["text"], &public).err();
+    let error = "fixed_text/src/lib.rt:16: a public module of a file that is not offered";
+    assert_eq!(said.as_deref(), Some(error));
+}
+
 /// A clause counts wherever it stands.
 #[test]
 fn a_clause_behind_another_on_its_line() {
