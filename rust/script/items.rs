@@ -116,7 +116,7 @@ impl<'a> Source<'a> {
     }
 
     /// The last name of a path, without its arguments.
-    fn last_name(&self, path: &Range<usize>) -> &'a str {
+    pub fn last_name(&self, path: &Range<usize>) -> &'a str {
         let is_path = |at: &usize| self.is_word(*at) || self.sign(*at) == ":";
         let names = path.clone().take_while(is_path);
         names

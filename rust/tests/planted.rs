@@ -72,7 +72,7 @@ fn module<'a>(library: &'a str, name: &str) -> &'a str {
 }
 
 /// Sources of which something would be lost, and the error.
-const REFUSED: [(&str, &str, &str); 19] = [
+const REFUSED: [(&str, &str, &str); 20] = [
     (
         "an_unknown_clause_behind_another_on_its_line",
         "pub fn f(x: u8) -> u8\n    ensures { result ≡ x } requires { x ≡ 7 }\n{\n    x\n}\n",
@@ -157,6 +157,11 @@ const REFUSED: [(&str, &str, &str); 19] = [
         "a_trait_that_is_not_found",
         "impl super::super::FromDecimal for S {\n    fn from_decimal() {}\n}\n",
         "2: FromDecimal::from_decimal: no known trait: num::super::FromDecimal",
+    ),
+    (
+        "a_clone_that_nothing_derives",
+        "#[derive(Debug)]\npub struct S;\n\nimpl Clone for S {\n    fn clone(&self) -> Result<Self, AllocError> {\n        Ok(S)\n    }\n}\n",
+        "4: a Clone by hand of S, which does not derive Copy first",
     ),
     (
         "brackets_without_an_end",
