@@ -33,9 +33,8 @@ impl Erasing<'_> {
             let done = match &item.part {
                 Part::Ghost => self.ghost(item, &mut edits),
                 Part::Function(function) => self.function(item, function, &mut edits),
-                Part::Impl(Some(path), _) if self.goes(path) => {
-                    edits.remove(self.source, self.source.with_above(item));
-                    Ok(())
+                Part::Impl(Some(path), of) if self.goes(path) => {
+                    self.remove(item, path, of, &mut edits)
                 }
                 _ => Ok(()),
             };
@@ -74,6 +73,35 @@ impl Erasing<'_> {
     /// Whether an implementation goes.
     fn goes(&self, path: &Range<usize>) -> bool {
         GOING.contains(&self.source.slice(path))
+    }
+
+    /// An implementation goes. Where it is of `Clone`, the type derives it in Rust, as it derives `Copy` first.
+    fn remove(
+        &self,
+        item: &Item,
+        path: &Range<usize>,
+        of: &Range<usize>,
+        edits: &mut Edits,
+    ) -> Result<(), String> {
+        let name = self.source.last_name(of);
+        let is_copied = self.source.items.iter().any(|other| {
+            let above = self.source.code(&(other.above..other.place.start));
+            let head = self.source.code(&other.place);
+            let is_type = head
+                .windows(2)
+                .any(|pair| ["struct", "enum"].contains(&pair[0]) && pair[1] == name);
+            is_type
+                && above
+                    .windows(3)
+                    .any(|signs| signs == ["derive", "(", "Copy"])
+        });
+        if self.source.slice(path) == "Clone" && !is_copied {
+            return Err(format!(
+                "a Clone by hand of {name}, which does not derive Copy first"
+            ));
+        }
+        edits.remove(self.source, self.source.with_above(item));
+        Ok(())
     }
 
     /// Whether a block has a function of this name.

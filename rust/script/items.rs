@@ -116,7 +116,7 @@ impl<'a> Source<'a> {
     }
 
     /// The last name of a path, without its arguments.
-    fn last_name(&self, path: &Range<usize>) -> &'a str {
+    pub fn last_name(&self, path: &Range<usize>) -> &'a str {
         let is_path = |at: &usize| self.is_word(*at) || self.sign(*at) == ":";
         let names = path.clone().take_while(is_path);
         names
@@ -164,7 +164,7 @@ impl<'a> Source<'a> {
 
     /// What an item is, and where it ends.
     fn part(&self, start: usize, end: usize) -> Result<(Part, usize), Fault> {
-        let is_public = self.sign(start) == "pub" && self.sign(start + 1) != "(";
+        let is_public = self.is_public(start);
         let shown = self.past_visibility(start)?;
         let keyword = self.past_modifiers(shown);
         match self.sign(keyword) {
@@ -334,6 +334,19 @@ impl<'a> Source<'a> {
             };
         }
         Ok(at + 1)
+    }
+
+    /// Whether an item that begins at a token is public.
+    pub fn is_public(&self, start: usize) -> bool {
+        self.sign(start) == "pub" && self.sign(start + 1) != "("
+    }
+
+    /// What is behind `crate::` or `self::` at the front of a path.
+    pub fn past_root(&self, path: usize) -> usize {
+        match self.sign(path) {
+            "crate" | "self" => path + 3,
+            _ => path,
+        }
     }
 
     fn past_comments(&self, start: usize) -> usize {

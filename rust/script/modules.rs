@@ -8,6 +8,7 @@ use crate::script::items::{Part, Source};
 use crate::script::names::Names;
 use crate::script::traits::{Traits, imports};
 use std::collections::BTreeMap;
+use std::ops::Range;
 use std::path::Path;
 use std::{env, fs};
 
@@ -20,8 +21,8 @@ pub const LIBRARY: [&str; 17] = [
 /// The crates of the calculator, lowest first.
 pub const CALCULATOR: [&str; 4] = ["stream", "script", "machine", "calc"];
 
-/// The files that no crate offers: their public calls are made by the proved code beside them alone.
-const INSIDE: [&str; 11] = [
+/// The files that the library does not offer: their public calls are made by the proved code beside them alone.
+pub const INSIDE: [&str; 11] = [
     "decimal/halves",
     "decimal/numeral",
     "decimal/tens",
@@ -201,7 +202,7 @@ impl Modules<'_> {
         if is_library {
             mark(source, &mut edits);
         }
-        let left_out = self.modules(krate, source, known, &mut edits)?;
+        let left_out = self.modules(name, known, &mut edits)?;
         let names = Names {
             krate,
             is_library,
@@ -213,41 +214,51 @@ impl Modules<'_> {
     }
 
     /// The edits for the modules that a file names. It says which names would be offered by those that are left out.
-    fn modules(
-        &self,
-        krate: &str,
-        source: &Source,
-        known: &Known,
-        edits: &mut Edits,
-    ) -> Result<Vec<String>, String> {
+    fn modules(&self, name: &str, known: &Known, edits: &mut Edits) -> Result<Vec<String>, String> {
+        let (file, source) = &self.sources[name];
+        let krate = name.split('/').next().unwrap_or_default();
         let mut left_out = Vec::new();
         for item in &source.items {
-            let name = match &item.part {
-                Part::Module(name) => *name,
-                Part::Use(path) => path.start,
-                _ => continue,
+            let (Part::Module(start) | Part::Use(Range { start, .. })) = &item.part else {
+                continue;
             };
-            let path = format!("{krate}/{}", source.sign(name));
+            let path = format!("{krate}/{}", source.sign(source.past_root(*start)));
             let found = self.sources.get(path.as_str());
-            let is_left_out = found.is_some_and(|(file, _)| file.is_left_out);
+            let is_inside = INSIDE.contains(&path.as_str()) && source.is_public(item.place.start);
             match &item.part {
-                Part::Use(path) if is_left_out => {
-                    let (names, _) = imports(&source.code(path), &[]);
-                    left_out.extend(names.into_iter().map(|(name, _)| name));
+                _ if found.is_some_and(|(file, _)| file.is_left_out) => {
+                    left_out.extend(offered(source, &item.part));
                     edits.remove(source, source.with_above(item));
                 }
-                Part::Module(_) if is_left_out => edits.remove(source, source.with_above(item)),
-                Part::Module(name) => {
+                Part::Use(_) if is_inside => {
+                    let public = item.place.start..item.place.start + 1;
+                    edits.replace(bytes(source, &public), "pub(crate)");
+                }
+                Part::Module(_) if is_inside => {
+                    let error =
+                        source.at_line(*start, "a public module of a file that is not offered");
+                    return Err(file.named(&error));
+                }
+                Part::Module(_) => {
                     let text = self.written(&path, known)?;
-                    let end = bytes(source, &(*name..item.place.end));
-                    edits.replace(
-                        source.tokens[*name].end()..end.end,
-                        &format!(" {{\n{text}}}"),
-                    );
+                    let end = source.tokens[item.place.end - 1].end();
+                    let start = source.tokens[*start].end();
+                    edits.replace(start..end, &format!(" {{\n{text}}}"));
                 }
                 _ => {}
             }
         }
         Ok(left_out)
+    }
+}
+
+/// The names that an item imports.
+fn offered(source: &Source, part: &Part) -> Vec<String> {
+    match part {
+        Part::Use(path) => {
+            let (names, _) = imports(&source.code(path), &[]);
+            names.into_iter().map(|(name, _)| name).collect()
+        }
+        _ => Vec::new(),
     }
 }

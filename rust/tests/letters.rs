@@ -6,7 +6,7 @@
 #[allow(dead_code)]
 mod script;
 
-use script::modules::{CALCULATOR, LEFT_OUT, LIBRARY, MEMORY};
+use script::modules::{CALCULATOR, INSIDE, LEFT_OUT, LIBRARY, MEMORY};
 use script::tokens::{Kind, code, tokens};
 use std::fs;
 
@@ -159,9 +159,12 @@ fn expected(krate: &str, file: &str, out: &mut Vec<Sign>) {
                 ..sign
             }));
         };
-        let is_left_out = |name: &Sign| {
-            !has_memory(krate) && LEFT_OUT.contains(&format!("{krate}/{}", name.text).as_str())
+        let is_of = |table: &[&str], name: &Sign| {
+            let path = format!("{krate}/{}", name.text);
+            table.contains(&path.as_str())
         };
+        let is_left_out = |name: &Sign| !has_memory(krate) && is_of(&LEFT_OUT, name);
+        let is_inside = |name: &Sign| is_of(&INSIDE, name);
         let form = FORMS.iter().find(|(old, _)| begin(rest, old));
         at += match ghost(rest) {
             0 if form.is_some() => form.map_or(0, |(old, new)| {
@@ -182,6 +185,10 @@ fn expected(krate: &str, file: &str, out: &mut Vec<Sign>) {
                 3
             }
             0 if begin(rest, "pub use") && is_left_out(&rest[2]) => length(rest, &[";"]),
+            0 if begin(rest, "pub use") && is_inside(&rest[2]) => {
+                put("pub(crate)");
+                1
+            }
             0 if begin(&rest[1..], "::") => {
                 put(&crate_name(krate, &rest[0].text));
                 1

@@ -76,7 +76,7 @@ fn module<'a>(library: &'a str, name: &str) -> &'a str {
 }
 
 /// Sources of which something would be lost, and the error.
-const REFUSED: [(&str, &str, &str); 19] = [
+const REFUSED: [(&str, &str, &str); 20] = [
     (
         "an_unknown_clause_behind_another_on_its_line",
         "pub fn f(x: u8) -> u8\n    ensures { result ≡ x } requires { x ≡ 7 }\n{\n    x\n}\n",
@@ -163,6 +163,11 @@ const REFUSED: [(&str, &str, &str); 19] = [
         "2: FromDecimal::from_decimal: no known trait: num::super::FromDecimal",
     ),
     (
+        "a_clone_that_nothing_derives",
+        "#[derive(Debug)]\npub struct S;\n\nimpl Clone for S {\n    fn clone(&self) -> Result<Self, AllocError> {\n        Ok(S)\n    }\n}\n",
+        "4: a Clone by hand of S, which does not derive Copy first",
+    ),
+    (
         "brackets_without_an_end",
         "pub fn f() {\n    (\n}\n",
         "1: brackets without an end",
@@ -242,6 +247,20 @@ fn entries_that_match_nothing() {
     let strict = "fixed_kernel/src/powers.rt";
     let form = without("form", strict, "requires { T.SIGNED ≡ false }", "");
     assert!(form.ends_with("nothing matches T.SIGNED ≡ false"), "{form}");
+}
+
+/// The files whose clauses no call tests are not offered.
+#[test]
+fn what_is_inside() {
+    let text = of_crates("text", &["text"], &[]).expect("a library");
+    assert!(
+        text.contains("pub(crate) use pieces::{body_of, piece_end};"),
+        "{text}"
+    );
+    let public = [("fixed_text/src/lib.rt", "mod pieces;", "pub mod pieces;")];
+    let said = of_crates("inside_and_public", &["text"], &public).err();
+    let error = "fixed_text/src/lib.rt:16: a public module of a file that is not offered";
+    assert_eq!(said.as_deref(), Some(error));
 }
 
 /// A clause counts wherever it stands.
