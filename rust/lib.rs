@@ -126,15 +126,6 @@ include!(concat!(env!("OUT_DIR"), "/tests.rs"));
 
 /// Keeps the traits of words to Rust's own integers and floats, since nothing proves what another type would say of
 /// itself.
-///
-/// ```compile_fail,E0277
-/// #[derive(Clone, Copy)]
-/// struct Byte(u8);
-///
-/// impl zugyelmas::word::Valued for Byte {
-///     const BITS: u32 = 8;
-/// }
-/// ```
 mod sealed {
     pub trait Sealed {}
 

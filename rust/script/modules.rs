@@ -23,7 +23,7 @@ pub const LIBRARY: [&str; 17] = [
 pub const CALCULATOR: [&str; 4] = ["stream", "script", "machine", "calc"];
 
 /// The files that the library does not offer: their public calls are made by the proved code beside them alone.
-pub const INSIDE: [&str; 12] = [
+pub const INSIDE: [&str; 11] = [
     "decimal/halves",
     "decimal/numeral",
     "decimal/tens",
@@ -31,7 +31,6 @@ pub const INSIDE: [&str; 12] = [
     "kernel/wide",
     "logs/exact",
     "text/added",
-    "text/numbers",
     "text/numerals",
     "text/pieces",
     "text/tokens",

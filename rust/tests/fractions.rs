@@ -1,4 +1,4 @@
-//! Conditions on constants are compile errors, which name the line of the caller.
+//! Conditions on constants are compile errors, which name the line of the caller; and so is a word of another crate.
 
 use std::path::PathBuf;
 use std::process::Command;
@@ -115,4 +115,22 @@ fn what_is_at_the_width_compiles() {
         "at.checked_mul(at); at * at; at.wide_mul::<8, 16>(at); byte.wide_div::<4, 8>(byte);";
     let said = compiled("at_the_width", &format!("{START}    {at} {calls}\n}}\n"));
     assert_eq!(said, "");
+}
+
+const FOREIGN: &str = "#[derive(Clone, Copy)]
+struct Byte(u8);
+impl zugyelmas::word::Valued for Byte {
+    const BITS: u32 = 8;
+}
+fn main() {}
+";
+
+#[test]
+fn a_word_of_another_crate() {
+    let said = compiled("foreign", FOREIGN);
+    assert!(
+        said.contains("`Byte: zugyelmas::sealed::Sealed` is not satisfied"),
+        "{said}"
+    );
+    assert_eq!(said.matches("error[").count(), 1, "{said}");
 }
