@@ -18,7 +18,7 @@ pub const LIBRARY: [&str; 17] = [
 ];
 
 /// The files that the library does not offer: their public calls are made by the proved code beside them alone.
-pub const INSIDE: [&str; 10] = [
+pub const INSIDE: [&str; 9] = [
     "decimal/halves",
     "decimal/numeral",
     "decimal/tens",
@@ -27,7 +27,6 @@ pub const INSIDE: [&str; 10] = [
     "logs/exact",
     "text/numerals",
     "text/pieces",
-    "text/tokens",
     "text/written",
 ];
 
