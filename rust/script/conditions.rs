@@ -148,8 +148,8 @@ fn called(body: &'static str) -> Vec<&'static str> {
     calls.map(|signs| signs[1]).collect()
 }
 
-/// Whether a body is of a form: `(…)` has any arguments from which nothing returns early, and `…` behind a name has the
-/// rest of the name.
+/// Whether a body is of a form: `(…)` has any arguments from which nothing returns early, and `…` behind a name has
+/// the rest of the name.
 fn is_of_form(form: &[&str], body: &[&str]) -> bool {
     match (form, body) {
         ([], []) => true,

@@ -22,7 +22,7 @@ pub const LIBRARY: [&str; 17] = [
 pub const CALCULATOR: [&str; 4] = ["stream", "script", "machine", "calc"];
 
 /// The files that the library does not offer: their public calls are made by the proved code beside them alone.
-pub const INSIDE: [&str; 11] = [
+pub const INSIDE: [&str; 10] = [
     "decimal/halves",
     "decimal/numeral",
     "decimal/tens",
@@ -32,7 +32,6 @@ pub const INSIDE: [&str; 11] = [
     "text/added",
     "text/numerals",
     "text/pieces",
-    "text/tokens",
     "text/written",
 ];
 

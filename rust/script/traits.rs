@@ -8,7 +8,8 @@ use std::ops::Range;
 /// Crates that are not the project's.
 const STD: [&str; 4] = ["std", "core", "alloc", "thiserror"];
 
-/// The traits of all files, and what each file imports or offers under which name. Paths are such as `num::format::Held`.
+/// The traits of all files, and what each file imports or offers under which name. A path is one such as
+/// `num::format::Held`.
 #[derive(Default)]
 pub struct Traits {
     names: BTreeMap<String, BTreeMap<String, String>>,

@@ -1,6 +1,6 @@
-//! The library's code and docs are the proved sources', letter for letter: file by file and in order, each sign of the one
-//! is a sign of the other, but for what speaks to the prover, assertions, what docs say of contracts, and the names of
-//! crates. What goes is said here once more, without the build script's reading of items.
+//! The library's code and docs are the proved sources', letter for letter: file by file and in order, each sign of the
+//! one is a sign of the other, but for what speaks to the prover, assertions, what docs say of contracts, and the names
+//! of crates. What goes is said here once more, without the build script's reading of items.
 
 #[path = "../script/mod.rs"]
 #[allow(dead_code)]
@@ -79,8 +79,8 @@ fn begin(signs: &[Sign], text: &str) -> bool {
     signs.len() >= text.len() && signs.iter().zip(text).all(|(sign, text)| sign.text == text)
 }
 
-/// How many signs there are up to the first of some outside of brackets, that one among them. What has brackets ends with
-/// them where `}` is one of the signs.
+/// How many signs there are up to the first of some outside of brackets, that one among them. What has brackets ends
+/// with them where `}` is one of the signs.
 fn length(signs: &[Sign], ends: &[&str]) -> usize {
     let mut depth = 0;
     let last = signs.iter().position(|sign| {
@@ -144,6 +144,12 @@ fn has_memory(krate: &str) -> bool {
     of_runs || cfg!(feature = "calc") && (krate == "text" || CALCULATOR.contains(&krate))
 }
 
+/// Whether a table of the script has a file of a crate.
+fn is_of(table: &[&str], krate: &str, file: &Sign) -> bool {
+    let path = format!("{krate}/{}", file.text);
+    table.contains(&path.as_str())
+}
+
 /// What the library has to have of a file, with those that it names.
 fn expected(krate: &str, file: &str, out: &mut Vec<Sign>) {
     let path = format!("crates/fixed_{krate}/src/{file}.rt");
@@ -152,56 +158,43 @@ fn expected(krate: &str, file: &str, out: &mut Vec<Sign>) {
     let mut at = 0;
     while at < source.len() {
         let rest = &source[at..];
-        let mut put = |text: &str| {
-            let place = rest[0].place.clone();
-            out.extend(signs("", text).into_iter().map(|sign| Sign {
-                place: place.clone(),
-                ..sign
-            }));
-        };
-        let is_of = |table: &[&str], name: &Sign| {
-            let path = format!("{krate}/{}", name.text);
-            table.contains(&path.as_str())
-        };
-        let is_left_out = |name: &Sign| !has_memory(krate) && is_of(&LEFT_OUT, name);
-        let is_inside = |name: &Sign| is_of(&INSIDE, name);
-        let form = FORMS.iter().find(|(old, _)| begin(rest, old));
-        at += match ghost(rest) {
-            0 if form.is_some() => form.map_or(0, |(old, new)| {
-                put(new);
-                code(old).len()
-            }),
-            0 if begin(rest, "#[derive(") => {
-                let (derives, length) = derives(rest);
-                put(&derives);
-                length
-            }
-            0 if begin(rest, "mod") && rest[2].text == ";" => {
-                if !is_left_out(&rest[1]) {
-                    put(&format!("mod {} {{", rest[1].text));
-                    expected(krate, &rest[1].text, out);
-                    out.extend(signs(&path, "}"));
-                }
-                3
-            }
-            0 if begin(rest, "pub use") && is_left_out(&rest[2]) => length(rest, &[";"]),
-            0 if begin(rest, "pub use") && is_inside(&rest[2]) => {
-                put("pub(crate)");
-                1
-            }
-            0 if begin(&rest[1..], "::") => {
-                put(&crate_name(krate, &rest[0].text));
-                1
-            }
-            0 => {
-                put(&rest[0].text);
-                1
-            }
-            ghost => ghost,
-        };
+        let is_module = begin(rest, "mod") && rest[2].text == ";";
+        let (text, length) = replaced(krate, rest);
+        out.extend(signs("", &text).into_iter().map(|sign| Sign {
+            place: rest[0].place.clone(),
+            ..sign
+        }));
+        if is_module && !text.is_empty() {
+            expected(krate, &rest[1].text, out);
+            out.extend(signs(&path, "}"));
+        }
+        at += length;
     }
     if has_memory(krate) {
         out.extend(signs(&path, MEMORY));
+    }
+}
+
+/// What Rust has in place of the first of some signs, and how many that are.
+fn replaced(krate: &str, rest: &[Sign]) -> (String, usize) {
+    let gone = ghost(rest);
+    if gone > 0 {
+        return (String::new(), gone);
+    }
+    if let Some((old, new)) = FORMS.iter().find(|(old, _)| begin(rest, old)) {
+        return (new.to_string(), code(old).len());
+    }
+    let is_left_out = |file| !has_memory(krate) && is_of(&LEFT_OUT, krate, file);
+    let is_use = begin(rest, "pub use");
+    let is_module = begin(rest, "mod") && rest[2].text == ";";
+    match &rest[0].text {
+        _ if begin(rest, "#[derive(") => derives(rest),
+        _ if is_module && is_left_out(&rest[1]) => (String::new(), 3),
+        _ if is_module => (format!("mod {} {{", rest[1].text), 3),
+        _ if is_use && is_left_out(&rest[2]) => (String::new(), length(rest, &[";"])),
+        _ if is_use && is_of(&INSIDE, krate, &rest[2]) => ("pub(crate)".to_string(), 1),
+        name if begin(&rest[1..], "::") => (crate_name(krate, name), 1),
+        sign => (sign.clone(), 1),
     }
 }
 

@@ -367,6 +367,11 @@ fn slices_of_exports() {
             .count(),
         8
     );
+}
+
+/// Each other slice, and each that is not there, stops the build.
+#[test]
+fn other_slices_of_exports() {
     let refused = [
         (
             "    x: i8,\n",
