@@ -1,12 +1,17 @@
 //! Code for numbers of every word and fraction.
 
-ghost use Rattle.std.specs.Prelude.{◌≡◌, ◌+ℤ◌, IfSome};
+ghost use Rattle.std.specs.Prelude.{◌≡◌, ◌⊎◌, ◌↔◌, ◌+ℤ◌, false, IfSome, IsNone};
+ghost use Rattle.fixed_word.specs.Format.{fits};
 
 use fixed::Checked;
 
-/// The sum of three numbers of one format, whichever it is; None where a sum on the way does not fit.
+/// The sum of three numbers of one format, whichever it is; None exactly where the sum of the first two, or of all
+/// three, does not fit.
 pub fn sum_of_three<N: Checked>(a: N, b: N, c: N) -> Option<N>
-    ensures { IfSome result (λ sum. N.number sum ≡ N.number a +ℤ N.number b +ℤ N.number c) }
+    ensures sum { IfSome result (λ sum. N.number sum ≡ N.number a +ℤ N.number b +ℤ N.number c) }
+    ensures none { IsNone result
+        ↔ ((fits N.SIGNED N.BITS (N.number a +ℤ N.number b) ≡ false)
+        ⊎ (fits N.SIGNED N.BITS (N.number a +ℤ N.number b +ℤ N.number c) ≡ false)) }
 {
     let sum = a.checked_add(b)?;
     sum.checked_add(c)

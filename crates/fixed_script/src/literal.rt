@@ -1,10 +1,9 @@
 //! Whole numbers of a script, held capped.
 
-ghost use Rattle.std.specs.Prelude.{◌≡◌, IfSome, Some};
-ghost use Rattle.fixed_text.specs.Tokens.{next_by, tokens_of, tokens_left};
+ghost use Rattle.std.specs.Prelude.{◌≡◌};
 ghost use Rattle.fixed_script.specs.inside.Parser.{literal_at};
 
-use fixed_text::{front_natural, natural_of, sign_of};
+use fixed_text::{natural_of, sign_of};
 
 /// A whole number of a script: its sign, and its magnitude. A magnitude of `2^64` or more is held as
 /// `2^64`, which is no value of any word.
@@ -31,24 +30,4 @@ pub(crate) fn literal_of(token: &[u8]) -> Option<Literal>
             magnitude,
         })
     }
-}
-
-/// As `front_natural`, of a whole number.
-pub(crate) fn front_literal(bytes: &[u8]) -> Option<(Literal, Option<&[u8]>)>
-    ensures { IfSome result (λ found. next_by literal_at (tokens_of bytes.now)
-        ≡ Some (found.0, tokens_left found.1)) }
-{
-    let (below_zero, number) = sign_of(bytes);
-    let (value, rest) = front_natural(number)?;
-    if below_zero && value == 0 {
-        return None;
-    }
-    let magnitude = u128::from(value);
-    Some((
-        Literal {
-            below_zero,
-            magnitude,
-        },
-        rest,
-    ))
 }

@@ -4,7 +4,7 @@ ghost use Rattle.std.specs.Prelude.{◌≡◌, IfSome, Some};
 ghost use Rattle.fixed_text.specs.Tokens.{next_by, tokens_of, tokens_left};
 ghost use Rattle.fixed_script.specs.inside.Parser.{register_at};
 
-use fixed_text::{front_natural, natural_of};
+use fixed_text::natural_of;
 
 /// The number of a register.
 #[tactic(auto, unfolding(crate::specs::inside::Parser::register_at))]
@@ -17,19 +17,8 @@ pub(crate) fn register_of(token: &[u8]) -> Option<u128>
     }
 }
 
-/// As `front_natural`, of a register.
-pub(crate) fn front_register(bytes: &[u8]) -> Option<(u64, Option<&[u8]>)>
-    ensures { IfSome result (λ found. next_by register_at (tokens_of bytes.now)
-        ≡ Some (found.0, tokens_left found.1)) }
-{
-    if !bytes.is_empty() && bytes[0] == b'r' {
-        front_natural(&bytes[1..])
-    } else {
-        None
-    }
-}
-
-/// The same of a register of one digit.
+/// The register of one digit that is the first token, and what comes after its space. None also where the
+/// token is another.
 #[inline(always)]
 pub(crate) fn front_short_register(bytes: &[u8]) -> Option<(u8, Option<&[u8]>)>
     ensures { IfSome result (λ found. next_by register_at (tokens_of bytes.now)

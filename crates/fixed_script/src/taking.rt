@@ -5,9 +5,9 @@ ghost use Rattle.fixed_text.specs.Tokens.{tokens_of, tokens_left, next_by};
 ghost use Rattle.fixed_script.specs.Names.{op_named, policy_name};
 ghost use Rattle.fixed_script.specs.inside.Parser.{register_at, literal_at};
 
-use crate::literal::{Literal, front_literal, literal_of};
+use crate::literal::{Literal, literal_of};
 use crate::names::{Op, Policy, front_op, front_policy, op_of};
-use crate::registers::{front_register, front_short_register, register_of};
+use crate::registers::{front_short_register, register_of};
 use fixed_text::{Tokens, cut};
 
 /// The register that is the first token, and what comes after its space.
@@ -17,9 +17,6 @@ fn register_in(piece: &[u8]) -> Option<(u128, Option<&[u8]>)>
         (λ found. next_by register_at (tokens_of piece.now) ≡ Some (found.0, tokens_left found.1)) }
     ensures none { IfNone result (next_by register_at (tokens_of piece.now) ≡ None) }
 {
-    if let Some((number, rest)) = front_register(piece) {
-        return Some((u128::from(number), rest));
-    }
     let (token, rest) = cut(piece);
     let number = register_of(token)?;
     Some((number, rest))
@@ -32,9 +29,6 @@ fn literal_in(piece: &[u8]) -> Option<(Literal, Option<&[u8]>)>
         (λ found. next_by literal_at (tokens_of piece.now) ≡ Some (found.0, tokens_left found.1)) }
     ensures none { IfNone result (next_by literal_at (tokens_of piece.now) ≡ None) }
 {
-    if let Some(found) = front_literal(piece) {
-        return Some(found);
-    }
     let (token, rest) = cut(piece);
     let literal = literal_of(token)?;
     Some((literal, rest))

@@ -23,7 +23,7 @@ pub use decimal::{Decimal, read_decimal, value_in};
 pub use fault::{Refusal, RunFault};
 pub use names::{WordName, word_of};
 pub use numbers::{fitting, read_natural, read_numbered, read_only_number, read_word, read_words};
-pub use numerals::{front_natural, is_decimal, natural_of, sign_of, value_of};
+pub use numerals::{is_decimal, natural_of, sign_of, value_of};
 pub use output::Output;
 pub use pieces::{body_of, piece_end};
 pub use running::{Run, open, run_lines};

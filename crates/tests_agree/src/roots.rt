@@ -124,28 +124,48 @@ fn both_64<const F: u32>(rt: &impl Abort)
 
 #[test]
 fn eight_bits(rt: HostRuntime) {
+    both_8::<0>(&rt);
+    both_8::<1>(&rt);
+    both_8::<3>(&rt);
     both_8::<4>(&rt);
+    both_8::<5>(&rt);
+    both_8::<6>(&rt);
     both_8::<7>(&rt);
     both_8::<8>(&rt);
 }
 
 #[test]
 fn sixteen_bits(rt: HostRuntime) {
+    both_16::<0>(&rt);
+    both_16::<1>(&rt);
+    both_16::<7>(&rt);
     both_16::<8>(&rt);
+    both_16::<9>(&rt);
+    both_16::<14>(&rt);
     both_16::<15>(&rt);
     both_16::<16>(&rt);
 }
 
 #[test]
 fn thirty_two_bits(rt: HostRuntime) {
+    both_32::<0>(&rt);
+    both_32::<1>(&rt);
+    both_32::<15>(&rt);
     both_32::<16>(&rt);
+    both_32::<17>(&rt);
+    both_32::<30>(&rt);
     both_32::<31>(&rt);
     both_32::<32>(&rt);
 }
 
 #[test]
 fn sixty_four_bits(rt: HostRuntime) {
+    both_64::<0>(&rt);
+    both_64::<1>(&rt);
+    both_64::<31>(&rt);
     both_64::<32>(&rt);
+    both_64::<33>(&rt);
+    both_64::<62>(&rt);
     both_64::<63>(&rt);
     both_64::<64>(&rt);
 }
