@@ -28,12 +28,15 @@ STATIC ?= $(CARGO_STATIC)
 SHARED := $(BUILT)/release/libfixed_c.so
 SOURCES := $(wildcard crates/*/src/*.rt rust/*.rs rust/script/* rust/c/*.rs) Cargo.toml rust/c/Cargo.toml
 
+# What the static library needs beside what a C compiler links, as `rustc --print native-static-libs` lists it.
+STATIC_NEEDS := -lutil -lrt -lpthread -lm -ldl
+
 CONFIGS := $(LIBDIR)/cmake/fixed_c
 INSTALLED := $(INCLUDEDIR)/fixed.h $(LIBDIR)/libfixed_c.a $(LIBDIR)/libfixed_c.so $(LIBDIR)/$(SONAME) \
 	$(LIBDIR)/libfixed_c.so.$(VERSION) $(LIBDIR)/pkgconfig/fixed_c.pc $(CONFIGS)/fixed_c-config.cmake \
 	$(CONFIGS)/fixed_c-config-version.cmake
 FILLED := sed -e 's|@VERSION@|$(VERSION)|' -e 's|@SONAME@|$(SONAME)|' -e 's|@LIBDIR@|$(LIBDIR)|' \
-	-e 's|@INCLUDEDIR@|$(INCLUDEDIR)|'
+	-e 's|@INCLUDEDIR@|$(INCLUDEDIR)|' -e 's|@STATIC_NEEDS@|$(STATIC_NEEDS)|'
 
 .PHONY: all install uninstall
 
