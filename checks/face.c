@@ -1,6 +1,7 @@
 /* Every pair of operands of 8 bits, for each operation of the face for C at three fractions, against a plain
  * computation in 64 bits; bad fractions, zero divisors and negative roots by their codes. Intervals over samples of
- * ends, and polynomials and filters over arrays that are drawn, against plain loops; each code. From the top:
+ * ends, and polynomials and filters over arrays that are drawn, against plain loops; each code. By every word, null
+ * pointers to arrays whose count is 0. From the top:
  *
  *     cc -O2 -Wall -Wextra -Iinclude -o /tmp/face checks/face.c LIBRARY && /tmp/face
  *
@@ -350,7 +351,45 @@ static int64_t draw(int64_t from, int64_t to) {
 CHECK_MORE(fixed_i8, int8_t, INT8_MIN, INT8_MAX)
 CHECK_MORE(fixed_u8, uint8_t, 0, UINT8_MAX)
 
+/* What the header states of a call to which an array is passed as null with a count of 0. */
+static void compare_code(const char *call, int32_t want, int32_t got) {
+  compared++;
+  if (got != want) {
+    printf("%s with null: code %d, but the header says %d\n", call, (int)got, (int)want);
+    exit(1);
+  }
+}
+
+#define CHECK_NULL(name, word)                                                                                     \
+  static void check_null_##name(void) {                                                                            \
+    const word taps[] = {1};                                                                                       \
+    word past[] = {5}, left = 77;                                                                                  \
+    size_t place = 78;                                                                                             \
+    compare_code(#name "_horner", FIXED_NO_ELEMENT, name##_horner(NULL, 0, 1, 4, &left, &place));                  \
+    compare_code(#name "_horner", FIXED_FRACTION_PAST_WIDTH, name##_horner(NULL, 0, 1, 65, &left, &place));        \
+    compare_code(#name "_filter", FIXED_NO_ELEMENT, name##_filter(NULL, 0, NULL, 0, 1, 4, 4, 4, &left, &place));   \
+    compare_code(#name "_filter", FIXED_NO_ELEMENT, name##_filter(NULL, 0, past, 1, 1, 4, 4, 4, &left, &place));   \
+    compare_code(#name "_filter", FIXED_COUNTS_DIFFER, name##_filter(taps, 1, NULL, 0, 1, 4, 4, 4, &left, &place)); \
+    compare_code(#name "_filter", FIXED_FRACTION_PAST_WIDTH,                                                       \
+                 name##_filter(NULL, 0, NULL, 0, 1, 4, 4, 65, &left, &place));                                     \
+    if (past[0] != 5 || left != 77 || place != 78) {                                                               \
+      printf(#name ": a call that returned a code has written\n");                                                 \
+      exit(1);                                                                                                     \
+    }                                                                                                              \
+  }
+
+CHECK_NULL(fixed_i8, int8_t)
+CHECK_NULL(fixed_i16, int16_t)
+CHECK_NULL(fixed_i32, int32_t)
+CHECK_NULL(fixed_i64, int64_t)
+CHECK_NULL(fixed_u8, uint8_t)
+CHECK_NULL(fixed_u16, uint16_t)
+CHECK_NULL(fixed_u32, uint32_t)
+CHECK_NULL(fixed_u64, uint64_t)
+
 int main(void) {
+  check_null_fixed_i8(), check_null_fixed_i16(), check_null_fixed_i32(), check_null_fixed_i64();
+  check_null_fixed_u8(), check_null_fixed_u16(), check_null_fixed_u32(), check_null_fixed_u64();
   check_fixed_i8();
   check_fixed_u8();
   check_ends_fixed_i8(), check_ends_fixed_u8();

@@ -18,13 +18,19 @@
  * What C has to guarantee, since nothing checks it: a pointer to what a call leaves points to a whole, aligned one, and
  * nothing else reads or writes that during the call. It may hold anything before, as what an earlier call left. An
  * array is aligned and has as many elements as its count says; none overlaps another that is written, nor what the call
- * leaves; and its pointer is not null, also where the count is 0. No call takes memory, locks or keeps a pointer. */
+ * leaves. The pointer to an array may be null if its count is 0. No call takes memory, locks or keeps a pointer. */
 #ifndef FIXED_H
 #define FIXED_H
 
 #include <stddef.h>
 #include <stdint.h>
 #include <stdlib.h>
+
+/* The version of this header, as three numbers and as text. */
+#define FIXED_VERSION_MAJOR 0
+#define FIXED_VERSION_MINOR 2
+#define FIXED_VERSION_PATCH 0
+#define FIXED_VERSION "0.2.0"
 
 #ifdef __cplusplus
 extern "C" {

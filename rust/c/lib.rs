@@ -11,22 +11,36 @@ extern crate std;
 
 use zugyelmas::*;
 
+// The unsafe blocks of these calls pass on to `slice` and `slice_mut` what C has passed, as the header requires it.
 include!(concat!(env!("OUT_DIR"), "/face.rs"));
 
-/// The array of C that begins at a pointer; where it has no element the pointer may be null. As the header says, it is
-/// whole, aligned, and no other is written meanwhile.
+/// The array of C that begins at `first`. If `count` is 0, the pointer is not used, and may be null.
+///
+/// # Safety
+///
+/// If `count` is not 0, `first` is aligned and points to `count` elements of one array. Nothing writes them during
+/// `'a`. `include/fixed.h` says so to the caller in C.
 unsafe fn slice<'a, T>(first: *const T, count: usize) -> &'a [T] {
     if count == 0 {
         return &[];
     }
+    // SAFETY: `count` is not 0, so the caller has guaranteed all that a shared slice requires. An array of C is never
+    // larger than `isize::MAX` bytes.
     unsafe { core::slice::from_raw_parts(first, count) }
 }
 
-/// The same for an array that is written.
+/// The array of C that begins at `first` and is written. If `count` is 0, the pointer is not used, and may be null.
+///
+/// # Safety
+///
+/// If `count` is not 0, `first` is aligned and points to `count` elements of one array. Nothing else reads or writes
+/// them during `'a`. `include/fixed.h` says so to the caller in C.
 unsafe fn slice_mut<'a, T>(first: *mut T, count: usize) -> &'a mut [T] {
     if count == 0 {
         return &mut [];
     }
+    // SAFETY: `count` is not 0, so the caller has guaranteed all that a mutable slice requires. An array of C is never
+    // larger than `isize::MAX` bytes.
     unsafe { core::slice::from_raw_parts_mut(first, count) }
 }
 

@@ -1,0 +1,68 @@
+#!/usr/bin/env python3
+"""Checks that the exports of fixed_c are one text for all eight words.
+
+    python3 checks/words_alike.py
+
+The files of signed words have to be signed_8.rt with the width exchanged, and those of unsigned words likewise
+unsigned_8.rt, letter by letter. unsigned_8.rt has to be signed_8.rt with the word exchanged, item by item and in order,
+but for the imports of contracts, the conversion of a word to its value, and the calls that one sign alone has.
+Silent with status 0 if so; otherwise it names each place that differs and ends with 1.
+"""
+import re
+import sys
+from itertools import zip_longest
+from pathlib import Path
+
+TOP = Path(__file__).resolve().parent.parent
+FOLDER = TOP / "crates/fixed_c/src"
+SIGNED_ALONE = ["fixed_u8_abs", "fixed_u8_signum"]
+UNSIGNED_ALONE = ["fixed_u8_next_power_of_two"]
+
+
+def source(name):
+    return (FOLDER / f"{name}.rt").read_text()
+
+
+def differing_widths(sign):
+    """The first line of each wider word's file that is not that of 8 bits."""
+    for width in ["16", "32", "64"]:
+        expected = source(f"{sign}_8").replace("8", width).splitlines()
+        lines = zip_longest(expected, source(f"{sign}_{width}").splitlines())
+        for number, (want, got) in enumerate(lines, 1):
+            if want != got:
+                yield f"{sign}_{width}.rt:{number}: other than {sign}_8.rt: {got}"
+                break
+
+
+def as_unsigned(text):
+    """The text of a signed word with the names of the unsigned one."""
+    return re.sub(r"\btrue\b", "false", re.sub(r"i8\b|i8(?=_)", "u8", text).replace("I8", "U8"))
+
+
+def items(text, alone):
+    """The items without those of one sign alone, each without imports, conversions to values, and layout."""
+    text = re.sub(r"^ghost use .*\n", "", text, flags=re.M)
+    text = re.sub(r"\(λ x\. x\)\s+|\bpos\s+", "", text)
+    text = re.sub(r"\((\w+)\)", r"\1", text)
+    joined = [" ".join(item.split()) for item in text.split("\n\n")]
+    return [item for item in joined if not any(f"fn {name}(" in item for name in alone)]
+
+
+def differing_signs():
+    """The first item of the unsigned word that is not that of the signed one."""
+    signed = items(as_unsigned(source("signed_8")), SIGNED_ALONE)
+    unsigned = items(source("unsigned_8"), UNSIGNED_ALONE)
+    for want, got in zip_longest(signed, unsigned):
+        if want != got:
+            return [f"unsigned_8.rt: other than signed_8.rt: {got}"]
+    return []
+
+
+def main():
+    wrong = [*differing_widths("signed"), *differing_widths("unsigned"), *differing_signs()]
+    print("\n".join(wrong), end="\n" if wrong else "")
+    return 1 if wrong else 0
+
+
+if __name__ == "__main__":
+    sys.exit(main())
