@@ -98,9 +98,9 @@ class Browser:
                    f" field.dispatchEvent(new Event('input', {{ bubbles: true }})); }})"
                    f"(document.getElementById({json.dumps(name)}))")
 
-    def press(self, key, code, modifiers=0):
+    def press(self, key, code):
         for kind in ["keyDown", "keyUp"]:
-            self.call("Input.dispatchKeyEvent", type=kind, key=key, code=key, windowsVirtualKeyCode=code, modifiers=modifiers)
+            self.call("Input.dispatchKeyEvent", type=kind, key=key, code=key, windowsVirtualKeyCode=code)
 
     def text(self, name):
         return self.value(f"document.getElementById({json.dumps(name)}).textContent")
@@ -228,7 +228,8 @@ def test_operation(browser, word, fraction, op, a, b):
     units = exact_units(op, to_even(Fraction(a) * one), to_even(Fraction(b) * one), one)
     where = f"{word} {fraction}: {op} {a} {b}"
     roundings = ["down", "zero", "even"] if op in DEFAULT else ["down"]
-    expected = [[[policy]] + [cell_of(policy, op, units, rounding, word, one) for rounding in roundings] for policy in POLICIES]
+    expected = [[[policy]] + [cell_of(policy, op, units, rounding, word, one) for rounding in roundings]
+                for policy in POLICIES]
     expect(where, browser.rows("policies"), expected)
     test_exact(browser.text("exact"), where, op, units, one)
     return len(POLICIES) * len(roundings)
@@ -446,7 +447,8 @@ def test_looks(browser):
     """A wide screen and a phone, light and dark: contrast of at least 4.5, and nothing wider than the screen."""
     least = 99
     for width, height, phone in [(1100, 900, False), (360, 740, True)]:
-        browser.call("Emulation.setDeviceMetricsOverride", width=width, height=height, deviceScaleFactor=2 if phone else 1, mobile=phone)
+        browser.call("Emulation.setDeviceMetricsOverride", width=width, height=height, deviceScaleFactor=1 + phone,
+                     mobile=phone)
         for scheme in ["light", "dark"]:
             browser.call("Emulation.setEmulatedMedia", features=[{"name": "prefers-color-scheme", "value": scheme}])
             browser.open(PAGE + "#script=i8+4%0Ar0+set+100%0Ar0+strict+add+r0+r0")

@@ -114,7 +114,8 @@ const OPERATIONS = {
   mul: { sign: "a × b", rounding: "down", exact: (a, b, one) => whole(a * b, one) },
   div: { sign: "a ÷ b", rounding: "zero", exact: (a, b, one) => b ? whole(a * one, b) : null },
   rem: { sign: "remainder of a ÷ b, with the sign of a", exact: (a, b) => b ? whole(a % b, 1n) : null },
-  div_euclid: { sign: "Euclid's quotient of a ÷ b", exact: (a, b, one) => b ? whole(quotientEuclid(a, b) * one, 1n) : null },
+  div_euclid: { sign: "Euclid's quotient of a ÷ b",
+    exact: (a, b, one) => b ? whole(quotientEuclid(a, b) * one, 1n) : null },
   rem_euclid: { sign: "Euclid's remainder of a ÷ b", exact: (a, b) => b ? whole(a - b * quotientEuclid(a, b), 1n) : null },
   next_multiple_of: { sign: "next multiple of b from a", exact: (a, b) => b ? whole(b * quotientUp(a, b), 1n) : null },
   dist: { sign: "distance of a and b", exact: (a, b) => whole(magnitude(a - b), 1n) },
@@ -172,7 +173,8 @@ function typedFraction(word) {
   const text = byId("fraction").value.trim();
   const fraction = Number(text);
   const fits = /^[0-9]{1,3}$/.test(text) && fraction <= widthOf(word);
-  byId("fraction-error").textContent = fits ? "" : `Fraction bits are a whole number from 0 to ${widthOf(word)} for ${word}.`;
+  const message = `Fraction bits are a whole number from 0 to ${widthOf(word)} for ${word}.`;
+  byId("fraction-error").textContent = fits ? "" : message;
   markField("fraction", fits);
   return fits ? fraction : null;
 }
@@ -198,7 +200,8 @@ function typedOperand(name, word, fraction) {
     tell(name, note, `${name} does not fit this format: it is ${end}.`, true);
   } else {
     const isKept = isSameNumber(byId(name).value, read.value);
-    const how = isKept ? `${name} is exact in this format` : `${name} becomes ${read.value}, the nearest number of this format`;
+    const inexact = `${name} becomes ${read.value}, the nearest number of this format`;
+    const how = isKept ? `${name} is exact in this format` : inexact;
     tell(name, note, `${how}: ${read.bits} units.`, false);
     return read;
   }
@@ -451,12 +454,15 @@ function showScript() {
   const { cause, line, answers } = ran.result;
   const state = byId("script-state");
   if (cause === "memory") state.textContent = "The browser has not enough memory for this script.";
-  else if (cause) state.textContent = `Line ${line} stops the script: ${causeText(cause, line)}. The program then writes no answers.`;
+  else if (cause) state.textContent = stopText(cause, line);
   else state.textContent = answers.length === 1 ? "1 answer." : `${answers.length.toLocaleString("en")} answers.`;
   state.className = cause ? "error" : "good";
   if (cause && line > LINES_SHOWN) firstShown = Math.floor((line - 1) / LINES_SHOWN) * LINES_SHOWN;
   showLines();
 }
+
+const stopText = (cause, line) =>
+  `Line ${line} stops the script: ${causeText(cause, line)}. The program then writes no answers.`;
 
 const causeText = (cause, line) => line === 1 && cause === "syntax"
   ? "the first line is a word (i8 to u64), and the fraction bits of each register, such as i32 16 16" : CAUSES[cause];
@@ -478,11 +484,14 @@ function addLine(at) {
   const answer = at > 0 ? result.answers[at - 1] : null;
   const text = element("td", lines[at], "mono value");
   const bits = element("td", answer ? answer.bits : "", "mono value");
-  const row = isCause ? element("td", `${result.cause.replaceAll("-", " ")}: ${causeText(result.cause, at + 1)}`, "error value")
+  const value = isCause ? causeCell(result.cause, at + 1)
     : valueCell(answer ? answerText(answer) : "", answer && answer.didNotFit ? "it did not fit, and wrapped" : "");
   if (isCause) text.className += " error";
-  addRow(byId("answers"), rowHead(at + 1), text, bits, row);
+  addRow(byId("answers"), rowHead(at + 1), text, bits, value);
 }
+
+const causeCell = (cause, line) =>
+  element("td", `${cause.replaceAll("-", " ")}: ${causeText(cause, line)}`, "error value");
 
 const answerText = answer => answer.value === null ? "None" : answer.value;
 
@@ -494,7 +503,10 @@ function turn(by) {
 /* A link that keeps what was typed */
 
 const KEPT = ["word", "fraction", "a", "op", "b", "least", "greatest", "step", "script"];
-const FIRST = { word: "i8", fraction: "4", a: "3.5", op: "mul", b: "2.8", least: "-3.3", greatest: "3.3", step: "0.001", script: EXAMPLES.first };
+const FIRST = {
+  word: "i8", fraction: "4", a: "3.5", op: "mul", b: "2.8",
+  least: "-3.3", greatest: "3.3", step: "0.001", script: EXAMPLES.first,
+};
 
 /** Writes what is typed into the address. Returns whether all of it has room there. */
 function keep() {
