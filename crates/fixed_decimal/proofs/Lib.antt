@@ -14,3 +14,5 @@ pub mod Exact
 pub mod Texts
 pub mod Readings
 pub mod Shorts
+pub mod Firsts
+pub mod Exactness

@@ -17,5 +17,5 @@ mod writing;
 
 pub use error::DecimalError;
 pub use places::{exact_places, shortest_places};
-pub use reading::decimal_of;
+pub use reading::{decimal_of, exact_decimal_of};
 pub use writing::write_decimal;

@@ -11,8 +11,8 @@ use Rattle.std.proofs.lemmas.Bool.Decides.{nat_tests}
 use Rattle.std.proofs.lemmas.List.{take_all}
 use Rattle.fixed_word.specs.declared.rounding.Rounding.TheVariants.{Even}
 use Rattle.fixed_kernel.specs.Rounded.{rounded}
-use Rattle.fixed_decimal.specs.Text.{IsLeast, ReadsBack, after_sign, magnitude_text, text_of, to_places}
-use Rattle.fixed_num.specs.Shown.{first_of, places_of, plain_text, reads_back, shortest, styled_text}
+use Rattle.fixed_decimal.specs.Text.{IsLeast, ReadsBack, after_sign, first_of, magnitude_text, reads_back, shortest, text_of, to_places}
+use Rattle.fixed_num.specs.Shown.{places_of, plain_text, styled_text}
 
 first_is : (test : ℕ → Bool) (n m : ℕ) → m ≤ n → test m ≡ true → ((k : ℕ) → k < m → test k ≡ false) → first_of test n ≡ m
 first_is test zero m le hit miss = omega arith
