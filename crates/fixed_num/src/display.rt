@@ -33,6 +33,15 @@ impl<T: Word, const F: u32> fmt::Display for Fixed<T, F> {
     }
 }
 
+/// The value, as `{}` prints it.
+impl<T: Word, const F: u32> fmt::Debug for Fixed<T, F> {
+    ghost debug_output = { λ x. plain_text (T.value x.bits) F T.BITS };
+
+    fn fmt<W: fmt::Write>(&self, f: &mut fmt::Formatter<W>) -> fmt::Result {
+        fmt::Display::fmt(self, f)
+    }
+}
+
 /// How many digits behind the point a number shows with that precision.
 fn places_for<T: Word>(bits: T, frac: u32, precision: Option<usize>) -> usize
     requires { frac ≤ T.BITS }
