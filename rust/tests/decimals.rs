@@ -241,6 +241,38 @@ fn numbers_print_as_short_as_they_are_read_back() {
     assert_eq!(format!("{half:?} {:?}", Some(third)), "-0.5 Some(6.3333)");
 }
 
+#[test]
+fn a_precision_past_64_pads_zeros() {
+    let digits = format!("5.25{}", "0".repeat(68));
+    let number = FixedI32::<16>::from_bits(344_064);
+    let less = FixedI32::<16>::from_bits(-344_064);
+    assert_eq!(format!("{number:.70}"), digits);
+    assert_eq!(
+        format!("{number:+.70}|{less:.70}"),
+        format!("+{digits}|-{digits}")
+    );
+    assert_eq!(format!("{number:75.70}"), format!("   {digits}"));
+    assert_eq!(format!("{number:<75.70}|"), format!("{digits}   |"));
+    assert_eq!(format!("{number:*^75.70}"), format!("*{digits}**"));
+    assert_eq!(format!("{less:075.70}"), format!("-00{digits}"));
+    let least = Fixed::<u64, 64>::from_bits(1);
+    let exact = least.to_string();
+    assert_eq!(exact.parse(), Ok(least));
+    assert_eq!(format!("{least:.66}"), format!("{least:.64}00"));
+}
+
+#[test]
+fn text_is_written_without_a_formatter() {
+    let mut buffer = [b'?'; 86];
+    let number = Fixed::<i8, 4>::from_bits(-23);
+    let start = number.write_decimal(&mut buffer);
+    assert_eq!(&buffer[start..], b"-1.44");
+    let start = number.write_decimal_places(1, Rounding::Down, &mut buffer);
+    assert_eq!(&buffer[start..], b"-1.5");
+    let start = number.write_decimal_places(64, Rounding::Even, &mut buffer);
+    assert_eq!(buffer[start..], *format!("{number:.64}").as_bytes());
+}
+
 /// Each number of a format is read from its text in each form.
 fn each_form_is_read_back<const F: u32>() {
     for bits in i8::MIN..=i8::MAX {

@@ -62,7 +62,7 @@ fn lines(text: &str, named: fn(&str) -> String, counted: &mut Lines) {
         let code = named(head_of(line.split("//").next().unwrap_or_default()));
         let code = code.replace("derive(Clone, Copy", "derive(Copy");
         let code = code.replace(", Error)]", ")]");
-        let code = code.replace("fmt<W: fmt::Write>(", "fmt(").replace("Formatter<W>", "Formatter<'_>");
+        let code = code.replace("<W: fmt::Write>(", "(").replace("Formatter<W>", "Formatter<'_>");
         if code.chars().any(char::is_alphanumeric) {
             *counted.entry(code).or_default() += 1;
         }

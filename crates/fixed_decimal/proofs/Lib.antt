@@ -16,3 +16,5 @@ pub mod Readings
 pub mod Shorts
 pub mod Firsts
 pub mod Exactness
+pub mod Laid
+pub mod Padded

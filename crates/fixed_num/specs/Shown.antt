@@ -1,5 +1,5 @@
 -- What a number prints.
-use Rattle.std.specs.Prelude.{ℕ, ℤ, pos, nat_abs, int_lt, nat_le, min, Bool, List, [], Option, Some, None, if◌then◌else◌}
+use Rattle.std.specs.Prelude.{ℕ, ℤ, pos, nat_abs, int_lt, nat_le, Bool, List, [], Option, Some, None, if◌then◌else◌}
 use Rattle.fixed_word.specs.declared.rounding.Rounding.TheVariants.{Even}
 use Rattle.fixed_decimal.specs.Text.{magnitude_text, shortest, text_of, to_places}
 
@@ -10,7 +10,7 @@ plain_text a f n = if nat_le f n then Some (text_of a f (shortest a f) Even) els
 -- how many digits stand behind the point, with that precision
 abbrev pub places_of : Option ℕ → ℤ → ℕ → ℕ
 places_of None a f = shortest a f
-places_of (Some p) a f = min p 64
+places_of (Some p) a f = p
 
 -- `{:8.3}` and its kin: laid out as an integer is, with its sign, its prefix and its digits
 abbrev pub styled_text : (Bool → List ℕ → List ℕ → List ℕ) → Option ℕ → ℤ → ℕ → ℕ → Option (List ℕ)
