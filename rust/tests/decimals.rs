@@ -289,7 +289,7 @@ fn each_form_is_read_back<const F: u32>() {
             exact,
             text_of(
                 bits < 0,
-                i128::from(bits) * ten_to(F as usize) >> F,
+                (i128::from(bits) * ten_to(F as usize)) >> F,
                 F as usize
             )
         );
