@@ -26,7 +26,7 @@ const FORMS: [(&str, &str); 11] = [
     ),
     ("use std::marker::Model;", ""),
     ("use thiserror::Error;", ""),
-    ("fmt<W: fmt::Write>(", "fmt("),
+    ("<W: fmt::Write>(", "("),
     ("fmt::Formatter<W>", "fmt::Formatter<'_>"),
 ];
 

@@ -14,3 +14,7 @@ pub mod Exact
 pub mod Texts
 pub mod Readings
 pub mod Shorts
+pub mod Firsts
+pub mod Exactness
+pub mod Laid
+pub mod Padded

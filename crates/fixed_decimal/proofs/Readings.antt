@@ -37,7 +37,7 @@ no_step Down false q r d h e = refl
 no_step Zero b q r d h e = refl
 no_step Even b q r d h e = grind (arith, nat_tests)
 
-stepped_exact : (k : Rounding) (b : Bool) (n d : ℕ) → 0 < d → n % d ≡ 0 → stepped k b n d ≡ n / d
+pub stepped_exact : (k : Rounding) (b : Bool) (n d : ℕ) → 0 < d → n % d ≡ 0 → stepped k b n d ≡ n / d
 stepped_exact k b n d h e = omega (arith, no_step k b (n / d) (n % d) d h e)
 
 stepped_multiple : (k : Rounding) (b : Bool) (m d : ℕ) → 0 < d → stepped k b (m * d) d ≡ m
@@ -111,7 +111,7 @@ close_to_read n m t d ht hd e =
           close_cases (off m t d) t m (omega arith) (λ h. near.tie_below (omega arith))
     ]
 
-unless_ok : (o : Option DecimalError) (x a : ℤ) → unless o x ≡ ok a → x ≡ a
+pub unless_ok : (o : Option DecimalError) (x a : ℤ) → unless o x ≡ ok a → x ≡ a
 unless_ok None x a e = ap (λ (r : Result ℤ DecimalError). result_unwrap_or r x) e
 unless_ok (Some f) x a e = cc
 

@@ -1,14 +1,15 @@
 -- The texts that are decimals, and the number of units that each stands for.
-use Rattle.std.specs.Prelude.{ℕ, ℤ, pos, ◌==◌, ◌^◌, ◌*ℤ◌, ◌++◌, Bool, not, List, [], ◌∷◌, length, Option, Some, None, Result, Ok, Err, if◌then◌else◌, find}
+use Rattle.std.specs.Prelude.{ℕ, ℤ, pos, ◌==◌, ◌*◌, ◌%◌, ◌^◌, ◌*ℤ◌, ◌++◌, Bool, not, List, [], ◌∷◌, length, Option, Some, None, Result, Ok, Err, if◌then◌else◌, find}
 use Rattle.std.specs.Option.{option_map}
 use Rattle.std.specs.Char.{is_ascii_digit}
 use Rattle.std.specs.List.{after_first, before_first}
 use Rattle.std.specs.Str.Parse.{digits_value, starts_with_minus, without_leading_sign}
 use Rattle.fixed_word.specs.Format.{with_sign}
 use Rattle.fixed_word.specs.declared.rounding.Rounding.{Rounding}
+use Rattle.fixed_word.specs.declared.rounding.Rounding.TheVariants.{Zero}
 use Rattle.fixed_kernel.specs.Rounded.{rounded}
 use Rattle.fixed_decimal.specs.declared.error.DecimalError.{DecimalError}
-use Rattle.fixed_decimal.specs.declared.error.DecimalError.TheVariants.{NoDigits, InvalidDigit, TooManyPoints}
+use Rattle.fixed_decimal.specs.declared.error.DecimalError.TheVariants.{NoDigits, InvalidDigit, TooManyPoints, Inexact}
 
 abbrev pub is_point : ℕ → Bool
 is_point b = b == 46
@@ -32,9 +33,24 @@ abbrev pub unless : {A E : Type 0} → Option E → A → Result A E
 unless None x = Ok x
 unless (Some e) x = Err e
 
+abbrev pub unless_inexact : Bool → Result ℤ DecimalError → Result ℤ DecimalError
+unless_inexact is_exact (Ok x) = if is_exact then Ok x else Err Inexact
+unless_inexact is_exact (Err e) = Err e
+
+-- the number of a text's digits, with its sign
+abbrev pub number_in : List ℕ → ℤ
+number_in text = with_sign (starts_with_minus text) (digits_value 10 (digits_in (without_leading_sign text)))
+
 -- a text's number in units of 2 ^ -f, rounded: its digits over a power of ten, times 2 ^ f
 abbrev pub decimal_row : List ℕ → ℕ → Rounding → Result ℤ DecimalError
 decimal_row text f r =
     let bytes = without_leading_sign text in
-    let number = with_sign (starts_with_minus text) (digits_value 10 (digits_in bytes)) in
-    unless (fault_of (digits_in bytes)) (rounded (number *ℤ pos (2 ^ f)) (pos (10 ^ places_in bytes)) r)
+    unless (fault_of (digits_in bytes)) (rounded (number_in text *ℤ pos (2 ^ f)) (pos (10 ^ places_in bytes)) r)
+
+-- the number of bytes behind a sign is a whole number of units of 2 ^ -f
+abbrev pub is_exact_in : List ℕ → ℕ → Bool
+is_exact_in bytes f = digits_value 10 (digits_in bytes) * 2 ^ f % 10 ^ places_in bytes == 0
+
+-- the row of a text, where its number is a whole number of units
+abbrev pub exact_row : List ℕ → ℕ → Result ℤ DecimalError
+exact_row text f = unless_inexact (is_exact_in (without_leading_sign text) f) (decimal_row text f Zero)

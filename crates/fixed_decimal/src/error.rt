@@ -17,4 +17,7 @@ pub enum DecimalError {
     /// Its number does not fit.
     #[error("overflow")]
     Overflow,
+    /// Its number lies between two numbers of the format.
+    #[error("not exactly a number of the format")]
+    Inexact,
 }

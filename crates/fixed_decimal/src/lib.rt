@@ -9,6 +9,7 @@
 mod error;
 mod halves;
 pub mod laws;
+mod layout;
 mod numeral;
 mod places;
 mod reading;
@@ -16,6 +17,7 @@ mod tens;
 mod writing;
 
 pub use error::DecimalError;
+pub use layout::pad_number;
 pub use places::{exact_places, shortest_places};
-pub use reading::decimal_of;
+pub use reading::{decimal_of, exact_decimal_of};
 pub use writing::write_decimal;

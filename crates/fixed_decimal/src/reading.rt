@@ -1,10 +1,10 @@
 //! The number of a decimal, in units of a format.
 
-ghost use Rattle.std.specs.Prelude.{◌≡◌, ◌==◌, ◌*◌, ◌/◌, ◌%◌, ◌^◌, ◌<◌, ◌≤◌, length, not, true};
+ghost use Rattle.std.specs.Prelude.{◌≡◌, ◌==◌, ◌*◌, ◌/◌, ◌%◌, ◌^◌, ◌<◌, ◌≤◌, length, not, true, None};
 ghost use Rattle.std.specs.Char.{is_ascii_digit};
 ghost use Rattle.std.specs.List.{list_all};
 ghost use Rattle.std.specs.Str.Parse.{digits_value};
-ghost use Rattle.fixed_decimal.specs.Decimal.{decimal_row};
+ghost use Rattle.fixed_decimal.specs.Decimal.{decimal_row, digits_in, exact_row, fault_of, is_exact_in};
 ghost use Rattle.fixed_decimal.specs.Rows.{IsOutcomeOf};
 ghost use Rattle.fixed_decimal.specs.inside.Reading.{held};
 
@@ -39,6 +39,40 @@ pub fn decimal_of<T: Word>(
             Ok(outcome_of(below_zero, magnitude))
         }
         Err(error) => Err(error),
+    }
+}
+
+/// The outcome that stands for the number of a text in units of `2^-frac`. An error where that is no whole number of
+/// units. Condition: `frac` is at most the width.
+pub fn exact_decimal_of<T: Word>(text: &[u8], frac: u32) -> Result<Outcome<T>, DecimalError>
+    requires { frac ≤ T.BITS }
+    ensures { IsOutcomeOf T.value T.SIGNED T.BITS (exact_row text.now frac) result }
+{
+    match decimal_of(text, frac, Rounding::Zero) {
+        Ok(outcome) => {
+            if is_exact(sign_of(text).1, frac) {
+                Ok(outcome)
+            } else {
+                Err(DecimalError::Inexact)
+            }
+        }
+        Err(error) => Err(error),
+    }
+}
+
+/// Whether the number of a decimal without its sign is a whole number of units of `2^-frac`.
+#[inline]
+fn is_exact(bytes: &[u8], frac: u32) -> bool
+    requires { frac ≤ 64 }
+    ensures { fault_of (digits_in bytes.now) ≡ None → result ≡ is_exact_in bytes.now frac }
+{
+    match point_of(bytes) {
+        Ok(point) => {
+            let part = &bytes[(point + 1).min(bytes.len())..];
+            let (halves, rest) = halves_of(part, frac);
+            halves % 2 == 0 && !rest
+        }
+        Err(_) => false,
     }
 }
 

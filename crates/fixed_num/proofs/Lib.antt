@@ -5,3 +5,4 @@ pub mod Roots
 pub mod Sized
 pub mod Wides
 pub mod Prints
+pub mod StrictRows

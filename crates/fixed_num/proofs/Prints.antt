@@ -1,5 +1,5 @@
 -- What a number prints.
-use Rattle.std.proofs.Common.{◌≡◌, ◌+◌, ◌-◌, ◌<◌, ◌≤◌, ◌<ℤ◌, ◌^◌, ◌*ℤ◌, ℕ, ℤ, zero, suc, pos, negsuc, nat_abs, Bool, true, false, not, nat_le, if◌then◌else◌, Option, Some, None, List, [], length, take, drop, length-drop, refl, sym, ap, ◌∙◌, drop-drop, append-nil, subst, cond, Result, ◌++◌, ◌/◌, arith}
+use Rattle.std.proofs.Common.{◌≡◌, ◌+◌, ◌-◌, ◌<◌, ◌≤◌, ◌<ℤ◌, ◌^◌, ◌*ℤ◌, ℕ, ℤ, zero, suc, pos, negsuc, nat_abs, Bool, true, false, nat_le, if◌then◌else◌, Option, Some, None, List, [], min, replicate, length, take, drop, length-drop, refl, sym, ap, ◌∙◌, drop-drop, append-nil, subst, cond, Result, ◌++◌, ◌/◌, arith}
 use Rattle.std.specs.Prelude.{int_lt, IsNone, IsTrue}
 use Rattle.std.specs.Fmt.{IsDefaultSpec, IsPlainFormatter, WritesInCalls, WritesOnOk, WritesStyledOnOk, char_count, formatter_spec, formatter_writer, padded_integral, padding_before, sign_text}
 use Rattle.std.specs.declared.fmt.Error.{Error}
@@ -11,8 +11,9 @@ use Rattle.std.proofs.lemmas.Bool.Decides.{nat_tests}
 use Rattle.std.proofs.lemmas.List.{take_all}
 use Rattle.fixed_word.specs.declared.rounding.Rounding.TheVariants.{Even}
 use Rattle.fixed_kernel.specs.Rounded.{rounded}
-use Rattle.fixed_decimal.specs.Text.{IsLeast, ReadsBack, after_sign, magnitude_text, text_of, to_places}
-use Rattle.fixed_num.specs.Shown.{first_of, places_of, plain_text, reads_back, shortest, styled_text}
+use Rattle.fixed_decimal.proofs.Padded.{padded_text}
+use Rattle.fixed_decimal.specs.Text.{IsLeast, ReadsBack, after_sign, first_of, magnitude_text, reads_back, shortest, text_of, to_places}
+use Rattle.fixed_num.specs.Shown.{places_of, plain_text, styled_text}
 
 first_is : (test : ℕ → Bool) (n m : ℕ) → m ≤ n → test m ≡ true → ((k : ℕ) → k < m → test k ≡ false) → first_of test n ≡ m
 first_is test zero m le hit miss = omega arith
@@ -50,18 +51,20 @@ digits_shown a f p start from b buffer long below e text =
     ∙ ap (λ k. drop k buffer) e ∙ sym (drop-drop (bool_byte b) start buffer) ∙ ap (drop (bool_byte b)) text
     ∙ behind_sign a b (magnitude_text (nat_abs (to_places a f p Even)) p) below
 
-pub twice : (b : Bool) → not (not b) ≡ b
-twice true = refl
-twice false = refl
+-- the digits with the zeros behind them
+pub all_shown : (a : ℤ) (f p q start from : ℕ) (b : Bool) (buffer digits : List ℕ) → f ≤ 64 → p ≡ min q 64 → length buffer ≡ 86 → b ≡ int_lt a (pos 0) → from ≡ start + bool_byte b → drop start buffer ≡ text_of a f p Even → digits ≡ take (86 - from) (drop from buffer)
+    → digits ++ replicate (q - p) 48 ≡ magnitude_text (nat_abs (to_places a f q Even)) q
+all_shown a f p q start from b buffer digits le least long below e text is =
+    ap (λ (ds : List ℕ). ds ++ replicate (q - p) 48) (is ∙ digits_shown a f p start from b buffer long below e text)
+    ∙ ap (λ k. magnitude_text (nat_abs (to_places a f k Even)) k ++ replicate (q - k) 48) least
+    ∙ padded_text a f q le
 
-pub styled_is : (layout : Bool → List ℕ → List ℕ → List ℕ) (precision : Option ℕ) (a : ℤ) (f n p : ℕ) (b : Bool) (prefix digits : List ℕ) → f ≤ n → b ≡ int_lt a (pos 0) → prefix ≡ [] → p ≡ places_of precision a f → digits ≡ magnitude_text (nat_abs (to_places a f p Even)) p
-    → Some (layout (not (not b)) prefix digits) ≡ styled_text layout precision a f n
-styled_is layout precision a f n p b prefix digits le below none places shown =
+pub styled_is : (layout : Bool → List ℕ → List ℕ → List ℕ) (precision : Option ℕ) (a : ℤ) (f n p : ℕ) (b : Bool) (digits : List ℕ) → f ≤ n → b ≡ int_lt a (pos 0) → p ≡ places_of precision a f → digits ≡ magnitude_text (nat_abs (to_places a f p Even)) p
+    → Some (layout b [] digits) ≡ styled_text layout precision a f n
+styled_is layout precision a f n p b digits le below places shown =
     let fits : nat_le f n ≡ true = grind (arith, nat_tests) in
     let q = places_of precision a f in
-    let turned : not (not b) ≡ int_lt a (pos 0) = twice b ∙ below in
-    ap (λ c. Some (layout c prefix digits)) turned
-    ∙ ap (λ ds. Some (layout (int_lt a (pos 0)) ds digits)) none
+    ap (λ c. Some (layout c [] digits)) below
     ∙ ap (λ ds. Some (layout (int_lt a (pos 0)) [] ds)) (shown ∙ ap (λ k. magnitude_text (nat_abs (to_places a f k Even)) k) places)
     ∙ sym (ap (λ c. if c then Some (layout (int_lt a (pos 0)) [] (magnitude_text (nat_abs (to_places a f q Even)) q)) else None) fits)
 

@@ -1,17 +1,19 @@
 //! Numbers as text.
 
-ghost use Rattle.std.specs.Prelude.{◌≡◌, ◌≤◌};
+ghost use Rattle.std.specs.Prelude.{◌≡◌, ◌≤◌, drop};
 ghost use Rattle.std.specs.Fmt.{padded_integral, spec_precision};
+ghost use Rattle.fixed_word.specs.declared.rounding.Rounding.TheVariants.{Even};
+ghost use Rattle.fixed_decimal.specs.Text.{shortest, text_of};
 ghost use Rattle.fixed_num.specs.Shown.{places_of, plain_text, styled_text};
 
 use crate::format::Fixed;
-use fixed_decimal::{shortest_places, write_decimal};
+use fixed_decimal::{pad_number, shortest_places, write_decimal};
 use fixed_word::{RawWord, Rounding, Word};
 use std::{fmt, str};
 
 /// The shortest text that is read as the number, or as many digits behind the point as the precision says, to the
-/// nearest and to the even one of two. Sign, width and fill are those of integers. A precision past 64 is taken as 64,
-/// and a fraction past the width is an error.
+/// nearest and to the even one of two. Sign, width and fill are those of integers. A fraction past the width is an
+/// error.
 impl<T: Word, const F: u32> fmt::Display for Fixed<T, F> {
     ghost output = { λ x. plain_text (T.value x.bits) F T.BITS };
 
@@ -21,26 +23,75 @@ impl<T: Word, const F: u32> fmt::Display for Fixed<T, F> {
         if F > T::BITS {
             return Err(fmt::Error);
         }
-        let places = places_for(self.bits, F, f.precision());
+        let shown = places_for(self.bits, F, f.precision());
+        let places = shown.min(64);
         let mut buffer = [0; 86];
         let start = write_decimal(self.bits, F, places, Rounding::Even, &mut buffer);
         let below_zero = self.bits.is_below_zero();
         let from = start + usize::from(below_zero);
         match str::from_utf8(&buffer[from..]) {
-            Ok(digits) => f.pad_integral(!below_zero, "", digits),
+            // Digits past the 64th behind the point are zeros.
+            Ok(digits) => pad_number(f, below_zero, digits, shown - places),
             Err(_) => Err(fmt::Error),
         }
+    }
+}
+
+/// The value, as `{}` prints it.
+impl<T: Word, const F: u32> fmt::Debug for Fixed<T, F> {
+    ghost debug_output = { λ x. plain_text (T.value x.bits) F T.BITS };
+
+    fn fmt<W: fmt::Write>(&self, f: &mut fmt::Formatter<W>) -> fmt::Result {
+        fmt::Display::fmt(self, f)
+    }
+}
+
+/// Text without a formatter (this project's own). The text is at the end of the buffer, and each call returns where it
+/// begins.
+impl<T: Word, const F: u32> Fixed<T, F> {
+    /// Writes the shortest text that is read as the number. Precondition: F is at most the width.
+    pub fn write_decimal(self, buffer: &mut [u8; 86]) -> usize
+        requires { F ≤ T.BITS }
+        ensures within { result ≤ 86 }
+        ensures text { drop result buffer.new ≡ text_of (T.value self.bits) F (shortest (T.value self.bits) F) Even }
+    {
+        let places = shortest_for(self.bits, F);
+        write_decimal(self.bits, F, places, Rounding::Even, buffer)
+    }
+
+    /// Writes so many digits behind the point, rounded as named. Preconditions: F is at most the width, and there are
+    /// at most 64 digits behind the point.
+    pub fn write_decimal_places(
+        self,
+        places: usize,
+        rounding: Rounding,
+        buffer: &mut [u8; 86],
+    ) -> usize
+        requires fraction { F ≤ T.BITS }
+        requires places { places ≤ 64 }
+        ensures within { result ≤ 86 }
+        ensures text { drop result buffer.new ≡ text_of (T.value self.bits) F places rounding }
+    {
+        write_decimal(self.bits, F, places, rounding, buffer)
     }
 }
 
 /// How many digits behind the point a number shows with that precision.
 fn places_for<T: Word>(bits: T, frac: u32, precision: Option<usize>) -> usize
     requires { frac ≤ T.BITS }
-    ensures places { result ≡ places_of precision (T.value bits) frac }
-    ensures bound { result ≤ 64 }
+    ensures { result ≡ places_of precision (T.value bits) frac }
 {
     match precision {
-        Some(places) => places.min(64),
-        None => shortest_places(bits, frac),
+        Some(places) => places,
+        None => shortest_for(bits, frac),
     }
+}
+
+/// How many digits behind the point the shortest text has that is read as the number.
+fn shortest_for<T: Word>(bits: T, frac: u32) -> usize
+    requires { frac ≤ T.BITS }
+    ensures places { result ≡ shortest (T.value bits) frac }
+    ensures bound { result ≤ 20 }
+{
+    shortest_places(bits, frac)
 }

@@ -7,7 +7,7 @@ ghost use Rattle.fixed_word.specs.Format.{InRange};
 use fixed_word::{RawWord, Word};
 
 /// The number `bits * 2^-F` (the crate's `FixedI8` and its kin in one type).
-#[derive(Clone, Copy, PartialEq, Eq, PartialOrd, Ord, Hash, Debug)]
+#[derive(Clone, Copy, PartialEq, Eq, PartialOrd, Ord, Hash)]
 pub struct Fixed<T: RawWord, const F: u32> {
     /// The number in units of `2^-F`.
     pub bits: T,

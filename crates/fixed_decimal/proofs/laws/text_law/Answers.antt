@@ -1,4 +1,5 @@
 use Rattle.fixed_decimal.proofs.Readings.{exact_law, nearest_law, read_law, shortest_law}
+use Rattle.fixed_decimal.proofs.Firsts.{enough_law, found_law}
 use Rattle.fixed_decimal.proofs.laws.text_law.Goals as goal
 
 pub returns-clause-exact : goal.returns-clause-exact
@@ -12,3 +13,9 @@ returns-clause-fewest c a f p text least e = least.least _ (read_law a f text e)
 
 pub returns-clause-nearest : goal.returns-clause-nearest
 returns-clause-nearest c = nearest_law
+
+pub returns-clause-enough : goal.returns-clause-enough
+returns-clause-enough c = enough_law
+
+pub returns-clause-found : goal.returns-clause-found
+returns-clause-found c = found_law

@@ -1,0 +1,79 @@
+//! A number between its fill, as long as its width asks.
+
+ghost use Rattle.std.specs.Prelude.{◌≡◌, ◌≤◌, ◌++◌, [], replicate};
+ghost use Rattle.std.specs.List.{repeat};
+ghost use Rattle.std.specs.Char.{encode_utf8};
+ghost use Rattle.std.specs.Fmt.{WritesStyledOnOk, formatter_spec, padded_integral, padding_before, sign_text_with};
+
+use std::fmt::{self, Alignment, Write};
+
+/// Writes a number as `pad_integral` does, with so many zeros at the end of its digits.
+pub fn pad_number<W: fmt::Write>(
+    f: &mut fmt::Formatter<W>,
+    below_zero: bool,
+    digits: &str,
+    zeros: usize,
+) -> fmt::Result
+    ensures { WritesStyledOnOk W.write_str_gives f.old result
+        (padded_integral (formatter_spec f.old) below_zero [] (digits.now ++ replicate zeros 48)) f.new }
+{
+    if zeros == 0 {
+        return f.pad_integral(!below_zero, "", digits);
+    }
+    let sign = sign_shown(f.sign_plus(), below_zero);
+    let width = f.width().unwrap_or(0);
+    let room = width.saturating_sub(digits.len()).saturating_sub(zeros);
+    let padding = room.saturating_sub(sign.len());
+    let is_zero_padded = f.sign_aware_zero_pad();
+    let inner = if is_zero_padded { padding } else { 0 };
+    let before = if is_zero_padded {
+        0
+    } else {
+        fill_before(f, padding)
+    };
+    let fill = f.fill();
+    write_repeated(f, fill, before)?;
+    f.write_str(sign)?;
+    write_repeated(f, '0', inner)?;
+    f.write_str(digits)?;
+    write_repeated(f, '0', zeros)?;
+    write_repeated(f, fill, padding - before - inner)
+}
+
+/// The sign that a number shows.
+#[inline]
+fn sign_shown(plus: bool, below_zero: bool) -> &'static str
+    ensures { result.now ≡ sign_text_with plus below_zero }
+{
+    if below_zero {
+        "-"
+    } else if plus {
+        "+"
+    } else {
+        ""
+    }
+}
+
+/// How much of the padding stands before a number.
+#[inline]
+fn fill_before<W: fmt::Write>(f: &fmt::Formatter<W>, padding: usize) -> usize
+    ensures value { result ≡ padding_before (formatter_spec f.now) padding 3 }
+    ensures bound { result ≤ padding }
+{
+    match f.align() {
+        Some(Alignment::Left) => 0,
+        Some(Alignment::Center) => padding / 2,
+        _ => padding,
+    }
+}
+
+/// Writes a character so many times.
+#[inline]
+fn write_repeated<W: fmt::Write>(f: &mut fmt::Formatter<W>, sign: char, count: usize) -> fmt::Result
+    ensures { WritesStyledOnOk W.write_str_gives f.old result (repeat count (encode_utf8 sign)) f.new }
+{
+    for _ in 0..count {
+        f.write_char(sign)?;
+    }
+    Ok(())
+}
