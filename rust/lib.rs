@@ -66,13 +66,16 @@
 //! - `runs`: the runs over text, `filter::filter_run`, `poly::poly_run` and `interval::interval_run`, and
 //!   `filter::Bank`, which holds channels of filters.
 //!
-//! # Conditions
+//! # Preconditions
 //!
-//! Where the proved language has a proof at each call that the call's condition holds, Rust has an assertion, which
-//! each page names under "Panics". A call that uses a fraction stops on one past the width; each but the checked ones
-//! on a divisor of 0 and on the root of a number below 0; the operators, strict and unwrapped forms on a shift by the
-//! width or more. The strict and unwrapped forms stop where the number does not fit. The operators and plain calls do
-//! so in builds with debug assertions, and otherwise answer the wrapped number, as those of integers do.
+//! In the proved language each call site proves the preconditions of the call. Here they are assertions, which the page
+//! of the call names under "Compile errors" or "Panics":
+//!
+//! - A fraction above the width is a compile error if it is a constant, and panics if it is an argument.
+//! - Each call but the checked ones panics on a divisor of 0 and on the root of a number below 0.
+//! - The operators, strict and unwrapped forms panic on a shift by the width or more.
+//! - The strict and unwrapped forms panic if the number does not fit. The operators and plain calls do so in builds with
+//!   debug assertions. In other builds they wrap, as those of integers do.
 #![no_std]
 #![forbid(unsafe_code)]
 // The code below is the proved sources' own, which name the traits of the calls that they use and the operands of laws,

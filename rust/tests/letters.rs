@@ -150,11 +150,6 @@ fn is_of(table: &[&str], krate: &str, file: &Sign) -> bool {
     table.contains(&path.as_str())
 }
 
-/// Whether a file of a crate is left out of this build.
-fn is_left_out(krate: &str, file: &Sign) -> bool {
-    !has_memory(krate) && is_of(&LEFT_OUT, krate, file)
-}
-
 /// What the library has to have of a file, with those that it names.
 fn expected(krate: &str, file: &str, out: &mut Vec<Sign>) {
     let path = format!("crates/fixed_{krate}/src/{file}.rt");
@@ -189,13 +184,14 @@ fn replaced(krate: &str, rest: &[Sign]) -> (String, usize) {
     if let Some((old, new)) = FORMS.iter().find(|(old, _)| begin(rest, old)) {
         return (new.to_string(), code(old).len());
     }
+    let is_left_out = |file| !has_memory(krate) && is_of(&LEFT_OUT, krate, file);
     let is_use = begin(rest, "pub use");
     let is_module = begin(rest, "mod") && rest[2].text == ";";
     match &rest[0].text {
         _ if begin(rest, "#[derive(") => derives(rest),
-        _ if is_module && is_left_out(krate, &rest[1]) => (String::new(), 3),
+        _ if is_module && is_left_out(&rest[1]) => (String::new(), 3),
         _ if is_module => (format!("mod {} {{", rest[1].text), 3),
-        _ if is_use && is_left_out(krate, &rest[2]) => (String::new(), length(rest, &[";"])),
+        _ if is_use && is_left_out(&rest[2]) => (String::new(), length(rest, &[";"])),
         _ if is_use && is_of(&INSIDE, krate, &rest[2]) => ("pub(crate)".to_string(), 1),
         name if begin(&rest[1..], "::") => (crate_name(krate, name), 1),
         sign => (sign.clone(), 1),
