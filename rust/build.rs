@@ -6,10 +6,11 @@ mod script;
 use script::modules::{LIBRARY, write};
 
 /// The tests of the library, and the example that they test.
-const TESTS: [&str; 5] = [
+const TESTS: [&str; 6] = [
     "guide",
     "tests_kernel",
     "tests_num",
+    "tests_convert",
     "tests_float",
     "tests_policy",
 ];

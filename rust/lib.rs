@@ -101,8 +101,8 @@ mod stopping {
     }
 }
 
-pub use cast::{Castable, FromNum, Numeric, Order, Source, ToNum, ToWhole};
-pub use float::{Binary, FloatNumber};
+pub use cast::{Castable, FromNum, Numeric, Order, Source, ToFloat, ToNum, ToWhole};
+pub use float::Binary;
 pub use interval::{Interval, add_in, div_in, mul_in, sqrt_in, sub_in};
 pub use num::{
     Constants, Fixed, FixedI8, FixedI16, FixedI32, FixedI64, FixedU8, FixedU16, FixedU32, FixedU64,
@@ -126,7 +126,6 @@ pub use word::{SignedWord, UnsignedWord, Word};
 
 /// What most programs import: the numbers, and the traits of their calls.
 pub mod prelude {
-    pub use crate::{Binary, FloatNumber};
     pub use crate::{Checked, CheckedMulAdd, CheckedProducts, CheckedSigned, CheckedUnsigned};
     pub use crate::{
         Constants, Fixed, FixedI8, FixedI16, FixedI32, FixedI64, FixedU8, FixedU16, FixedU32,
@@ -139,7 +138,7 @@ pub mod prelude {
     pub use crate::{
         Saturating, SaturatingMulAdd, SaturatingProducts, SaturatingSigned, SaturatingUnsigned,
     };
-    pub use crate::{FromNum, Order, ToNum, ToWhole};
+    pub use crate::{FromNum, Order, ToFloat, ToNum, ToWhole};
     pub use crate::{SignedWord, UnsignedWord, Word};
     pub use crate::{Strict, StrictMulAdd, StrictProducts, StrictSigned, StrictUnsigned};
     pub use crate::{

@@ -111,7 +111,7 @@ impl Erasing {
             .iter()
             .filter(|clause| begins(clause, &["requires ", "can_"]));
         let mut facts: Vec<String> = stated.flat_map(|clause| facts_of(clause)).collect();
-        if name == "exact_number" {
+        if ["exact_number", "exact_word"].contains(&name) {
             // It requires nothing, and promises something only where the number fits.
             facts.push("the number of the outcome fits".to_string());
         }
