@@ -169,8 +169,8 @@ mod stopping {
     }
 }
 
-pub use cast::{Castable, FromNum, Numeric, Order, Source, ToNum, ToWhole};
-pub use float::{Binary, FloatNumber};
+pub use cast::{Castable, FromNum, Numeric, Order, Source, ToFloat, ToNum, ToWhole};
+pub use float::Binary;
 pub use interval::{Interval, add_in, div_in, mul_in, sqrt_in, sub_in};
 pub use num::{
     Constants, Fixed, FixedI8, FixedI16, FixedI32, FixedI64, FixedU8, FixedU16, FixedU32, FixedU64,
@@ -195,14 +195,13 @@ pub use word::{RawWord, SignedWord, UnsignedWord, Word};
 /// What most programs import: the numbers, and the traits of their calls. The traits whose names std has too, such as
 /// `Wrapping`, stay in scope beside `use std::num::Wrapping`.
 pub mod prelude {
-    pub use crate::{Binary, FloatNumber};
     pub use crate::{Binary as _, Saturating as _, Wrapping as _};
     pub use crate::{Checked, CheckedMulAdd, CheckedProducts, CheckedSigned, CheckedUnsigned};
     pub use crate::{
         Constants, Fixed, FixedI8, FixedI16, FixedI32, FixedI64, FixedU8, FixedU16, FixedU32,
         FixedU64, Held, Number,
     };
-    pub use crate::{FromNum, Order, ToNum, ToWhole};
+    pub use crate::{FromNum, Order, ToFloat, ToNum, ToWhole};
     pub use crate::{
         Overflowing, OverflowingMulAdd, OverflowingProducts, OverflowingSigned, OverflowingUnsigned,
     };

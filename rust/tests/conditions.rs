@@ -4,6 +4,7 @@
 use std::cell::RefCell;
 use std::panic::{self, PanicHookInfo, UnwindSafe};
 use std::sync::Once;
+use zugyelmas::Binary;
 use zugyelmas::prelude::*;
 use zugyelmas::{
     bits, filter, float, interval, kernel, logs, num, ops, policy, poly, root, strict, word,
@@ -107,8 +108,12 @@ stops! {
     float_quotient, "the number has so few bits", f32::quotient(1 << 16, 0);
     float_divisor, "it is divided by at most 2^64", f64::quotient(1, 65);
     float_fraction, "the fraction frac is at most the width", float::to_float_of::<i8, f64>(1, 9);
-    float_infinite, "the float is finite", Byte::wrapping_from_float(f64::INFINITY);
-    float_nan, "the float is no NaN", Byte::saturating_from_float(f32::NAN);
+    float_nan, "the float is no NaN", float::saturating_float_of::<f32, i8>(f32::NAN, 4, word::Rounding::Even);
+    cast_infinite, "`None` value", Byte::wrapping_from_num(f64::INFINITY);
+    cast_nan, "the float is no NaN", Byte::saturating_from_num(f32::NAN);
+    cast_strict, "the number fits", Byte::strict_from_num(8);
+    cast_unwrapped, "the number fits", 8.0_f32.unwrapped_to_num::<Byte>();
+    cast_fraction, "the fraction is at most the width", past(1).to_float::<f32>();
     root_fraction, "the fraction frac is at most the width",
         root::root(1_u8, 9, &mut word::Steps::new(word::Silent::new()));
     logs_zero, "the number is not 0", logs::int_log10_part(0_u8, &mut word::Steps::new(word::Silent::new()));
@@ -164,7 +169,8 @@ stops! {
 }
 
 stops_when_debugging! {
-    float_past, "the number fits", Byte::from_float(8.0_f64), byte(-128);
+    cast_float, "the number fits", Byte::from_num(8.0_f64), byte(-128);
+    cast_integer, "the number fits", 8_i32.to_num::<Byte>(), byte(-128);
     word_sum, "the sum fits", word::Integer::plus(i16::MAX, 1), i16::MIN;
     word_product, "the product fits", word::Integer::times(u16::MAX, 2), u16::MAX - 1;
     word_up, "the number fits", word::Integer::scaled(i16::MAX, 1), -2;

@@ -381,7 +381,7 @@ impl std::fmt::Write for Line {
     }
 }
 
-fn text<T: Word>() {
+fn text<T: Castable>() {
     let mut line = Line {
         bytes: [0; 100],
         length: 0,
@@ -390,11 +390,11 @@ fn text<T: Word>() {
     assert_eq!(&line.bytes[..line.length], b"2.2     1.250"); // 2.2 is read as 2.25
     assert!("2.25".parse() == Ok(number::<T>(9)));
     assert!("2.2.5".parse::<Fixed<T, 2>>().is_err());
-    assert!(Fixed::checked_from_float(2.25_f64) == Some(number::<T>(9)));
+    assert!(Fixed::checked_from_num(2.25_f64) == Some(number::<T>(9)));
     assert_eq!(number::<T>(9).to_float::<f32>(), 2.25);
 }
 
-fn all<T: Word>() {
+fn all<T: Castable>() {
     for calls in [
         kernels::<T>,
         checked::<T>,

@@ -1,1 +1,1 @@
-pub mod SourceRows
+pub mod Saturated

@@ -1,12 +1,10 @@
 //! Numbers of other formats and integers, as numbers of a format or an integer.
 
 ghost use Rattle.std.specs.Prelude.{◌≡◌, Some, IsSome, option_map};
-ghost use Rattle.fixed_word.specs.Policies.{checked, overflowing, saturating, wrapping};
+ghost use Rattle.fixed_word.specs.Policies.{checked, overflowing, wrapping};
 
 use crate::numeric::Numeric;
-use crate::policies::{
-    checked_num, exact_num, overflowing_num, saturating_num, strict_num, wrapping_num,
-};
+use crate::policies::{checked_num, exact_num, overflowing_num, strict_num, wrapping_num};
 use crate::source::Source;
 use fixed_word::Rounding;
 
@@ -37,9 +35,9 @@ pub trait FromNum: Numeric {
 
     /// The number, held at the ends; condition that there is one.
     fn saturating_from_num<S: Source>(source: S) -> Self
-        requires { IsSome (S.exact source Self.FRACTION S.DEFAULT) }
+        requires { IsSome (S.saturated Self.Word.SIGNED Self.Word.BITS source Self.FRACTION S.DEFAULT) }
         ensures { Some (Self.units result)
-            ≡ saturating Self.Word.SIGNED Self.Word.BITS (S.exact source Self.FRACTION S.DEFAULT) };
+            ≡ S.saturated Self.Word.SIGNED Self.Word.BITS source Self.FRACTION S.DEFAULT };
 
     /// The number; condition that there is one and that it fits.
     fn strict_from_num<S: Source>(source: S) -> Self
@@ -70,9 +68,24 @@ pub trait FromNum: Numeric {
 
     /// The same, rounded as named.
     fn saturating_from_num_round<S: Source>(source: S, rounding: Rounding) -> Self
-        requires { IsSome (S.exact source Self.FRACTION rounding) }
+        requires { IsSome (S.saturated Self.Word.SIGNED Self.Word.BITS source Self.FRACTION rounding) }
         ensures { Some (Self.units result)
-            ≡ saturating Self.Word.SIGNED Self.Word.BITS (S.exact source Self.FRACTION rounding) };
+            ≡ S.saturated Self.Word.SIGNED Self.Word.BITS source Self.FRACTION rounding };
+
+    /// The same, rounded as named.
+    fn from_num_round<S: Source>(source: S, rounding: Rounding) -> Self
+        requires { IsSome (checked Self.Word.SIGNED Self.Word.BITS (S.exact source Self.FRACTION rounding)) }
+        ensures { Some (Self.units result) ≡ S.exact source Self.FRACTION rounding };
+
+    /// The same, rounded as named.
+    fn strict_from_num_round<S: Source>(source: S, rounding: Rounding) -> Self
+        requires { IsSome (checked Self.Word.SIGNED Self.Word.BITS (S.exact source Self.FRACTION rounding)) }
+        ensures { Some (Self.units result) ≡ S.exact source Self.FRACTION rounding };
+
+    /// The same, rounded as named.
+    fn unwrapped_from_num_round<S: Source>(source: S, rounding: Rounding) -> Self
+        requires { IsSome (checked Self.Word.SIGNED Self.Word.BITS (S.exact source Self.FRACTION rounding)) }
+        ensures { Some (Self.units result) ≡ S.exact source Self.FRACTION rounding };
 }
 
 impl<N: Numeric> FromNum for N {
@@ -98,7 +111,7 @@ impl<N: Numeric> FromNum for N {
 
     #[inline]
     fn saturating_from_num<S: Source>(source: S) -> Self {
-        saturating_num(source.outcome(Self::FRACTION, S::DEFAULT))
+        Self::from_word(source.saturated(Self::FRACTION, S::DEFAULT))
     }
 
     #[inline]
@@ -128,6 +141,21 @@ impl<N: Numeric> FromNum for N {
 
     #[inline]
     fn saturating_from_num_round<S: Source>(source: S, rounding: Rounding) -> Self {
-        saturating_num(source.outcome(Self::FRACTION, rounding))
+        Self::from_word(source.saturated(Self::FRACTION, rounding))
+    }
+
+    #[inline]
+    fn from_num_round<S: Source>(source: S, rounding: Rounding) -> Self {
+        exact_num(source.outcome(Self::FRACTION, rounding))
+    }
+
+    #[inline]
+    fn strict_from_num_round<S: Source>(source: S, rounding: Rounding) -> Self {
+        strict_num(source.outcome(Self::FRACTION, rounding))
+    }
+
+    #[inline]
+    fn unwrapped_from_num_round<S: Source>(source: S, rounding: Rounding) -> Self {
+        strict_num(source.outcome(Self::FRACTION, rounding))
     }
 }

@@ -5,6 +5,7 @@
 //! to be this project's own. No function takes memory.
 #![tactic(auto)]
 
+mod floats;
 mod from_num;
 mod numbers;
 mod numeric;
@@ -13,8 +14,10 @@ mod policies;
 mod source;
 mod to_num;
 mod to_whole;
+mod truth;
 
 pub use fixed_convert::Castable;
+pub use floats::ToFloat;
 pub use from_num::FromNum;
 pub use numeric::Numeric;
 pub use order::Order;

@@ -2,17 +2,19 @@
 
 ghost use Rattle.std.specs.Prelude.{◌≡◌, ℤ, Option, Some, IfSome, IsSome, option_map};
 ghost use Rattle.fixed_word.specs.declared.outcome.Side.TheVariants.{Fits};
-ghost use Rattle.fixed_word.specs.Policies.{checked, overflowing, saturating, wrapping};
-ghost use Rattle.fixed_cast.specs.SourceRows.{StandsForRow};
+ghost use Rattle.fixed_word.specs.Format.{InRange};
+ghost use Rattle.fixed_word.specs.Policies.{checked, overflowing, wrapping};
+ghost use Rattle.fixed_word.specs.Standing.{StandsFor};
+ghost use Rattle.fixed_float.specs.Rows.{IsOutcomeOfRow};
 
 use crate::numeric::Numeric;
-use fixed_word::{Outcome, checked_of, overflowing_of, saturating_of, strict_of, wrapping_of};
+use fixed_word::{Outcome, Word, checked_of, overflowing_of, strict_of, wrapping_of};
 
 /// The number; None exactly where there is none or it does not fit.
 #[inline]
 pub(crate) fn checked_num<N: Numeric>(outcome: Option<Outcome<N::Word>>) -> Option<N>
     ensures { (row : Option ℤ)
-        → StandsForRow N.Word.value N.Word.SIGNED N.Word.BITS row outcome
+        → IsOutcomeOfRow N.Word.value N.Word.SIGNED N.Word.BITS row outcome
         → option_map N.units result ≡ checked N.Word.SIGNED N.Word.BITS row }
 {
     match checked_of(outcome?) {
@@ -26,7 +28,7 @@ pub(crate) fn checked_num<N: Numeric>(outcome: Option<Outcome<N::Word>>) -> Opti
 pub(crate) fn overflowing_num<N: Numeric>(outcome: Option<Outcome<N::Word>>) -> (N, bool)
     requires { IsSome outcome }
     ensures { (row : Option ℤ)
-        → StandsForRow N.Word.value N.Word.SIGNED N.Word.BITS row outcome
+        → IsOutcomeOfRow N.Word.value N.Word.SIGNED N.Word.BITS row outcome
         → Some (N.units result.0, result.1) ≡ overflowing N.Word.SIGNED N.Word.BITS row }
 {
     let (word, overflows) = overflowing_of(outcome.unwrap());
@@ -38,21 +40,10 @@ pub(crate) fn overflowing_num<N: Numeric>(outcome: Option<Outcome<N::Word>>) -> 
 pub(crate) fn wrapping_num<N: Numeric>(outcome: Option<Outcome<N::Word>>) -> N
     requires { IsSome outcome }
     ensures { (row : Option ℤ)
-        → StandsForRow N.Word.value N.Word.SIGNED N.Word.BITS row outcome
+        → IsOutcomeOfRow N.Word.value N.Word.SIGNED N.Word.BITS row outcome
         → Some (N.units result) ≡ wrapping N.Word.SIGNED N.Word.BITS row }
 {
     N::from_word(wrapping_of(outcome.unwrap()))
-}
-
-/// The number that fits and is nearest.
-#[inline]
-pub(crate) fn saturating_num<N: Numeric>(outcome: Option<Outcome<N::Word>>) -> N
-    requires { IsSome outcome }
-    ensures { (row : Option ℤ)
-        → StandsForRow N.Word.value N.Word.SIGNED N.Word.BITS row outcome
-        → Some (N.units result) ≡ saturating N.Word.SIGNED N.Word.BITS row }
-{
-    N::from_word(saturating_of(outcome.unwrap()))
 }
 
 /// The number, where there is one and it fits.
@@ -60,10 +51,19 @@ pub(crate) fn saturating_num<N: Numeric>(outcome: Option<Outcome<N::Word>>) -> N
 pub(crate) fn exact_num<N: Numeric>(outcome: Option<Outcome<N::Word>>) -> N
     requires { IsSome outcome }
     ensures { (row : Option ℤ)
-        → StandsForRow N.Word.value N.Word.SIGNED N.Word.BITS row outcome
+        → IsOutcomeOfRow N.Word.value N.Word.SIGNED N.Word.BITS row outcome
         → IsSome (checked N.Word.SIGNED N.Word.BITS row) → Some (N.units result) ≡ row }
 {
-    N::from_word(outcome.unwrap().wrapped)
+    N::from_word(exact_word(outcome.unwrap()))
+}
+
+/// The word of a number that fits.
+#[inline]
+pub(crate) fn exact_word<T: Word>(outcome: Outcome<T>) -> T
+    ensures { (x : ℤ) → StandsFor T.value T.SIGNED T.BITS x outcome → InRange T.SIGNED T.BITS x
+        → T.value result ≡ x }
+{
+    outcome.wrapped
 }
 
 /// The same, of an outcome that fits.
@@ -72,7 +72,7 @@ pub(crate) fn strict_num<N: Numeric>(outcome: Option<Outcome<N::Word>>) -> N
     requires some { IsSome outcome }
     requires fits { IfSome outcome (λ o. o.side ≡ Fits) }
     ensures { (row : Option ℤ)
-        → StandsForRow N.Word.value N.Word.SIGNED N.Word.BITS row outcome
+        → IsOutcomeOfRow N.Word.value N.Word.SIGNED N.Word.BITS row outcome
         → Some (N.units result) ≡ row }
 {
     N::from_word(strict_of(outcome.unwrap()))

@@ -1,16 +1,17 @@
 //! What conversions take.
 
-ghost use Rattle.std.specs.Prelude.{ℕ, ℤ, Option, Some};
+ghost use Rattle.std.specs.Prelude.{◌≡◌, ℕ, ℤ, Bool, Option, Some, IsSome, refl, option_map};
+ghost use Rattle.fixed_word.specs.Policies.{saturating};
 ghost use Rattle.fixed_word.specs.declared.rounding.Rounding.{Rounding};
 ghost use Rattle.fixed_word.specs.declared.rounding.Rounding.TheVariants.{Down};
 ghost use Rattle.fixed_convert.specs.Convert.{rounded_convert};
-ghost use Rattle.fixed_cast.specs.SourceRows.{StandsForRow};
+ghost use Rattle.fixed_float.specs.Rows.{IsOutcomeOfRow};
 
 use crate::numeric::Numeric;
-use fixed_convert::{Castable, convert_round_of};
+use fixed_convert::{Castable, convert_round_of, saturating_convert_of};
 use fixed_word::{Outcome, Rounding};
 
-/// What has a number, which each format holds up to a rounding (this project's own).
+/// A value from which numbers are made: a number of a format, an integer, a float or a `bool` (this project's own).
 pub trait Source: Copy {
     /// The rounding of conversions that name none.
     const DEFAULT: Rounding;
@@ -20,9 +21,20 @@ pub trait Source: Copy {
     // the number in units of 2^-g, rounded, or nothing where there is no number
     ghost exact: { Self → ℕ → Rounding → Option ℤ };
 
-    /// The outcome of the number in units of `2^-frac`, rounded; None exactly where there is no number.
+    // the same, held at the ends of a range, for an infinity the end on its side
+    ghost saturated: { Bool → ℕ → Self → ℕ → Rounding → Option ℤ };
+
+    /// Returns the outcome of the number in units of `2^-frac`, rounded; None exactly where there is no number.
     fn outcome<T: Castable>(self, frac: u32, rounding: Rounding) -> Option<Outcome<T>>
-        ensures { StandsForRow T.value T.SIGNED T.BITS (exact self frac rounding) result };
+        ensures { IsOutcomeOfRow T.value T.SIGNED T.BITS (exact self frac rounding) result };
+
+    /// Returns the word that is nearest to the number in units of `2^-frac`, rounded.
+    fn saturated<T: Castable>(self, frac: u32, rounding: Rounding) -> T
+        requires { IsSome (saturated T.SIGNED T.BITS self frac rounding) }
+        ensures { Some (T.value result) ≡ saturated T.SIGNED T.BITS self frac rounding };
+
+    ghost saturated_law: { (signed : Bool) (n : ℕ) (x : Self) (g : ℕ) (r : Rounding)
+        → IsSome (exact x g r) → saturated signed n x g r ≡ saturating signed n (exact x g r) };
 }
 
 impl<N: Numeric> Source for N {
@@ -32,8 +44,18 @@ impl<N: Numeric> Source for N {
 
     ghost exact = { λ x g r. Some (rounded_convert (N.units x) N.FRACTION g r) };
 
+    ghost saturated = { λ s n x g r.
+        saturating s n (Some (rounded_convert (N.units x) N.FRACTION g r)) };
+
     #[inline]
     fn outcome<T: Castable>(self, frac: u32, rounding: Rounding) -> Option<Outcome<T>> {
         Some(convert_round_of(self.to_word(), N::FRACTION, frac, rounding))
     }
+
+    #[inline]
+    fn saturated<T: Castable>(self, frac: u32, rounding: Rounding) -> T {
+        saturating_convert_of(self.to_word(), N::FRACTION, frac, rounding)
+    }
+
+    ghost saturated_law = { λ s n x g r h. refl };
 }

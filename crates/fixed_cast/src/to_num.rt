@@ -1,12 +1,10 @@
 //! The same conversions, called on what they take.
 
 ghost use Rattle.std.specs.Prelude.{◌≡◌, Some, IsSome, option_map};
-ghost use Rattle.fixed_word.specs.Policies.{checked, overflowing, saturating, wrapping};
+ghost use Rattle.fixed_word.specs.Policies.{checked, overflowing, wrapping};
 
 use crate::numeric::Numeric;
-use crate::policies::{
-    checked_num, exact_num, overflowing_num, saturating_num, strict_num, wrapping_num,
-};
+use crate::policies::{checked_num, exact_num, overflowing_num, strict_num, wrapping_num};
 use crate::source::Source;
 use fixed_word::Rounding;
 
@@ -36,9 +34,9 @@ pub trait ToNum: Source {
 
     /// The number, held at the ends; condition that there is one.
     fn saturating_to_num<N: Numeric>(self) -> N
-        requires { IsSome (Self.exact self N.FRACTION Self.DEFAULT) }
+        requires { IsSome (Self.saturated N.Word.SIGNED N.Word.BITS self N.FRACTION Self.DEFAULT) }
         ensures { Some (N.units result)
-            ≡ saturating N.Word.SIGNED N.Word.BITS (Self.exact self N.FRACTION Self.DEFAULT) };
+            ≡ Self.saturated N.Word.SIGNED N.Word.BITS self N.FRACTION Self.DEFAULT };
 
     /// The number; condition that there is one and that it fits.
     fn strict_to_num<N: Numeric>(self) -> N
@@ -69,9 +67,24 @@ pub trait ToNum: Source {
 
     /// The same, rounded as named.
     fn saturating_to_num_round<N: Numeric>(self, rounding: Rounding) -> N
-        requires { IsSome (Self.exact self N.FRACTION rounding) }
+        requires { IsSome (Self.saturated N.Word.SIGNED N.Word.BITS self N.FRACTION rounding) }
         ensures { Some (N.units result)
-            ≡ saturating N.Word.SIGNED N.Word.BITS (Self.exact self N.FRACTION rounding) };
+            ≡ Self.saturated N.Word.SIGNED N.Word.BITS self N.FRACTION rounding };
+
+    /// The same, rounded as named.
+    fn to_num_round<N: Numeric>(self, rounding: Rounding) -> N
+        requires { IsSome (checked N.Word.SIGNED N.Word.BITS (Self.exact self N.FRACTION rounding)) }
+        ensures { Some (N.units result) ≡ Self.exact self N.FRACTION rounding };
+
+    /// The same, rounded as named.
+    fn strict_to_num_round<N: Numeric>(self, rounding: Rounding) -> N
+        requires { IsSome (checked N.Word.SIGNED N.Word.BITS (Self.exact self N.FRACTION rounding)) }
+        ensures { Some (N.units result) ≡ Self.exact self N.FRACTION rounding };
+
+    /// The same, rounded as named.
+    fn unwrapped_to_num_round<N: Numeric>(self, rounding: Rounding) -> N
+        requires { IsSome (checked N.Word.SIGNED N.Word.BITS (Self.exact self N.FRACTION rounding)) }
+        ensures { Some (N.units result) ≡ Self.exact self N.FRACTION rounding };
 }
 
 impl<S: Source> ToNum for S {
@@ -97,7 +110,7 @@ impl<S: Source> ToNum for S {
 
     #[inline]
     fn saturating_to_num<N: Numeric>(self) -> N {
-        saturating_num(self.outcome(N::FRACTION, Self::DEFAULT))
+        N::from_word(self.saturated(N::FRACTION, Self::DEFAULT))
     }
 
     #[inline]
@@ -127,6 +140,21 @@ impl<S: Source> ToNum for S {
 
     #[inline]
     fn saturating_to_num_round<N: Numeric>(self, rounding: Rounding) -> N {
-        saturating_num(self.outcome(N::FRACTION, rounding))
+        N::from_word(self.saturated(N::FRACTION, rounding))
+    }
+
+    #[inline]
+    fn to_num_round<N: Numeric>(self, rounding: Rounding) -> N {
+        exact_num(self.outcome(N::FRACTION, rounding))
+    }
+
+    #[inline]
+    fn strict_to_num_round<N: Numeric>(self, rounding: Rounding) -> N {
+        strict_num(self.outcome(N::FRACTION, rounding))
+    }
+
+    #[inline]
+    fn unwrapped_to_num_round<N: Numeric>(self, rounding: Rounding) -> N {
+        strict_num(self.outcome(N::FRACTION, rounding))
     }
 }

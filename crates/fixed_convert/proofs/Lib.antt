@@ -6,3 +6,4 @@ pub mod Rounds
 pub mod Orders
 pub mod Nearness
 pub mod Wholes
+pub mod Monotone

@@ -1,16 +1,17 @@
 -- Which of two numbers side by side is a rounded quotient, by the one that is rounded down.
-use Rattle.std.proofs.Common.{◌≡◌, ◌≢◌, ◌+◌, ◌*◌, ◌/◌, ◌%◌, ◌<◌, ◌≤◌, ◌≤ℤ◌, ◌<ℤ◌, ◌+ℤ◌, ◌-ℤ◌, ◌*ℤ◌, ℕ, ℤ, suc, Bool, true, false, pos, negsuc, neg_ℤ, nat_abs, refl, arith}
-use Rattle.std.specs.Prelude.{if◌then◌else◌}
+use Rattle.std.proofs.Common.{◌≡◌, ◌≢◌, ◌+◌, ◌*◌, ◌/◌, ◌%◌, ◌<◌, ◌≤◌, ◌≤ℤ◌, ◌<ℤ◌, ◌+ℤ◌, ◌-ℤ◌, ◌*ℤ◌, ℕ, ℤ, suc, Bool, true, false, pos, negsuc, neg_ℤ, nat_abs, refl, ap, sym, ◌∙◌, arith}
+use Rattle.std.specs.Prelude.{int_lt, if◌then◌else◌}
 use Rattle.std.specs.Int.Signed.{lt_z}
 use Rattle.std.proofs.lemmas.Int.{ints}
 use Rattle.std.proofs.lemmas.Nat.{div-add-mod', mod_below}
 use Rattle.fixed_word.specs.Quotient.{floor_quotient, truncated_quotient}
 use Rattle.fixed_word.specs.declared.rounding.Rounding.TheVariants.{Even}
-use Rattle.fixed_word.proofs.QuotientLaws.{floor_unique}
+use Rattle.fixed_word.proofs.QuotientLaws.{floor_quotient_unique, floor_unique}
+use Rattle.fixed_word.proofs.Sides.{lt_no}
 use Rattle.fixed_word.proofs.Wraps.{neg-times, suc_times}
 use Rattle.fixed_kernel.specs.Rounded.{rounded}
 use Rattle.fixed_kernel.proofs.RoundedLaws.{rounded_is, rounded_unique}
-use Rattle.std.proofs.Math.Nat.{div-mul-le_self}
+use Rattle.std.proofs.Math.Nat.{div-mul-le_self, lt-div-mul-add}
 use Rattle.fixed_convert.specs.WholeNumber.{nearest_or_further}
 use Rattle.fixed_convert.proofs.Moves.{floor_near}
 
@@ -69,7 +70,7 @@ even_twice : (q h : ℤ) → q ≡ h *ℤ pos 2 → nat_abs q % 2 ≡ 0
 even_twice q (pos a) e = omega (arith, ints)
 even_twice q (negsuc a) e = omega (arith, ints)
 
-above_zero : (d : ℕ) → 0 < d → pos d ≢ pos 0
+pub above_zero : (d : ℕ) → 0 < d → pos d ≢ pos 0
 above_zero d h = λ e. omega (arith, ints)
 
 pub even_past : (x low : ℤ) (d : ℕ) (b : Bool) → 0 < d → low ≡ floor_quotient x d → lt_z (pos d) (((x -ℤ low *ℤ pos d) +ℤ (x -ℤ low *ℤ pos d)) +ℤ parity_of low) ≡ b → rounded x (pos d) Even ≡ next_if b low
@@ -99,6 +100,62 @@ even_past x low d false h e t =
       tie = λ i. even_twice low (floor_quotient low 2) (omega (arith, ints));
     })
 
+-- by one quotient that is rounded down: a half is added, or a little less
+
+pub double_out : (q d : ℕ) → q * (2 * d) ≡ 2 * (q * d)
+double_out q d = omega arith
+
+times_twice : (q : ℤ) (d : ℕ) → q *ℤ pos (2 * d) ≡ q *ℤ pos d +ℤ q *ℤ pos d
+times_twice (pos a) d = omega (arith, ints, double_out a d)
+times_twice (negsuc a) d = omega (arith, ints, double_out (suc a) d)
+
+pub even_half : (x low : ℤ) (d : ℕ) → 0 < d → low ≡ floor_quotient x d
+    → floor_quotient (((x +ℤ x) +ℤ (parity_of low -ℤ pos 1)) +ℤ pos d) (2 * d) ≡ rounded x (pos d) Even
+even_half x low d h e = go (lt_z (pos d) (((x -ℤ low *ℤ pos d) +ℤ (x -ℤ low *ℤ pos d)) +ℤ parity_of low)) refl
+  where
+    y : ℤ
+    y = ((x +ℤ x) +ℤ (parity_of low -ℤ pos 1)) +ℤ pos d
+
+    go : (b : Bool) → lt_z (pos d) (((x -ℤ low *ℤ pos d) +ℤ (x -ℤ low *ℤ pos d)) +ℤ parity_of low) ≡ b → floor_quotient y (2 * d) ≡ rounded x (pos d) Even
+    go true t =
+        let n = floor_near x d h in
+        let p : (low *ℤ pos d) ≤ℤ x = rw e n.0 in
+        let q : x <ℤ (low *ℤ pos d +ℤ pos d) = rw e n.1 in
+        let k = floor_near low 2 (omega arith) in
+        let o = k.0 in
+        let v = k.1 in
+        let u = less_of (pos d) (((x -ℤ low *ℤ pos d) +ℤ (x -ℤ low *ℤ pos d)) +ℤ parity_of low) t in
+        let w = times_twice low d in
+        let s = suc_times low (2 * d) in
+        let z = suc_times (low +ℤ pos 1) (2 * d) in
+        floor_quotient_unique y (low +ℤ pos 1) (2 * d) (omega arith) (record { below = omega (arith, ints); above = omega (arith, ints) })
+        ∙ sym (even_past x low d true h e t)
+    go false t =
+        let n = floor_near x d h in
+        let p : (low *ℤ pos d) ≤ℤ x = rw e n.0 in
+        let k = floor_near low 2 (omega arith) in
+        let o = k.0 in
+        let v = k.1 in
+        let u = not_less_of (pos d) (((x -ℤ low *ℤ pos d) +ℤ (x -ℤ low *ℤ pos d)) +ℤ parity_of low) t in
+        let w = times_twice low d in
+        let s = suc_times low (2 * d) in
+        floor_quotient_unique y low (2 * d) (omega arith) (record { below = omega (arith, ints); above = omega (arith, ints) })
+        ∙ sym (even_past x low d false h e t)
+
+pub further_half : (x : ℤ) (d : ℕ) → 0 < d
+    → floor_quotient (((x +ℤ x) +ℤ (if int_lt x (pos 0) then negsuc 0 else pos 0)) +ℤ pos d) (2 * d) ≡ nearest_or_further x d
+further_half (pos a) d h =
+    let t : int_lt (pos a) (pos 0) ≡ false = lt_no (pos a) (pos 0) (omega (arith, ints)) in
+    let e : ((pos a +ℤ pos a) +ℤ (if int_lt (pos a) (pos 0) then negsuc 0 else pos 0)) +ℤ pos d ≡ pos (2 * a + d) = rw t (omega (arith, ints)) in
+    ap (λ (y : ℤ). floor_quotient y (2 * d)) e
+further_half (negsuc a) d h =
+    let q = (2 * suc a + d) / (2 * d) in
+    let l = div-mul-le_self (2 * suc a + d) (2 * d) in
+    let u = lt-div-mul-add {a = 2 * suc a + d} {b = 2 * d} (omega arith) in
+    let t = neg-times q (2 * d) in
+    let s = suc_times (neg_ℤ (pos q)) (2 * d) in
+    floor_quotient_unique (((negsuc a +ℤ negsuc a) +ℤ negsuc 0) +ℤ pos d) (neg_ℤ (pos q)) (2 * d) (omega arith) (record { below = omega (arith, ints); above = omega (arith, ints) })
+
 -- ---- sizes
 
 pub even_size : (x : ℤ) (d : ℕ) → 0 < d → nat_abs (rounded x (pos d) Even *ℤ pos d) ≤ nat_abs x + d
@@ -106,9 +163,6 @@ even_size x d h =
     let i = rounded_is x (pos d) Even (above_zero d h) in
     let n = i.near in
     omega (arith, ints)
-
-pub double_out : (q d : ℕ) → q * (2 * d) ≡ 2 * (q * d)
-double_out q d = omega arith
 
 half_up_size : (a d : ℕ) → (2 * a + d) / (2 * d) * d ≤ a + d
 half_up_size a d =

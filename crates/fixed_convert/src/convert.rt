@@ -1,11 +1,13 @@
 //! Numbers of one format in another.
 
+ghost use Rattle.std.specs.Prelude.{◌≡◌};
+ghost use Rattle.fixed_word.specs.Format.{clamp};
 ghost use Rattle.fixed_word.specs.Standing.{StandsFor};
 ghost use Rattle.fixed_convert.specs.Convert.{exact_convert, rounded_convert};
 
 use crate::castable::Castable;
-use crate::moved::{lowered, lowered_round, raised};
-use fixed_word::{Outcome, Rounding};
+use crate::moved::{lowered, lowered_clamped, lowered_round, raised};
+use fixed_word::{Outcome, Rounding, saturating_of};
 
 /// `a / 2^from` in units of `2^-to`, rounded down.
 #[inline]
@@ -34,5 +36,23 @@ pub fn convert_round_of<S: Castable, T: Castable>(
         raised(a, to - from)
     } else {
         lowered_round(a, from - to, rounding)
+    }
+}
+
+/// The word nearest to `a / 2^from` in units of `2^-to`, rounded.
+#[inline]
+pub fn saturating_convert_of<S: Castable, T: Castable>(
+    a: S,
+    from: u32,
+    to: u32,
+    rounding: Rounding,
+) -> T
+    ensures { T.value result
+        ≡ clamp T.SIGNED T.BITS (rounded_convert (S.value a) from to rounding) }
+{
+    if from <= to {
+        saturating_of(raised(a, to - from))
+    } else {
+        lowered_clamped(a, from - to, rounding)
     }
 }

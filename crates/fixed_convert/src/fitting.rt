@@ -3,8 +3,8 @@
 //! Both functions answer the same. In loops the first is faster for numbers that were moved up, where its ends become
 //! ends of what was moved; the second can become one instruction for those that were moved down.
 
-ghost use Rattle.std.specs.Prelude.{◌≡◌};
-ghost use Rattle.fixed_word.specs.Format.{wrap};
+ghost use Rattle.std.specs.Prelude.{◌≡◌, int_lt, if◌then◌else◌};
+ghost use Rattle.fixed_word.specs.Format.{clamp, wrap};
 ghost use Rattle.fixed_word.specs.Standing.{StandsFor, side_of};
 
 use crate::castable::Castable;
@@ -59,5 +59,28 @@ fn side_by_bits<T: Castable>(number: i128, wrapped: T) -> Side
         Side::Below
     } else {
         Side::Above
+    }
+}
+
+/// The word nearest to the number. The number is clamped before it is cut, which loops do in one instruction.
+#[inline(always)]
+pub(crate) fn clamped<T: Castable>(number: i128) -> T
+    ensures { T.value result ≡ clamp T.SIGNED T.BITS number }
+{
+    T::from_wide(nearest_from(number, T::MIN.to_wide(), T::MAX.to_wide()))
+}
+
+/// The nearest number from `least` to `most`.
+#[inline(always)]
+fn nearest_from(number: i128, least: i128, most: i128) -> i128
+    ensures { result ≡ (if int_lt number least then least
+        else (if int_lt most number then most else number)) }
+{
+    if number < least {
+        least
+    } else if most < number {
+        most
+    } else {
+        number
     }
 }

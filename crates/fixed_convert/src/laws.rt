@@ -1,10 +1,11 @@
 //! Laws of the definitions. These functions do nothing: each contract is the law.
 
-ghost use Rattle.std.specs.Prelude.{◌≡◌, ◌<◌, ◌≤◌, ◌*◌, ◌-◌, ◌^◌, ◌<ℤ◌, ◌≤ℤ◌, ◌+ℤ◌, ◌-ℤ◌, ◌*ℤ◌, ℕ, ℤ, pos, nat_abs};
+ghost use Rattle.std.specs.Prelude.{◌≡◌, ◌<◌, ◌≤◌, ◌*◌, ◌-◌, ◌^◌, ◌<ℤ◌, ◌≤ℤ◌, ◌+◌, ◌+ℤ◌, ◌-ℤ◌, ◌*ℤ◌, ℕ, ℤ, Bool, true, false, pos, nat_abs};
+ghost use Rattle.fixed_word.specs.Format.{InRange};
 ghost use Rattle.fixed_word.specs.declared.rounding.Rounding.{Rounding};
 ghost use Rattle.fixed_word.specs.declared.rounding.Rounding.TheVariants.{Down};
 ghost use Rattle.fixed_convert.specs.Convert.{exact_convert, rounded_convert};
-ghost use Rattle.fixed_convert.specs.WholeNumber.{exact_ceil, exact_floor, exact_round};
+ghost use Rattle.fixed_convert.specs.WholeNumber.{exact_ceil, exact_floor, exact_frac, exact_round};
 
 /// A conversion that names no rounding rounds down. To units that are not larger nothing is rounded, and on the way
 /// back the number is found again.
@@ -14,6 +15,28 @@ pub fn convert_law()
         → rounded_convert a f g r ≡ a *ℤ pos (2 ^ (g - f)) }
     ensures back { (a : ℤ) (f g : ℕ) (r s : Rounding) → f ≤ g
         → rounded_convert (rounded_convert a f g r) g f s ≡ a }
+{}
+
+/// A conversion keeps the order of numbers, with any rounding.
+pub fn order_law()
+    ensures { (a b : ℤ) (f g : ℕ) (r : Rounding) → a ≤ℤ b
+        → rounded_convert a f g r ≤ℤ rounded_convert b f g r }
+{}
+
+/// A number of n bits, f of them behind the point, fits a format of m bits, g of them behind the point, where that has
+/// no fewer bits on either side of the point; an unsigned number fits a signed format with one more before the point.
+pub fn wider_law()
+    ensures same_sign { (s : Bool) (n m f g : ℕ) (a : ℤ) (r : Rounding) → 0 < n → f ≤ g
+        → n + g ≤ m + f → InRange s n a → InRange s m (rounded_convert a f g r) }
+    ensures unsigned { (n m f g : ℕ) (a : ℤ) (r : Rounding) → f ≤ g
+        → n + g < m + f → InRange false n a → InRange true m (rounded_convert a f g r) }
+{}
+
+/// The floor and the fractional part are together the number, and the fractional part is from 0 to less than 1.
+pub fn parts_law()
+    ensures sum { (a : ℤ) (f : ℕ) → exact_floor a f +ℤ exact_frac a f ≡ a }
+    ensures part { (a : ℤ) (f : ℕ)
+        → (pos 0 ≤ℤ exact_frac a f) × (exact_frac a f <ℤ pos (2 ^ f)) }
 {}
 
 /// The floor lies less than a whole number below, the ceiling less than one above, and a rounded number at most half

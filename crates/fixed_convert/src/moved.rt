@@ -2,12 +2,13 @@
 
 ghost use Rattle.std.specs.Prelude.{◌≡◌, ◌≤◌, ◌^◌, ◌*ℤ◌, ◌<ℤ◌, ℕ, pos};
 ghost use Rattle.fixed_word.specs.declared.outcome.Side.TheVariants.{Above, Below, Fits};
+ghost use Rattle.fixed_word.specs.Format.{clamp};
 ghost use Rattle.fixed_word.specs.Quotient.{floor_quotient};
 ghost use Rattle.fixed_word.specs.Standing.{StandsFor};
 ghost use Rattle.fixed_kernel.specs.Rounded.{rounded};
 
 use crate::castable::Castable;
-use crate::fitting::{fitted_by_bits, fitted_by_ends};
+use crate::fitting::{clamped, fitted_by_bits, fitted_by_ends};
 use crate::quotients::rounded_at;
 use fixed_word::{Integer, Outcome, RawWord, Rounding, Side, Valued};
 
@@ -70,6 +71,15 @@ pub(crate) fn lowered_round<S: Castable, T: Castable>(
         (rounded (S.value a) (pos (2 ^ by)) rounding) result }
 {
     fitted_by_bits(rounded_at(a.to_wide(), at_most(by), rounding))
+}
+
+/// The word nearest to `a / 2^by`, rounded.
+#[inline]
+pub(crate) fn lowered_clamped<S: Castable, T: Castable>(a: S, by: u32, rounding: Rounding) -> T
+    ensures { T.value result
+        ≡ clamp T.SIGNED T.BITS (rounded (S.value a) (pos (2 ^ by)) rounding) }
+{
+    clamped(rounded_at(a.to_wide(), at_most(by), rounding))
 }
 
 /// As many places as leave the same of a word, 66 at most: a quotient by `2^66` or more is smaller than a quarter.

@@ -7,3 +7,4 @@ pub mod Packing
 pub mod Nearer
 pub mod Exact
 pub mod Products
+pub mod Ends

@@ -1,9 +1,10 @@
 -- What a float is as a number of units, and which float a number of units is.
 -- A finite float is `fin s m e`: the number m * 2 ^ e, or minus it where s is true. `up e` over `down e` is 2 ^ e.
-use Rattle.std.specs.Prelude.{◌≡◌, ◌*◌, ◌^◌, ℕ, ℤ, Bool, true, false, suc, pos, negsuc, Option, Some, None}
+use Rattle.std.specs.Prelude.{◌≡◌, ◌*◌, ◌^◌, ℕ, ℤ, Bool, true, false, suc, pos, negsuc, Option, Some, None, if◌then◌else◌}
 use Rattle.std.specs.Float.{Float, Format, nan, inf, fin}
 use Rattle.std.specs.Float.Ieee.{up, down, round}
-use Rattle.fixed_word.specs.Format.{with_sign}
+use Rattle.fixed_word.specs.Format.{highest, lowest, with_sign}
+use Rattle.fixed_word.specs.Policies.{saturating}
 use Rattle.fixed_word.specs.Standing.{StandsFor}
 use Rattle.fixed_word.specs.declared.outcome.Outcome.{Outcome}
 use Rattle.fixed_word.specs.declared.rounding.Rounding.{Rounding}
@@ -14,6 +15,12 @@ abbrev pub units_of_float : Float → ℕ → Rounding → Option ℤ
 units_of_float nan g r = None
 units_of_float (inf s) g r = None
 units_of_float (fin s m e) g r = Some (rounded (with_sign s (m * up e * 2 ^ g)) (pos (down e)) r)
+
+-- the same, held at the ends of a range; an infinity is at the end on its side
+abbrev pub saturated_float : Bool → ℕ → Float → ℕ → Rounding → Option ℤ
+saturated_float signed n nan g r = None
+saturated_float signed n (inf s) g r = Some (if s then lowest signed n else highest signed n)
+saturated_float signed n (fin s m e) g r = saturating signed n (units_of_float (fin s m e) g r)
 
 -- the float nearest to a over 2 ^ g; of two as near, the one whose last bit is 0
 abbrev pub nearest_float : Format → ℤ → ℕ → Float

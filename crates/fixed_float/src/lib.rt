@@ -7,14 +7,14 @@
 #![tactic(auto)]
 
 mod binary;
+mod held;
 mod incoming;
 pub mod laws;
 mod lowered;
-mod numbers;
 mod outgoing;
 mod parts;
 
 pub use binary::Binary;
+pub use held::saturating_float_of;
 pub use incoming::{from_float_of, from_float_round_of};
-pub use numbers::FloatNumber;
 pub use outgoing::to_float_of;

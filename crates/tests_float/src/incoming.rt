@@ -1,6 +1,7 @@
 //! Numbers from floats.
 
-use fixed_float::{Binary, FloatNumber, from_float_round_of};
+use fixed_cast::{FromNum, ToNum};
+use fixed_float::from_float_round_of;
 use fixed_num::{FixedI8, FixedI32, FixedI64, FixedU64};
 use fixed_word::{Rounding, checked_of};
 
@@ -24,41 +25,32 @@ fn worked_numbers(rt: HostRuntime) {
         (f64::NAN, None),
     ];
     for (float, bits) in rows {
-        let found = FixedI32::<16>::checked_from_float(float);
+        let found = FixedI32::<16>::checked_from_num(float);
         assert_eq!(rt; found.map(FixedI32::to_bits), bits);
-    }
-}
-
-/// The wrapped number and the verdict, of a finite float.
-fn wrapped<X: Binary>(x: X) -> Option<(FixedI8<4>, bool)> {
-    if x.widened().is_finite() {
-        let (number, past) = FixedI8::<4>::overflowing_from_float(x);
-        Some((
-            number,
-            past || FixedI8::<4>::wrapping_from_float(x) != number,
-        ))
-    } else {
-        None
     }
 }
 
 #[test]
 fn by_policy(rt: HostRuntime) {
-    assert_eq!(rt; wrapped(8.5_f32), Some((FixedI8 { bits: -120 }, true)));
-    assert_eq!(rt; wrapped(-7.9375_f64), Some((FixedI8 { bits: -127 }, false)));
-    assert_eq!(rt; wrapped(f32::NAN), None);
+    assert_eq!(rt; FixedI8::<4>::from_num(1.5), FixedI8 { bits: 24 });
     assert_eq!(rt;
-        FixedI64::<0>::saturating_from_float(1e19_f32).bits,
-        i64::MAX
+        FixedI8::<4>::overflowing_from_num(8.5_f32),
+        (FixedI8 { bits: -120 }, true)
     );
     assert_eq!(rt;
-        FixedU64::<64>::saturating_from_float(f32::NEG_INFINITY).bits,
+        FixedI8::<4>::wrapping_from_num(-7.9375),
+        FixedI8 { bits: -127 }
+    );
+    assert_eq!(rt; FixedI64::<0>::saturating_from_num(1e19_f32).bits, i64::MAX);
+    assert_eq!(rt;
+        FixedU64::<64>::saturating_from_num(f32::NEG_INFINITY).bits,
         0
     );
     assert_eq!(rt;
-        FixedU64::<64>::saturating_from_float(f64::INFINITY).bits,
+        FixedU64::<64>::saturating_from_num(f64::INFINITY).bits,
         u64::MAX
     );
+    assert_eq!(rt; (-2.5).checked_to_num::<i32>(), Some(-2));
 }
 
 /// A float in units of a quarter, where it fits.
@@ -75,5 +67,12 @@ fn by_rounding(rt: HostRuntime) {
     ];
     for (rounding, number) in rows {
         assert_eq!(rt; in_quarters(-1.3125, rounding), number);
+        assert_eq!(rt;
+            (-5.25_f64).checked_to_num_round::<i16>(rounding),
+            Some(match rounding {
+                Rounding::Down => -6,
+                Rounding::Zero | Rounding::Even => -5,
+            })
+        );
     }
 }

@@ -1,6 +1,6 @@
 //! Floats from numbers.
 
-use fixed_float::FloatNumber;
+use fixed_cast::{FromNum, ToFloat};
 use fixed_num::{FixedI8, FixedI64, FixedU64};
 
 #[test]
@@ -23,6 +23,7 @@ fn worked_floats(rt: HostRuntime) {
 #[test]
 fn narrow_floats(rt: HostRuntime) {
     assert_eq!(rt; FixedI8::<4> { bits: -127 }.to_float::<f32>(), -7.9375);
+    assert_eq!(rt; (-3_i16).to_float::<f64>(), -3.0);
     assert_eq!(rt;
         FixedU64::<0> { bits: u64::MAX }.to_float::<f32>(),
         18446744073709551616.0
@@ -40,7 +41,7 @@ fn there_and_back(rt: HostRuntime) {
             bits: byte.cast_signed(),
         };
         let (narrow, wide) = (number.to_float::<f32>(), number.to_float::<f64>());
-        assert_eq!(rt; FixedI8::checked_from_float(narrow), Some(number));
-        assert_eq!(rt; FixedI8::checked_from_float(wide), Some(number));
+        assert_eq!(rt; FixedI8::checked_from_num(narrow), Some(number));
+        assert_eq!(rt; FixedI8::checked_from_num(wide), Some(number));
     }
 }

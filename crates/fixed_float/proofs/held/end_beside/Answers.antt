@@ -3,7 +3,7 @@ use Rattle.std.specs.Float.{Float, binary64}
 use lib.Ieee.{lt, of_bits}
 use Rattle.fixed_word.specs.Format.{highest, lowest}
 use Rattle.fixed_float.proofs.Rows.{infinity_sign}
-use Rattle.fixed_float.proofs.numbers.end_beside.Goals as goal
+use Rattle.fixed_float.proofs.held.end_beside.Goals as goal
 
 pub returns-then-widened : goal.returns-then-widened
 returns-then-widened g c = λ s e.

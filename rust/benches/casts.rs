@@ -1,0 +1,225 @@
+//! Nanoseconds an element of conversions in loops over arrays, beside the same loop by hand on native operations.
+//!
+//!     cargo bench --bench casts [WORD..]      (words of a row's name: `saturating`, `f64`)
+//!
+//! Each loop takes 4,096 numbers. Both results are compared first. The least of many short samples counts.
+
+mod draws;
+
+use draws::Draws;
+use std::hint::black_box;
+use std::time::{Duration, Instant};
+use zugyelmas::kernel::Rounding::{Even, Zero};
+use zugyelmas::prelude::*;
+
+/// How many numbers an array has.
+const LENGTH: usize = 4096;
+
+/// How many samples are taken of each side, each of at least so long a time.
+const SAMPLES: u32 = 201;
+const SAMPLE: Duration = Duration::from_micros(20);
+
+/// One pass over the arrays.
+#[inline(never)]
+fn pass<A: Copy, R>(numbers: &[A], results: &mut [R], f: impl Fn(A) -> R) {
+    for (result, number) in results.iter_mut().zip(numbers) {
+        *result = f(*number);
+    }
+}
+
+/// Nanoseconds an element of one sample.
+fn sample(mut pass: impl FnMut()) -> f64 {
+    let start = Instant::now();
+    let mut passes = 0;
+    loop {
+        pass();
+        passes += 1;
+        let taken = start.elapsed();
+        if taken >= SAMPLE {
+            return taken.as_nanos() as f64 / (LENGTH * passes) as f64;
+        }
+    }
+}
+
+/// Prints what a call and the loop by hand take.
+fn row<A: Copy, R: Clone + Default + PartialEq>(
+    name: &str,
+    number: impl Fn(u64) -> A,
+    by_hand: impl Fn(A) -> R + Copy,
+    call: impl Fn(A) -> R + Copy,
+) {
+    let wanted: Vec<String> = std::env::args()
+        .skip(1)
+        .filter(|word| word != "--bench")
+        .collect();
+    if !wanted.is_empty() && !wanted.iter().any(|word| name.contains(word.as_str())) {
+        return;
+    }
+    let mut draws = Draws(42);
+    let numbers: Vec<A> = (0..LENGTH).map(|_| number(draws.next())).collect();
+    let (mut plain, mut typed) = (vec![R::default(); LENGTH], vec![R::default(); LENGTH]);
+    pass(&numbers, &mut plain, by_hand);
+    pass(&numbers, &mut typed, call);
+    assert!(plain == typed, "{name}: both sides agree");
+    let (mut ours, mut theirs) = (f64::MAX, f64::MAX);
+    for _ in 0..SAMPLES {
+        theirs = theirs.min(sample(|| {
+            pass(black_box(&numbers), black_box(&mut plain), by_hand)
+        }));
+        ours = ours.min(sample(|| {
+            pass(black_box(&numbers), black_box(&mut typed), call)
+        }));
+    }
+    println!("{name:44} {theirs:8.3} {ours:8.3} {:6.2}", ours / theirs);
+}
+
+/// A float of about ten bits before the point, half of them below 0.
+fn float(draw: u64) -> f64 {
+    (draw as i32) as f64 / 2097152.0
+}
+
+/// A tie to the even number, by a bias and a mask.
+fn even_by_16(bits: i32) -> i64 {
+    let wide = i64::from(bits);
+    (wide + 32767 + (wide >> 16 & 1)) >> 16
+}
+
+fn formats() {
+    let n32 = |draw: u64| FixedI32::<16>::from_bits(draw as i32);
+    let n16 = |draw: u64| FixedI16::<8>::from_bits(draw as i16);
+    row(
+        "wrapping i16<8> to i32<16>",
+        n16,
+        |a| i32::from(a.to_bits()) << 8,
+        |a| FixedI32::<16>::wrapping_from_num(a).to_bits(),
+    );
+    row(
+        "checked i32<16> to i16<8>",
+        n32,
+        |a| i16::try_from(a.to_bits() >> 8).ok(),
+        |a| FixedI16::<8>::checked_from_num(a).map(Fixed::to_bits),
+    );
+    row(
+        "saturating i32<16> to i16<8>",
+        n32,
+        |a| (a.to_bits() >> 8).clamp(-32768, 32767) as i16,
+        |a| FixedI16::<8>::saturating_from_num(a).to_bits(),
+    );
+    row(
+        "saturating i32<16> to i8<4>",
+        n32,
+        |a| (a.to_bits() >> 12).clamp(-128, 127) as i8,
+        |a| FixedI8::<4>::saturating_from_num(a).to_bits(),
+    );
+    row(
+        "saturating i32<16> to u8<4>",
+        n32,
+        |a| (a.to_bits() >> 12).clamp(0, 255) as u8,
+        |a| FixedU8::<4>::saturating_from_num(a).to_bits(),
+    );
+    row(
+        "saturating i32<16> to i32<8>",
+        n32,
+        |a| a.to_bits() >> 8,
+        |a| FixedI32::<8>::saturating_from_num(a).to_bits(),
+    );
+    row(
+        "saturating i16<8> to i32<28>",
+        n16,
+        |a| (i64::from(a.to_bits()) << 20).clamp(i32::MIN.into(), i32::MAX.into()) as i32,
+        |a| FixedI32::<28>::saturating_from_num(a).to_bits(),
+    );
+}
+
+fn roundings() {
+    let n32 = |draw: u64| FixedI32::<16>::from_bits(draw as i32);
+    row(
+        "wrapping even i32<16> to i32",
+        n32,
+        |a| even_by_16(a.to_bits()) as i32,
+        |a| i32::wrapping_from_num_round(a, Even),
+    );
+    row(
+        "saturating even i32<16> to i16",
+        n32,
+        |a| even_by_16(a.to_bits()).clamp(-32768, 32767) as i16,
+        |a| i16::saturating_from_num_round(a, Even),
+    );
+    row(
+        "wrapping zero i32<16> to i32",
+        n32,
+        |a| a.to_bits() / 65536,
+        |a| i32::wrapping_from_num_round(a, Zero),
+    );
+    row(
+        "wrapping_floor i32<16>",
+        n32,
+        |a| a.to_bits() & !65535,
+        |a| a.wrapping_floor().to_bits(),
+    );
+    row(
+        "wrapping_ceil i32<16>",
+        n32,
+        |a| a.to_bits().wrapping_add(65535) & !65535,
+        |a| a.wrapping_ceil().to_bits(),
+    );
+    row(
+        "wrapping_round i32<16>",
+        n32,
+        |a| a.to_bits().wrapping_add(32768 - i32::from(a.to_bits() < 0)) & !65535,
+        |a| a.wrapping_round().to_bits(),
+    );
+    row(
+        "wrapping_round_ties_even i32<16>",
+        n32,
+        |a| (even_by_16(a.to_bits()) << 16) as i32,
+        |a| a.wrapping_round_ties_even().to_bits(),
+    );
+}
+
+fn floats() {
+    let n32 = |draw: u64| FixedI32::<16>::from_bits(draw as i32);
+    row(
+        "saturating f64 to i32<16>",
+        float,
+        |x| (x * 65536.0).round_ties_even() as i32,
+        |x| FixedI32::<16>::saturating_from_num(x).to_bits(),
+    );
+    row(
+        "wrapping f64 to i32<16>",
+        float,
+        |x| (x * 65536.0).round_ties_even() as i64 as i32,
+        |x| FixedI32::<16>::wrapping_from_num(x).to_bits(),
+    );
+    row(
+        "saturating f32 to i16<8>",
+        |draw| float(draw) as f32,
+        |x| (x * 256.0).round_ties_even() as i16,
+        |x| FixedI16::<8>::saturating_from_num(x).to_bits(),
+    );
+    row(
+        "i32<16> to f64",
+        n32,
+        |a| f64::from(a.to_bits()) / 65536.0,
+        |a| a.to_float::<f64>(),
+    );
+    row(
+        "i32<16> to f32",
+        n32,
+        |a| a.to_bits() as f32 / 65536.0,
+        |a| a.to_float::<f32>(),
+    );
+    row(
+        "i16<8> to f32",
+        |draw| FixedI16::<8>::from_bits(draw as i16),
+        |a| f32::from(a.to_bits()) / 256.0,
+        |a| a.to_float::<f32>(),
+    );
+}
+
+fn main() {
+    println!("{:44} {:>8} {:>8} {:>6}", "", "by hand", "call", "ratio");
+    formats();
+    roundings();
+    floats();
+}
