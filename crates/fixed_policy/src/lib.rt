@@ -9,17 +9,23 @@
 
 mod checked;
 mod checked_products;
+mod checked_rounded;
 pub mod laws;
 mod numbers;
 mod overflowing;
 mod overflowing_products;
+mod overflowing_rounded;
 mod wrapping;
 mod wrapping_products;
+mod wrapping_rounded;
 
 pub use checked::{Checked, CheckedSigned, CheckedUnsigned};
 pub use checked_products::{CheckedMulAdd, CheckedProducts};
+pub use checked_rounded::CheckedRounded;
 pub use fixed_word::{checked_of, overflowing_of, wrapping_of};
 pub use overflowing::{Overflowing, OverflowingSigned, OverflowingUnsigned};
 pub use overflowing_products::{OverflowingMulAdd, OverflowingProducts};
+pub use overflowing_rounded::OverflowingRounded;
 pub use wrapping::{Wrapping, WrappingSigned, WrappingUnsigned};
 pub use wrapping_products::{WrappingMulAdd, WrappingProducts};
+pub use wrapping_rounded::WrappingRounded;

@@ -3,11 +3,12 @@
 ghost use Rattle.std.specs.Prelude.{◌≡◌, ◌≤◌, Some};
 ghost use Rattle.fixed_word.specs.Policies.{overflowing};
 ghost use Rattle.fixed_kernel.specs.Rows.{exact_add_prod, exact_mul_add};
+ghost use Rattle.fixed_kernel.specs.RoundedRows.{rounded_add_prod, rounded_mul_add};
 
 use crate::numbers::overflowing_number;
-use fixed_kernel::{add_prod_of, mul_add_of};
+use fixed_kernel::{add_prod_of, add_prod_round_of, mul_add_of, mul_add_round_of};
 use fixed_num::{Fixed, Held, Number};
-use fixed_word::{RawWord, Word};
+use fixed_word::{RawWord, Rounding, Word};
 
 /// Multiply-add by a factor of G fraction bits.
 pub trait OverflowingMulAdd<const G: u32>: Number {
@@ -17,6 +18,18 @@ pub trait OverflowingMulAdd<const G: u32>: Number {
         requires { G ≤ Self.BITS }
         ensures { Some (Self.number result.0, result.1) ≡ overflowing Self.SIGNED Self.BITS (Some
             (exact_mul_add (Self.number self) (Self.Bits.value mul.bits) (Self.number add) G)) };
+
+    /// The product by `mul`, rounded, plus `add`, wrapped, and whether the sum does not fit.
+    fn overflowing_mul_add_round(
+        self,
+        mul: Fixed<Self::Bits, G>,
+        add: Self,
+        rounding: Rounding,
+    ) -> (Self, bool)
+        requires { G ≤ Self.BITS }
+        ensures { Some (Self.number result.0, result.1) ≡ overflowing Self.SIGNED Self.BITS
+            (Some (rounded_mul_add (Self.number self) (Self.Bits.value mul.bits)
+            (Self.number add) G rounding)) };
 }
 
 impl<T: Word, const F: u32, const G: u32> OverflowingMulAdd<G> for Fixed<T, F> {
@@ -26,6 +39,19 @@ impl<T: Word, const F: u32, const G: u32> OverflowingMulAdd<G> for Fixed<T, F> {
             (Some (exact_mul_add (T.value self.bits) (T.value mul.bits) (T.value add.bits) G)) }
     {
         overflowing_number(mul_add_of(self.bits, mul.bits, add.bits, G))
+    }
+
+    fn overflowing_mul_add_round(
+        self,
+        mul: Fixed<T, G>,
+        add: Self,
+        rounding: Rounding,
+    ) -> (Self, bool)
+        requires { G ≤ T.BITS }
+        ensures { Some (T.value result.0.bits, result.1) ≡ overflowing T.SIGNED T.BITS
+            (Some (rounded_mul_add (T.value self.bits) (T.value mul.bits) (T.value add.bits) G rounding)) }
+    {
+        overflowing_number(mul_add_round_of(self.bits, mul.bits, add.bits, G, rounding))
     }
 }
 
@@ -41,6 +67,21 @@ pub trait OverflowingProducts<const A: u32, const B: u32>: Number {
         ensures { Some (Self.number result.0, result.1)
             ≡ overflowing Self.SIGNED Self.BITS (Some (exact_add_prod (Self.number self)
             (Self.Bits.value a.bits) (Self.Bits.value b.bits) Self.FRACTION A B)) };
+
+    /// The number plus the product of `a` and `b`, which is rounded to the number's fraction bits,
+    /// wrapped, and whether the sum does not fit.
+    fn overflowing_add_prod_round(
+        self,
+        a: Fixed<Self::Bits, A>,
+        b: Fixed<Self::Bits, B>,
+        rounding: Rounding,
+    ) -> (Self, bool)
+        requires fraction { Self.FRACTION ≤ Self.BITS }
+        requires a { A ≤ Self.BITS }
+        requires b { B ≤ Self.BITS }
+        ensures { Some (Self.number result.0, result.1) ≡ overflowing Self.SIGNED Self.BITS
+            (Some (rounded_add_prod (Self.number self) (Self.Bits.value a.bits) (Self.Bits.value b.bits)
+            Self.FRACTION A B rounding)) };
 
     /// Stores what `overflowing_add_prod` answers, under its condition, and answers its verdict.
     fn overflowing_mul_acc(&mut self, a: Fixed<Self::Bits, A>, b: Fixed<Self::Bits, B>) -> bool
@@ -61,6 +102,21 @@ impl<T: Word, const F: u32, const A: u32, const B: u32> OverflowingProducts<A, B
             (Some (exact_add_prod (T.value self.bits) (T.value a.bits) (T.value b.bits) F A B)) }
     {
         overflowing_number(add_prod_of(self.bits, a.bits, b.bits, F, A, B))
+    }
+
+    fn overflowing_add_prod_round(
+        self,
+        a: Fixed<T, A>,
+        b: Fixed<T, B>,
+        rounding: Rounding,
+    ) -> (Self, bool)
+        requires fraction { F ≤ T.BITS }
+        requires a { A ≤ T.BITS }
+        requires b { B ≤ T.BITS }
+        ensures { Some (T.value result.0.bits, result.1) ≡ overflowing T.SIGNED T.BITS
+            (Some (rounded_add_prod (T.value self.bits) (T.value a.bits) (T.value b.bits) F A B rounding)) }
+    {
+        overflowing_number(add_prod_round_of(self.bits, a.bits, b.bits, F, A, B, rounding))
     }
 
     fn overflowing_mul_acc(&mut self, a: Fixed<T, A>, b: Fixed<T, B>) -> bool

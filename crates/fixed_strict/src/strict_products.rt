@@ -3,10 +3,11 @@
 ghost use Rattle.std.specs.Prelude.{◌≡◌, ◌≤◌};
 ghost use Rattle.fixed_word.specs.Format.{InRange};
 ghost use Rattle.fixed_kernel.specs.Rows.{exact_add_prod, exact_mul_add};
+ghost use Rattle.fixed_kernel.specs.RoundedRows.{rounded_add_prod, rounded_mul_add};
 
-use fixed_kernel::{add_prod_of, mul_add_of};
+use fixed_kernel::{add_prod_of, add_prod_round_of, mul_add_of, mul_add_round_of};
 use fixed_num::{Fixed, Held, Number, exact_number};
-use fixed_word::{RawWord, Word};
+use fixed_word::{RawWord, Rounding, Word};
 
 /// Multiply-add by a factor of G fraction bits.
 pub trait StrictMulAdd<const G: u32>: Number {
@@ -18,6 +19,14 @@ pub trait StrictMulAdd<const G: u32>: Number {
             (exact_mul_add (Self.number self) (Self.Bits.value mul.bits) (Self.number add) G) }
         ensures { Self.number result
             ≡ exact_mul_add (Self.number self) (Self.Bits.value mul.bits) (Self.number add) G };
+
+    /// The product by `mul`, rounded, plus `add`. The sum has to fit.
+    fn strict_mul_add_round(self, mul: Fixed<Self::Bits, G>, add: Self, rounding: Rounding) -> Self
+        requires fraction { G ≤ Self.BITS }
+        requires fits { InRange Self.SIGNED Self.BITS
+            (rounded_mul_add (Self.number self) (Self.Bits.value mul.bits) (Self.number add) G rounding) }
+        ensures { Self.number result
+            ≡ rounded_mul_add (Self.number self) (Self.Bits.value mul.bits) (Self.number add) G rounding };
 }
 
 impl<T: Word, const F: u32, const G: u32> StrictMulAdd<G> for Fixed<T, F> {
@@ -29,6 +38,16 @@ impl<T: Word, const F: u32, const G: u32> StrictMulAdd<G> for Fixed<T, F> {
             ≡ exact_mul_add (T.value self.bits) (T.value mul.bits) (T.value add.bits) G }
     {
         exact_number(mul_add_of(self.bits, mul.bits, add.bits, G))
+    }
+
+    fn strict_mul_add_round(self, mul: Fixed<T, G>, add: Self, rounding: Rounding) -> Self
+        requires fraction { G ≤ T.BITS }
+        requires fits { InRange T.SIGNED T.BITS
+            (rounded_mul_add (T.value self.bits) (T.value mul.bits) (T.value add.bits) G rounding) }
+        ensures { T.value result.bits
+            ≡ rounded_mul_add (T.value self.bits) (T.value mul.bits) (T.value add.bits) G rounding }
+    {
+        exact_number(mul_add_round_of(self.bits, mul.bits, add.bits, G, rounding))
     }
 }
 
@@ -44,6 +63,24 @@ pub trait StrictProducts<const A: u32, const B: u32>: Number {
             (Self.Bits.value a.bits) (Self.Bits.value b.bits) Self.FRACTION A B) }
         ensures { Self.number result ≡ exact_add_prod (Self.number self)
             (Self.Bits.value a.bits) (Self.Bits.value b.bits) Self.FRACTION A B };
+
+    /// The number plus the product of `a` and `b`, which is rounded to the number's fraction bits. The
+    /// sum has to fit.
+    fn strict_add_prod_round(
+        self,
+        a: Fixed<Self::Bits, A>,
+        b: Fixed<Self::Bits, B>,
+        rounding: Rounding,
+    ) -> Self
+        requires fraction { Self.FRACTION ≤ Self.BITS }
+        requires a { A ≤ Self.BITS }
+        requires b { B ≤ Self.BITS }
+        requires fits { InRange Self.SIGNED Self.BITS
+            (rounded_add_prod (Self.number self) (Self.Bits.value a.bits) (Self.Bits.value b.bits)
+            Self.FRACTION A B rounding) }
+        ensures { Self.number result
+            ≡ rounded_add_prod (Self.number self) (Self.Bits.value a.bits) (Self.Bits.value b.bits)
+            Self.FRACTION A B rounding };
 
     /// Stores what `strict_add_prod` answers, under its condition.
     fn strict_mul_acc(&mut self, a: Fixed<Self::Bits, A>, b: Fixed<Self::Bits, B>)
@@ -67,6 +104,18 @@ impl<T: Word, const F: u32, const A: u32, const B: u32> StrictProducts<A, B> for
             ≡ exact_add_prod (T.value self.bits) (T.value a.bits) (T.value b.bits) F A B }
     {
         exact_number(add_prod_of(self.bits, a.bits, b.bits, F, A, B))
+    }
+
+    fn strict_add_prod_round(self, a: Fixed<T, A>, b: Fixed<T, B>, rounding: Rounding) -> Self
+        requires fraction { F ≤ T.BITS }
+        requires a { A ≤ T.BITS }
+        requires b { B ≤ T.BITS }
+        requires fits { InRange T.SIGNED T.BITS
+            (rounded_add_prod (T.value self.bits) (T.value a.bits) (T.value b.bits) F A B rounding) }
+        ensures { T.value result.bits
+            ≡ rounded_add_prod (T.value self.bits) (T.value a.bits) (T.value b.bits) F A B rounding }
+    {
+        exact_number(add_prod_round_of(self.bits, a.bits, b.bits, F, A, B, rounding))
     }
 
     fn strict_mul_acc(&mut self, a: Fixed<T, A>, b: Fixed<T, B>)

@@ -16,6 +16,8 @@ mod plain;
 #[cfg(test)]
 mod products;
 #[cfg(test)]
+mod rounded;
+#[cfg(test)]
 mod rows;
 #[cfg(test)]
 mod signs;

@@ -1,0 +1,60 @@
+//! The `wrapping_` calls with a named rounding. They are this project's own.
+
+ghost use Rattle.std.specs.Prelude.{◌≡◌, ◌≤◌, ◌≢◌, pos, Some};
+ghost use Rattle.fixed_word.specs.Policies.{wrapping};
+ghost use Rattle.fixed_kernel.specs.Rounded.{rounded};
+ghost use Rattle.fixed_kernel.specs.RoundedRows.{rounded_div, rounded_mul, rounded_recip};
+
+use crate::numbers::wrapping_number;
+use fixed_kernel::{div_int_round_of, div_round_of, mul_round_of, recip_round_of};
+use fixed_num::{Fixed, Held, Number};
+use fixed_word::{RawWord, Rounding, Word};
+
+/// The `wrapping_` calls of all numbers that round as the caller says. Operands and results are bits,
+/// in units of `2^-F`; an integer operand is a whole number. Every fraction has to be at most the
+/// width.
+pub trait WrappingRounded: Number {
+    /// The product, rounded, wrapped.
+    fn wrapping_mul_round(self, rhs: Self, rounding: Rounding) -> Self
+        requires { Self.FRACTION ≤ Self.BITS }
+        ensures { Some (Self.number result) ≡ wrapping Self.SIGNED Self.BITS
+            (Some (rounded_mul (Self.number self) (Self.number rhs) Self.FRACTION rounding)) };
+
+    /// The quotient, rounded, wrapped.
+    fn wrapping_div_round(self, rhs: Self, rounding: Rounding) -> Self
+        requires fraction { Self.FRACTION ≤ Self.BITS }
+        requires divisor { Self.number rhs ≢ pos 0 }
+        ensures { Some (Self.number result) ≡ wrapping Self.SIGNED Self.BITS
+            (Some (rounded_div (Self.number self) (Self.number rhs) Self.FRACTION rounding)) };
+
+    /// One over the number, rounded, wrapped.
+    fn wrapping_recip_round(self, rounding: Rounding) -> Self
+        requires fraction { Self.FRACTION ≤ Self.BITS }
+        requires divisor { Self.number self ≢ pos 0 }
+        ensures { Some (Self.number result) ≡ wrapping Self.SIGNED Self.BITS
+            (Some (rounded_recip (Self.number self) Self.FRACTION rounding)) };
+
+    /// The quotient by an integer, rounded, wrapped.
+    fn wrapping_div_int_round(self, rhs: Self::Bits, rounding: Rounding) -> Self
+        requires { Self.Bits.value rhs ≢ pos 0 }
+        ensures { Some (Self.number result) ≡ wrapping Self.SIGNED Self.BITS
+            (Some (rounded (Self.number self) (Self.Bits.value rhs) rounding)) };
+}
+
+impl<T: Word, const F: u32> WrappingRounded for Fixed<T, F> {
+    fn wrapping_mul_round(self, rhs: Self, rounding: Rounding) -> Self {
+        wrapping_number(mul_round_of(self.bits, rhs.bits, F, rounding))
+    }
+
+    fn wrapping_div_round(self, rhs: Self, rounding: Rounding) -> Self {
+        wrapping_number(div_round_of(self.bits, rhs.bits, F, rounding))
+    }
+
+    fn wrapping_recip_round(self, rounding: Rounding) -> Self {
+        wrapping_number(recip_round_of(self.bits, F, rounding))
+    }
+
+    fn wrapping_div_int_round(self, rhs: Self::Bits, rounding: Rounding) -> Self {
+        wrapping_number(div_int_round_of(self.bits, rhs, rounding))
+    }
+}

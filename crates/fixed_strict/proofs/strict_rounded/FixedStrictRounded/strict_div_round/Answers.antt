@@ -1,0 +1,4 @@
+use Rattle.fixed_strict.proofs.strict_rounded.FixedStrictRounded.strict_div_round.Goals as goal
+
+pub returns : goal.returns
+returns g c = c.exact_number.ensures _ c.div_round_of.ensures c.requires.fits
