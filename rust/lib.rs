@@ -177,18 +177,27 @@ pub use num::{
     Held, Number,
 };
 pub use ops::{Plain, PlainMulAdd, PlainProducts, PlainSigned, PlainUnsigned, product, sum};
-pub use policy::{Checked, CheckedMulAdd, CheckedProducts, CheckedSigned, CheckedUnsigned};
 pub use policy::{
-    Overflowing, OverflowingMulAdd, OverflowingProducts, OverflowingSigned, OverflowingUnsigned,
+    Checked, CheckedMulAdd, CheckedProducts, CheckedRounded, CheckedSigned, CheckedUnsigned,
 };
-pub use policy::{Wrapping, WrappingMulAdd, WrappingProducts, WrappingSigned, WrappingUnsigned};
+pub use policy::{
+    Overflowing, OverflowingMulAdd, OverflowingProducts, OverflowingRounded, OverflowingSigned,
+    OverflowingUnsigned,
+};
+pub use policy::{
+    Wrapping, WrappingMulAdd, WrappingProducts, WrappingRounded, WrappingSigned, WrappingUnsigned,
+};
 pub use poly::{PolyReply, horner, horner_of};
 pub use strict::{
-    Saturating, SaturatingMulAdd, SaturatingProducts, SaturatingSigned, SaturatingUnsigned,
+    Saturating, SaturatingMulAdd, SaturatingProducts, SaturatingRounded, SaturatingSigned,
+    SaturatingUnsigned,
 };
-pub use strict::{Strict, StrictMulAdd, StrictProducts, StrictSigned, StrictUnsigned};
 pub use strict::{
-    Unwrapped, UnwrappedMulAdd, UnwrappedProducts, UnwrappedSigned, UnwrappedUnsigned,
+    Strict, StrictMulAdd, StrictProducts, StrictRounded, StrictSigned, StrictUnsigned,
+};
+pub use strict::{
+    Unwrapped, UnwrappedMulAdd, UnwrappedProducts, UnwrappedRounded, UnwrappedSigned,
+    UnwrappedUnsigned,
 };
 pub use word::{RawWord, SignedWord, UnsignedWord, Word};
 
@@ -196,23 +205,33 @@ pub use word::{RawWord, SignedWord, UnsignedWord, Word};
 /// `Wrapping`, stay in scope beside `use std::num::Wrapping`.
 pub mod prelude {
     pub use crate::{Binary as _, Saturating as _, Wrapping as _};
-    pub use crate::{Checked, CheckedMulAdd, CheckedProducts, CheckedSigned, CheckedUnsigned};
+    pub use crate::{
+        Checked, CheckedMulAdd, CheckedProducts, CheckedRounded, CheckedSigned, CheckedUnsigned,
+    };
     pub use crate::{
         Constants, Fixed, FixedI8, FixedI16, FixedI32, FixedI64, FixedU8, FixedU16, FixedU32,
         FixedU64, Held, Number,
     };
     pub use crate::{FromNum, Order, ToFloat, ToNum, ToWhole};
     pub use crate::{
-        Overflowing, OverflowingMulAdd, OverflowingProducts, OverflowingSigned, OverflowingUnsigned,
+        Overflowing, OverflowingMulAdd, OverflowingProducts, OverflowingRounded, OverflowingSigned,
+        OverflowingUnsigned,
     };
     pub use crate::{Plain, PlainMulAdd, PlainProducts, PlainSigned, PlainUnsigned};
     pub use crate::{RawWord, SignedWord, UnsignedWord, Word};
     pub use crate::{
-        Saturating, SaturatingMulAdd, SaturatingProducts, SaturatingSigned, SaturatingUnsigned,
+        Saturating, SaturatingMulAdd, SaturatingProducts, SaturatingRounded, SaturatingSigned,
+        SaturatingUnsigned,
     };
-    pub use crate::{Strict, StrictMulAdd, StrictProducts, StrictSigned, StrictUnsigned};
     pub use crate::{
-        Unwrapped, UnwrappedMulAdd, UnwrappedProducts, UnwrappedSigned, UnwrappedUnsigned,
+        Strict, StrictMulAdd, StrictProducts, StrictRounded, StrictSigned, StrictUnsigned,
     };
-    pub use crate::{Wrapping, WrappingMulAdd, WrappingProducts, WrappingSigned, WrappingUnsigned};
+    pub use crate::{
+        Unwrapped, UnwrappedMulAdd, UnwrappedProducts, UnwrappedRounded, UnwrappedSigned,
+        UnwrappedUnsigned,
+    };
+    pub use crate::{
+        Wrapping, WrappingMulAdd, WrappingProducts, WrappingRounded, WrappingSigned,
+        WrappingUnsigned,
+    };
 }

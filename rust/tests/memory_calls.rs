@@ -10,6 +10,8 @@ use std::path::PathBuf;
 use zugyelmas::kernel::*;
 use zugyelmas::prelude::*;
 
+const ROUNDINGS: [Rounding; 3] = [Rounding::Down, Rounding::Zero, Rounding::Even];
+
 /// Operands with two fraction bits: 9 is 2.25, 4 is 1, 5 is 1.25. The integer 3 is a divisor.
 fn number<T: Word>(bits: u8) -> Fixed<T, 2> {
     let mut number = Fixed::from_bits(T::ZERO);
@@ -56,7 +58,7 @@ fn kernels<T: Word>() {
         overflowing_mul_add(a, b, c, 2),
     ]);
     black_box(round_to_zero_of(a, 2));
-    for rounding in [Rounding::Down, Rounding::Zero, Rounding::Even] {
+    for rounding in ROUNDINGS {
         black_box([
             mul_round_of(a, b, 2, rounding),
             mul_add_round_of(a, b, c, 2, rounding),
@@ -105,6 +107,18 @@ fn checked<T: Word>() {
     ]);
     black_box([a.checked_mul_add(b, c), a.checked_add_prod(b, c)]);
     black_box((a.checked_mul_acc(b, c), a.checked_dot_acc(&[b, c], &[c, b])));
+    for rounding in ROUNDINGS {
+        black_box([
+            a.checked_mul_round(b, rounding),
+            a.checked_div_round(b, rounding),
+            a.checked_recip_round(rounding),
+        ]);
+        black_box([
+            a.checked_div_int_round(k, rounding),
+            a.checked_mul_add_round(b, c, rounding),
+            a.checked_add_prod_round(b, c, rounding),
+        ]);
+    }
 }
 
 fn overflowing<T: Word>() {
@@ -137,6 +151,18 @@ fn overflowing<T: Word>() {
     ]);
     black_box([a.overflowing_mul_add(b, c), a.overflowing_add_prod(b, c)]);
     black_box(a.overflowing_mul_acc(b, c));
+    for rounding in ROUNDINGS {
+        black_box([
+            a.overflowing_mul_round(b, rounding),
+            a.overflowing_div_round(b, rounding),
+            a.overflowing_recip_round(rounding),
+        ]);
+        black_box([
+            a.overflowing_div_int_round(k, rounding),
+            a.overflowing_mul_add_round(b, c, rounding),
+            a.overflowing_add_prod_round(b, c, rounding),
+        ]);
+    }
 }
 
 fn wrapping<T: Word>() {
@@ -167,6 +193,18 @@ fn wrapping<T: Word>() {
     black_box([a.wrapping_mul_add(b, c), a.wrapping_add_prod(b, c)]);
     a.wrapping_mul_acc(b, c);
     black_box(a);
+    for rounding in ROUNDINGS {
+        black_box([
+            a.wrapping_mul_round(b, rounding),
+            a.wrapping_div_round(b, rounding),
+            a.wrapping_recip_round(rounding),
+        ]);
+        black_box([
+            a.wrapping_div_int_round(k, rounding),
+            a.wrapping_mul_add_round(b, c, rounding),
+            a.wrapping_add_prod_round(b, c, rounding),
+        ]);
+    }
 }
 
 fn saturating<T: Word>() {
@@ -199,6 +237,18 @@ fn saturating<T: Word>() {
     ]);
     a.saturating_mul_acc(b, c);
     black_box(a);
+    for rounding in ROUNDINGS {
+        black_box([
+            a.saturating_mul_round(b, rounding),
+            a.saturating_div_round(b, rounding),
+            a.saturating_recip_round(rounding),
+        ]);
+        black_box([
+            a.saturating_div_int_round(k, rounding),
+            a.saturating_mul_add_round(b, c, rounding),
+            a.saturating_add_prod_round(b, c, rounding),
+        ]);
+    }
 }
 
 /// The negative is that of 0, which fits an unsigned word too.
@@ -236,6 +286,18 @@ fn strict<T: Word>() {
     black_box([a.strict_mul_add(b, c), a.strict_add_prod(b, c)]);
     a.strict_mul_acc(b, c);
     black_box(a);
+    for rounding in ROUNDINGS {
+        black_box([
+            a.strict_mul_round(b, rounding),
+            a.strict_div_round(b, rounding),
+            a.strict_recip_round(rounding),
+        ]);
+        black_box([
+            a.strict_div_int_round(k, rounding),
+            a.strict_mul_add_round(b, c, rounding),
+            a.strict_add_prod_round(b, c, rounding),
+        ]);
+    }
 }
 
 fn unwrapped<T: Word>() {
@@ -271,6 +333,18 @@ fn unwrapped<T: Word>() {
     black_box([a.unwrapped_mul_add(b, c), a.unwrapped_add_prod(b, c)]);
     a.unwrapped_mul_acc(b, c);
     black_box(a);
+    for rounding in ROUNDINGS {
+        black_box([
+            a.unwrapped_mul_round(b, rounding),
+            a.unwrapped_div_round(b, rounding),
+            a.unwrapped_recip_round(rounding),
+        ]);
+        black_box([
+            a.unwrapped_div_int_round(k, rounding),
+            a.unwrapped_mul_add_round(b, c, rounding),
+            a.unwrapped_add_prod_round(b, c, rounding),
+        ]);
+    }
 }
 
 fn plain<T: Word>() {

@@ -12,6 +12,11 @@ pub use Rattle.fixed_kernel.specs.Rows
 pub use Rattle.fixed_kernel.specs.Rounded
 pub use Rattle.fixed_kernel.specs.RoundedRows
 pub use Rattle.fixed_kernel.specs.RowLaws
+pub use Rattle.fixed_convert.specs.Convert
+pub use Rattle.fixed_convert.specs.WholeNumber
+pub use Rattle.fixed_decimal.specs.Decimal
+pub use Rattle.fixed_decimal.specs.Text
+pub use Rattle.fixed_num.specs.Shown
 pub use Rattle.fixed_num.specs.Sizes
 pub use Rattle.fixed_policy.specs.DotProduct
 pub use Rattle.fixed_ops.specs.Folds

@@ -13,19 +13,24 @@ pub mod logarithms;
 pub mod roots;
 
 pub use fixed_bits::BitWord;
+pub use fixed_cast::{Castable, FromNum, Numeric, Order, Source, ToFloat, ToNum, ToWhole};
+pub use fixed_decimal::DecimalError;
+pub use fixed_float::Binary;
 pub use fixed_num::{
     Constants, Fixed, FixedI8, FixedI16, FixedI32, FixedI64, FixedU8, FixedU16, FixedU32, FixedU64,
-    Held, Number,
+    FromDecimal, Held, Number,
 };
 pub use fixed_ops::{Plain, PlainMulAdd, PlainProducts, PlainSigned, PlainUnsigned, product, sum};
 pub use fixed_policy::{
-    Checked, CheckedMulAdd, CheckedProducts, CheckedSigned, CheckedUnsigned, Overflowing,
-    OverflowingMulAdd, OverflowingProducts, OverflowingSigned, OverflowingUnsigned, Wrapping,
-    WrappingMulAdd, WrappingProducts, WrappingSigned, WrappingUnsigned,
+    Checked, CheckedMulAdd, CheckedProducts, CheckedRounded, CheckedSigned, CheckedUnsigned,
+    Overflowing, OverflowingMulAdd, OverflowingProducts, OverflowingRounded, OverflowingSigned,
+    OverflowingUnsigned, Wrapping, WrappingMulAdd, WrappingProducts, WrappingRounded,
+    WrappingSigned, WrappingUnsigned,
 };
 pub use fixed_strict::{
-    Saturating, SaturatingMulAdd, SaturatingProducts, SaturatingSigned, SaturatingUnsigned, Strict,
-    StrictMulAdd, StrictProducts, StrictSigned, StrictUnsigned, Unwrapped, UnwrappedMulAdd,
-    UnwrappedProducts, UnwrappedSigned, UnwrappedUnsigned,
+    Saturating, SaturatingMulAdd, SaturatingProducts, SaturatingRounded, SaturatingSigned,
+    SaturatingUnsigned, Strict, StrictMulAdd, StrictProducts, StrictRounded, StrictSigned,
+    StrictUnsigned, Unwrapped, UnwrappedMulAdd, UnwrappedProducts, UnwrappedRounded,
+    UnwrappedSigned, UnwrappedUnsigned,
 };
 pub use fixed_word::{Narrow, RawWord, SignedWord, UnsignedWord, Valued, Word};
