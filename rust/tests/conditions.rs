@@ -113,7 +113,6 @@ stops! {
     cast_nan, "the float is no NaN", Byte::saturating_from_num(f32::NAN);
     cast_strict, "the number fits", Byte::strict_from_num(8);
     cast_unwrapped, "the number fits", 8.0_f32.unwrapped_to_num::<Byte>();
-    cast_fraction, "the fraction is at most the width", past(1).to_float::<f32>();
     root_fraction, "the fraction frac is at most the width",
         root::root(1_u8, 9, &mut word::Steps::new(word::Silent::new()));
     logs_zero, "the number is not 0", logs::int_log10_part(0_u8, &mut word::Steps::new(word::Silent::new()));
@@ -183,8 +182,8 @@ stops_when_debugging! {
     num_integer_first, "the number fits", 2 * Byte::MAX, byte(-2);
     ops_overflow, "the number fits", Byte::MIN.abs(), Byte::MIN;
     ops_sum, "the number fits", ops::sum(&[Byte::MAX, Byte::DELTA]), Byte::MIN;
-    cast_number, "there is a number and it fits", Byte::from_num(8), byte(-128);
-    cast_to_number, "there is a number and it fits", byte(-16).to_num::<u8>(), 255;
+    cast_number, "the number fits", Byte::from_num(8), byte(-128);
+    cast_to_number, "the number fits", byte(-16).to_num::<u8>(), 255;
     ops_product, "the number fits", ops::product(&[Byte::MAX, Byte::MAX]), byte(-16);
 }
 

@@ -199,6 +199,22 @@ fn floats_in_one_format() {
 }
 
 #[test]
+fn floats_by_policy() {
+    assert_eq!(FixedI8::<4>::from_num(1.5), FixedI8::from_bits(24));
+    let (wrapped, past) = FixedI8::<4>::overflowing_from_num(8.5_f32);
+    assert_eq!((wrapped.to_bits(), past), (-120, true));
+    assert_eq!(
+        FixedI8::<4>::wrapping_from_num(-7.9375),
+        FixedI8::from_bits(-127)
+    );
+    assert_eq!(FixedI64::<0>::saturating_from_num(1e19_f32), FixedI64::MAX);
+    assert_eq!(
+        FixedU64::<64>::saturating_from_num(f64::INFINITY),
+        FixedU64::MAX
+    );
+}
+
+#[test]
 fn infinities_are_held_at_their_ends() {
     assert_eq!(
         FixedI16::<4>::saturating_from_num(f32::INFINITY),

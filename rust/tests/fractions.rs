@@ -6,7 +6,7 @@ use std::time::SystemTime;
 use std::{env, fs};
 
 /// Each call that does not compile, and the condition in words.
-const REFUSED: [(&str, &str); 14] = [
+const REFUSED: [(&str, &str); 15] = [
     ("Past::int_nbits()", "the fraction F is at most the width"),
     ("past * past", "the fraction F is at most the width"),
     (
@@ -38,6 +38,10 @@ const REFUSED: [(&str, &str); 14] = [
     (
         "horner(&[past], past)",
         "the fraction F is at most the width",
+    ),
+    (
+        "past.to_float::<f32>()",
+        "the fraction is at most the width",
     ),
     ("byte.wide_mul::<4, 9>(byte)", "H is F + G"),
     ("byte.wide_div::<4, 9>(byte)", "H + G is the width and F"),

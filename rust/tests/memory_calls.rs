@@ -8,6 +8,7 @@ use std::fs;
 use std::hint::black_box;
 use std::path::PathBuf;
 use zugyelmas::kernel::*;
+use zugyelmas::Castable;
 use zugyelmas::prelude::*;
 
 const ROUNDINGS: [Rounding; 3] = [Rounding::Down, Rounding::Zero, Rounding::Even];

@@ -3,7 +3,7 @@
 ghost use Rattle.std.specs.Prelude.{◌≡◌, ◌≤◌};
 ghost use Rattle.fixed_word.specs.declared.rounding.Rounding.TheVariants.{Even};
 ghost use Rattle.fixed_float.specs.Rows.{nearest_float, saturated_float, units_of_float};
-ghost use Rattle.fixed_cast.specs.Saturated.{saturated_is};
+ghost use Rattle.fixed_cast.specs.inside.Saturated.{saturated_is};
 
 use crate::numeric::Numeric;
 use crate::source::Source;

@@ -1,9 +1,9 @@
 //! Numbers from floats.
 
 use fixed_cast::{FromNum, ToNum};
-use fixed_float::from_float_round_of;
-use fixed_num::{FixedI8, FixedI32, FixedI64, FixedU64};
-use fixed_word::{Rounding, checked_of};
+use fixed_float::{Binary, from_float_of, from_float_round_of, saturating_float_of};
+use fixed_num::FixedI32;
+use fixed_word::{Rounding, checked_of, overflowing_of};
 
 #[test]
 fn worked_numbers(rt: HostRuntime) {
@@ -30,26 +30,22 @@ fn worked_numbers(rt: HostRuntime) {
     }
 }
 
+/// The wrapped bits and the verdict, of a finite float.
+fn wrapped<X: Binary>(x: X) -> Option<(i8, bool)> {
+    Some(overflowing_of(from_float_of(x, 4)?))
+}
+
 #[test]
 fn by_policy(rt: HostRuntime) {
-    assert_eq!(rt; FixedI8::<4>::from_num(1.5), FixedI8 { bits: 24 });
-    assert_eq!(rt;
-        FixedI8::<4>::overflowing_from_num(8.5_f32),
-        (FixedI8 { bits: -120 }, true)
-    );
-    assert_eq!(rt;
-        FixedI8::<4>::wrapping_from_num(-7.9375),
-        FixedI8 { bits: -127 }
-    );
-    assert_eq!(rt; FixedI64::<0>::saturating_from_num(1e19_f32).bits, i64::MAX);
-    assert_eq!(rt;
-        FixedU64::<64>::saturating_from_num(f32::NEG_INFINITY).bits,
-        0
-    );
-    assert_eq!(rt;
-        FixedU64::<64>::saturating_from_num(f64::INFINITY).bits,
-        u64::MAX
-    );
+    assert_eq!(rt; wrapped(8.5_f32), Some((-120, true)));
+    assert_eq!(rt; wrapped(-7.9375_f64), Some((-127, false)));
+    assert_eq!(rt; wrapped(f32::NAN), None);
+    let held: i64 = saturating_float_of(1e19_f32, 0, Rounding::Even);
+    assert_eq!(rt; held, i64::MAX);
+    let least: u64 = saturating_float_of(f32::NEG_INFINITY, 64, Rounding::Even);
+    assert_eq!(rt; least, 0);
+    let most: u64 = saturating_float_of(f64::INFINITY, 64, Rounding::Even);
+    assert_eq!(rt; most, u64::MAX);
     assert_eq!(rt; (-2.5).checked_to_num::<i32>(), Some(-2));
 }
 

@@ -1,0 +1,2 @@
+-- What laws of impls alone cite.
+pub mod Saturated
