@@ -1,14 +1,16 @@
-//! Fixed-point numbers whose every call is proved: binary numbers of 8, 16, 32 and 64 bits with 0 to n bits behind
-//! the point, in the words of the Rust crate `fixed`.
+//! Fixed-point numbers, proved: binary numbers of 8, 16, 32 and 64 bits with 0 to n bits behind the point, in the words
+//! of the Rust crate `fixed`.
 //!
 //! ```
 //! use zugyelmas::prelude::*;
 //!
-//! let gain = FixedI32::<16>::from_bits(98304); // 1.5
-//! let level = FixedI32::<16>::from_bits(131072); // 2
-//! assert_eq!(gain.checked_mul(level), Some(FixedI32::from_bits(196608))); // 3
+//! let gain = FixedI32::<16>::from_num(1.5); // 98304 units of 1/65536
+//! let level = FixedI32::<16>::from_num(2);
+//! assert_eq!(gain.checked_mul(level), Some(FixedI32::from_num(3)));
 //! assert_eq!(level.saturating_mul_int(1_000_000), FixedI32::MAX);
-//! assert_eq!(gain * level + 2 * level, FixedI32::from_bits(458752)); // 7
+//! let sum = gain * level + 2 * level;
+//! let tenth = "0.1".parse::<FixedI32<16>>().expect("a decimal"); // 6554 units: the nearest number
+//! assert_eq!(format!("{tenth} {tenth:.6} {}", sum.to_float::<f64>()), "0.1 0.100006 7");
 //!
 //! let (wrapped, past) = FixedI8::<4>::MAX.overflowing_add(FixedI8::DELTA);
 //! assert_eq!((wrapped, past), (FixedI8::MIN, true));
@@ -34,8 +36,8 @@
 //! proved, for every input, to answer what its contract says, to be safe and to return. The build script leaves out
 //! the contracts and the proofs; each call's page ends in its contract as the source states it, under "Proved". So
 //! the checked, saturating, wrapping, overflowing and strict forms of an operation are known to speak of the same
-//! exact whole number, and to differ only in what they do where it does not fit. The repository's `docs/` have the
-//! definitions that the contracts cite.
+//! exact whole number, and to differ only in what they do where it does not fit. "Proved" links to the pages in
+//! [`definitions`](crate::definitions), and [`guide`](crate::guide) says which format and policy to pick.
 //!
 //! # What is trusted
 //!
