@@ -4,38 +4,12 @@
 //! [`read_decimal`], and reads the reply, which is text too ([`reply`], [`reply_length`]). All arithmetic is that of
 //! the proved sources. This file cuts requests into parts and puts replies together.
 
-// The code that is included is the proved sources' own, in the forms of which their proofs speak.
-#![allow(
-    dead_code,
-    drop_bounds,
-    unused_imports,
-    unused_labels,
-    unused_variables
-)]
-#![allow(
-    clippy::manual_map,
-    clippy::manual_range_contains,
-    clippy::match_like_matches_macro,
-    clippy::question_mark,
-    clippy::single_match,
-    clippy::while_let_on_iterator
-)]
-
-#[path = "../rust/program/memory.rs"]
-mod memory;
-
-include!(concat!(env!("OUT_DIR"), "/calculator.rs"));
-
-use crate::text::{WordName, word_of};
-use machine::{Cause, Room, run_in};
-use memory::Global;
-use script::{Line, parse_line};
 use std::cell::RefCell;
-use std::string::String;
-use std::vec::Vec;
+use zugyelmas::calc::{Cause, Line, Room, WordName, parse_line, run_in};
 use zugyelmas::decimal::{DecimalError, decimal_of, exact_places, write_decimal};
-use zugyelmas::word::{Rounding, Side};
-use zugyelmas::*;
+use zugyelmas::memory::Global;
+use zugyelmas::text::word_of;
+use zugyelmas::word::{Rounding, Side, Word};
 
 thread_local! {
     static REQUEST: RefCell<Vec<u8>> = const { RefCell::new(Vec::new()) };
@@ -207,6 +181,7 @@ fn why_no_decimal(error: DecimalError) -> &'static str {
         DecimalError::NoDigits => "no digits",
         DecimalError::InvalidDigit => "invalid digit",
         DecimalError::TooManyPoints => "more than one point",
+        DecimalError::Inexact => "inexact",
         DecimalError::Overflow => "overflow",
     }
 }
