@@ -130,7 +130,7 @@ fn exact_text_of<T: Word>(bits: T, frac: u32) -> String {
 fn decimal_reply(request: &[u8]) -> Option<String> {
     let mut parts = request.splitn(4, |byte| *byte == b' ');
     let word = word_of(parts.next()?)?;
-    let frac = str::from_utf8(parts.next()?).ok()?.parse().ok()?;
+    let frac = std::str::from_utf8(parts.next()?).ok()?.parse().ok()?;
     let rounding = rounding_of(parts.next()?)?;
     let text = parts.next()?;
     match word {

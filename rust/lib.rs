@@ -83,6 +83,8 @@
 // The code below is the proved sources' own, which name the traits of the calls that they use and the operands of laws,
 // and have what only the runs beside the library call.
 #![allow(dead_code, unused_imports, unused_labels, unused_variables)]
+// Before 1.87 rustc has `casts` alone, and says that std will have such calls.
+#![allow(unstable_name_collisions, clippy::incompatible_msrv)]
 // Their links name each target, which the docs of the proved language ask for.
 #![allow(rustdoc::redundant_explicit_links)]
 // Taste, not faults: proved sources keep the forms of which their proofs speak.
@@ -156,6 +158,8 @@ mod sealed {
         impl Sealed for f64 {}
     }
 }
+
+mod casts;
 
 /// What the strict forms know as the numbers: the same, but that the number has to fit in every build.
 mod stopping {

@@ -63,6 +63,9 @@ pub const LEFT_OUT: [&str; 20] = [
 /// What the proved language has by itself, for crates that take memory.
 pub const MEMORY: &str = "use crate::memory::{Drop, String, Vec};\n";
 
+/// What a file names that casts words: std has these calls from Rust 1.87 on.
+pub const CASTS: &str = "use crate::casts::{CastSigned, CastUnsigned};\n";
+
 /// Writes the crates of the library with what the docs of their calls have, and the pages of the docs.
 pub fn write_library(crates: &[&str], with_memory: &[&str]) -> Result<(), String> {
     let pages = Pages::of(crates, with_memory)?;
@@ -235,7 +238,8 @@ impl Modules<'_> {
         };
         names.edit(source, &mut edits);
         let memory = if has_memory { MEMORY } else { "" };
-        Ok(edits.applied(source.text) + memory)
+        let casts = if source.text.contains(".cast_") { CASTS } else { "" };
+        Ok(edits.applied(source.text) + memory + casts)
     }
 
     /// The edits for the modules that a file names. It says which names would be offered by those that are left out.

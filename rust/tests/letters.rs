@@ -6,7 +6,7 @@
 #[allow(dead_code)]
 mod script;
 
-use script::modules::{CALCULATOR, INSIDE, LEFT_OUT, LIBRARY, MEMORY};
+use script::modules::{CALCULATOR, CASTS, INSIDE, LEFT_OUT, LIBRARY, MEMORY};
 use script::tokens::{Kind, code, tokens};
 use std::fs;
 
@@ -158,8 +158,8 @@ fn is_left_out(krate: &str, file: &Sign) -> bool {
 /// What the library has to have of a file, with those that it names.
 fn expected(krate: &str, file: &str, out: &mut Vec<Sign>) {
     let path = format!("crates/fixed_{krate}/src/{file}.rt");
-    let source = fs::read_to_string(&path).expect("a source");
-    let source = signs(&path, &source);
+    let text = fs::read_to_string(&path).expect("a source");
+    let source = signs(&path, &text);
     let mut at = 0;
     while at < source.len() {
         let rest = &source[at..];
@@ -177,6 +177,9 @@ fn expected(krate: &str, file: &str, out: &mut Vec<Sign>) {
     }
     if has_memory(krate) {
         out.extend(signs(&path, MEMORY));
+    }
+    if text.contains(".cast_") {
+        out.extend(signs(&path, CASTS));
     }
 }
 
