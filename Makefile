@@ -1,4 +1,4 @@
-# Builds the library for C by Cargo (Rust 1.87 or later), and installs it on Linux.
+# Builds the library for C by Cargo (Rust 1.85 or later), and installs it on Linux.
 #
 #     make                             builds the static and the shared library
 #     make install PREFIX=/usr/local   installs the header, both libraries, and the files for pkg-config and CMake
