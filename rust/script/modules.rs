@@ -60,6 +60,9 @@ pub const LEFT_OUT: [&str; 20] = [
     "text/running",
 ];
 
+/// The file whose module comes first in its crate, so that the page of `Fixed` begins with its calls.
+pub const FIRST: &str = "num/format";
+
 /// What the proved language has by itself, for crates that take memory.
 pub const MEMORY: &str = "use crate::memory::{Drop, String, Vec};\n";
 
@@ -268,6 +271,12 @@ impl Modules<'_> {
                         source.at_line(*start, "a public module of a file that is not offered");
                     return Err(file.named(&error));
                 }
+                Part::Module(_) if path == FIRST => {
+                    let text = self.written(&path, known)?;
+                    let head = source.slice(&(item.place.start..*start + 1));
+                    edits.insert(first_module(source), &format!("{head} {{\n{text}}}\n"));
+                    edits.remove(source, item.place.clone());
+                }
                 Part::Module(_) => {
                     let text = self.written(&path, known)?;
                     let end = source.tokens[item.place.end - 1].end();
@@ -279,6 +288,16 @@ impl Modules<'_> {
         }
         Ok(left_out)
     }
+}
+
+/// Where the first module of a file is named.
+fn first_module(source: &Source) -> usize {
+    let mut modules = source
+        .items
+        .iter()
+        .filter(|item| matches!(item.part, Part::Module(_)));
+    let first = modules.next().map(|item| bytes(source, &item.place).start);
+    first.unwrap_or_default()
 }
 
 /// The names that an item imports.

@@ -6,7 +6,7 @@
 #[allow(dead_code)]
 mod script;
 
-use script::modules::{CALCULATOR, CASTS, INSIDE, LEFT_OUT, LIBRARY, MEMORY};
+use script::modules::{CALCULATOR, CASTS, FIRST, INSIDE, LEFT_OUT, LIBRARY, MEMORY};
 use script::tokens::{Kind, code, tokens};
 use std::fs;
 
@@ -160,10 +160,20 @@ fn expected(krate: &str, file: &str, out: &mut Vec<Sign>) {
     let path = format!("crates/fixed_{krate}/src/{file}.rt");
     let text = fs::read_to_string(&path).expect("a source");
     let source = signs(&path, &text);
+    let mut first = first_of(krate, file);
     let mut at = 0;
     while at < source.len() {
         let rest = &source[at..];
         let is_module = begin(rest, "mod") && rest[2].text == ";";
+        if let Some(name) = first.take_if(|_| is_module) {
+            out.extend(signs(&path, &format!("mod {name} {{")));
+            expected(krate, name, out);
+            out.extend(signs(&path, "}"));
+        }
+        if is_module && first_of(krate, file) == Some(&rest[1].text) {
+            at += 3;
+            continue;
+        }
         let (text, length) = replaced(krate, rest);
         out.extend(signs("", &text).into_iter().map(|sign| Sign {
             place: rest[0].place.clone(),
@@ -181,6 +191,12 @@ fn expected(krate: &str, file: &str, out: &mut Vec<Sign>) {
     if text.contains(".cast_") {
         out.extend(signs(&path, CASTS));
     }
+}
+
+/// The module that comes first in a crate, if a file begins one that has such a module.
+fn first_of(krate: &str, file: &str) -> Option<&'static str> {
+    let (of, name) = FIRST.split_once('/').expect("a file of a crate");
+    (of == krate && file == "lib").then_some(name)
 }
 
 /// What Rust has in place of the first of some signs, and how many that are.
