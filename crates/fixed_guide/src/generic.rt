@@ -14,5 +14,6 @@ pub fn sum_of_three<N: Checked>(a: N, b: N, c: N) -> Option<N>
         ⊎ (fits N.SIGNED N.BITS (N.number a +ℤ N.number b +ℤ N.number c) ≡ false)) }
 {
     let sum = a.checked_add(b)?;
-    sum.checked_add(c)
+    let total = sum.checked_add(c)?;
+    Some(total)
 }
