@@ -131,6 +131,11 @@ include!(concat!(env!("OUT_DIR"), "/pages.rs"));
 #[cfg(test)]
 include!(concat!(env!("OUT_DIR"), "/tests.rs"));
 
+// Its programs run as doctests.
+#[cfg(doctest)]
+#[doc = include_str!("../docs/COMING_FROM.md")]
+mod coming_from {}
+
 /// Keeps the traits of words to Rust's own integers and floats, since nothing proves what another type would say of
 /// itself.
 mod sealed {
