@@ -62,6 +62,25 @@ fn any_format() {
     assert_eq!(sum_of_three(one, one, one), Some(three));
 }
 
+fn split(amount: FixedU32<8>, part: FixedU32<32>) -> (FixedU32<8>, FixedU32<8>) {
+    let mut share = amount;
+    share *= part;
+    (share, amount - share)
+}
+
+#[test]
+fn a_proof_of_ones_own() {
+    let (share, rest) = split(FixedU32::from_bits(1001), FixedU32::from_num(0.25));
+    assert_eq!((share.to_bits(), rest.to_bits()), (250, 751)); // 250.25 is rounded down
+    let (share, rest) = split(FixedU32::MAX, FixedU32::MAX);
+    assert_eq!((share.to_bits(), rest.to_bits()), (u32::MAX - 1, 1));
+    let page = fs::read_to_string(PathBuf::from(env!("CARGO_MANIFEST_DIR")).join("docs/CALLING.md"));
+    let page = page.expect("the page");
+    for line in ["share *= part;", "(share, amount - share)"] {
+        assert!(page.contains(line), "{line}");
+    }
+}
+
 fn run_again(script: &[u8], room: &mut Room) -> Result<(), RunFault> {
     if !room.suffices(script) {
         *room = Room::for_script(Global, script).map_err(|_| RunFault::Memory)?;
