@@ -72,7 +72,10 @@ mod tests {
         assert_eq!(celsius("-1"), None);
         let (level, temperature) = (Celsius::from_num(20), Celsius::from_num(24));
         assert_eq!(smoothed(level, temperature), Celsius::from_num(21));
-        assert_eq!(smoothed(Celsius::MIN, Celsius::MAX), Celsius::from_num(-24576) - Celsius::DELTA);
+        assert_eq!(
+            smoothed(Celsius::MIN, Celsius::MAX),
+            Celsius::from_num(-24576) - Celsius::DELTA
+        );
         assert_eq!(tenths(Celsius::from_num(22.25)), 222);
         assert_eq!(tenths(Celsius::from_num(22.75)), 228);
         assert_eq!(tenths(Celsius::MAX), i16::MAX);

