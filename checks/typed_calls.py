@@ -33,17 +33,17 @@ def blocks(text, head):
 
 
 def listed_calls():
-    """The calls of the table of operations, with their parameters."""
+    """The calls of the guide's block of operations, with their parameters."""
     calls = {}
-    columns = None
-    for cells in table_rows(GUIDE):
-        if cells[0] == "Operation":
-            columns = [[word for word in POLICIES if word in cell] for cell in cells]
-        elif columns and len(cells) == len(columns):
-            for name in re.findall(r"`(\w+)`", cells[0]):
-                for policies, cell in zip(columns, cells):
-                    for policy in policies if cell == "yes" else []:
-                        calls[f"{policy}_{name}"] = cells[1].strip("`")
+    policies = POLICIES
+    block = next(part for part in (TOP / GUIDE).read_text().split("```text\n") if part.startswith("neg, "))
+    for line in block.split("```")[0].splitlines():
+        if line.endswith(":"):
+            policies = line[:-1].split(", ")
+        names, _, parameters = line.partition("  ")
+        for name in re.findall(r"(\w+)(?:,|$)", names) if not line.endswith(":") else []:
+            for policy in policies:
+                calls[f"{policy}_{name}"] = parameters.strip()
     return calls
 
 
