@@ -1,5 +1,5 @@
-//! Fixed-point numbers, proved: binary numbers of 8, 16, 32 and 64 bits with 0 to n bits behind the point, in the words
-//! of the Rust crate `fixed`.
+//! Fixed-point numbers, proved: binary numbers of 8, 16, 32 and 64 bits with 0 to n fraction bits, with the names and
+//! behaviour of the Rust crate `fixed`.
 //!
 //! ```
 //! use zugyelmas::prelude::*;
@@ -17,8 +17,8 @@
 //! assert_eq!(FixedU8::<8>::from_bits(64).checked_sqrt(), Some(FixedU8::from_bits(128))); // 1/4, 1/2
 //! ```
 //!
-//! Beside the numbers stand [`interval`] with intervals whose ends are rounded outward, [`poly`] with polynomials by
-//! Horner's rule, and in [`filter`] what a filter answers, each with a proved bound on its rounding.
+//! [`interval`] has intervals whose ends are rounded outward, [`poly`] polynomials by Horner's rule, and [`filter`] steps of
+//! a filter, each with a proved bound on its rounding.
 //!
 //! ```
 //! use zugyelmas::{Interval, PolyReply, div_in, horner_of};
@@ -32,52 +32,50 @@
 //!
 //! # What is proved
 //!
-//! The code is that of a library in Rattle, which is Rust with contracts, letter for letter: each public call was
-//! proved, for every input, to answer what its contract says, to be safe and to return. The build script leaves out
-//! the contracts and the proofs; each call's page ends in its contract as the source states it, under "Proved". So
-//! the checked, saturating, wrapping, overflowing and strict forms of an operation are known to speak of the same
-//! exact whole number, and to differ only in what they do where it does not fit. "Proved" links to the pages in
-//! [`definitions`](crate::definitions), and [`guide`](crate::guide) says which format and policy to pick.
+//! The code is that of a library in Rattle, which is Rust with contracts, letter for letter. Each public call was proved,
+//! for every input that meets its preconditions, to return what its contract states, to be safe and to return. The
+//! checked, saturating, wrapping, overflowing and strict forms of an operation share one exact result, and differ only in
+//! what they return if it does not fit. The build script leaves out the contracts and the proofs; the page of each call
+//! ends in its contract, under "Proved", with links to the pages in [`definitions`](crate::definitions).
+//! [`guide`](crate::guide) explains which format and policy to pick.
 //!
 //! # What is trusted
 //!
-//! The proofs are those of the kit `rattle-kit-13b logic dac8208d650f15bf` and speak of its language. That rustc's
+//! The proofs are those of the Rattle toolchain `rattle-kit-13f logic dac8208d650f15bf`, for its language. That rustc's
 //! code does the same rests on:
 //!
 //! - rustc, and the build script, which leaves contracts out and writes assertions in.
-//! - The kit's table of forms that compile in both languages and run differently. None of them is used here
-//!   (`docs/DECISIONS.md` says how that was checked).
-//! - `stopping::exact_number` in `rust/lib.rs`: Rust without a proof, which every strict and unwrapped call makes.
+//! - The toolchain's table of forms that compile in both languages and run differently. `checks/forms_apart.py` finds none
+//!   of them here but those that it lists with a reason.
+//! - `stopping::exact_number` in `rust/lib.rs`, which every strict and unwrapped call makes: Rust without a proof.
 //! - `rust/edge.rs` and `rust/script/references.rs`: operators on references, [`Sum`](core::iter::Sum) and
 //!   [`Product`](core::iter::Product), and replies as results, which forward to proved calls. With a feature also
 //!   `rust/memory.rs`, which forwards to `alloc`.
-//! - A `usize` of 64 bits, as it has in every proof. On a smaller target nothing is proved of lengths and indexes.
+//! - A `usize` of 64 bits, as in every proof. On smaller targets nothing is proved of lengths and indexes.
 //! - Every implementation of this library's traits in another crate. Nothing is proved of one, nor of a generic call
-//!   that uses it. The traits of words and floats are sealed, since a word that misstates itself would break every
-//!   call.
+//!   that uses it. The traits of words and floats are sealed, since a word that misstates itself would break every call.
 //!
 //! The tests of the proved crates run here too.
 //!
 //! # Features
 //!
-//! No feature is on by default, and the library then has no dependency and takes no memory. Both features take memory,
-//! by `alloc`:
+//! No feature is on by default, and the library then has no dependency and does not allocate. Both features allocate:
 //!
 //! - `calc`: the calculator, in the module `calc`. `calc::run` runs a script, `calc::run_in` does so in memory that was
-//!   made before, and `calc::explicit` spells a script out. The program `zugyelmas` asks for this feature.
+//!   allocated before, and `calc::explicit` spells a script out. The program `zugyelmas` requires this feature.
 //! - `runs`: the runs over text, `filter::filter_run`, `poly::poly_run` and `interval::interval_run`, and
 //!   `filter::Bank`, which holds channels of filters.
 //!
 //! # Preconditions
 //!
-//! In the proved language each call site proves the preconditions of the call. Here they are assertions, which the page
-//! of the call names under "Compile errors" or "Panics":
+//! In Rattle each call site proves the preconditions of the call. Here they are assertions, which the page of the call
+//! names under "Compile errors" or "Panics":
 //!
-//! - A fraction above the width is a compile error if it is a constant, and panics if it is an argument.
-//! - Each call but the checked ones panics on a divisor of 0 and on the root of a number below 0.
-//! - The operators, strict and unwrapped forms panic on a shift by the width or more.
-//! - The strict and unwrapped forms panic if the number does not fit. The operators and plain calls do so in builds with
-//!   debug assertions. In other builds they wrap, as those of integers do.
+//! - A number of fraction bits above the width is a compile error if it is a constant, and panics if it is an argument.
+//! - Each call but the checked ones panics on a divisor of 0 and on the root of a negative number.
+//! - Operators and strict and unwrapped forms panic on a shift by the width or more.
+//! - Strict and unwrapped forms panic if the result does not fit. Operators and plain calls do so only in builds with debug
+//!   assertions. In other builds they wrap, as those of integers do.
 #![no_std]
 #![forbid(unsafe_code)]
 // The code below is the proved sources' own, which name the traits of the calls that they use and the operands of laws,
