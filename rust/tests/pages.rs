@@ -1,7 +1,9 @@
-//! The programs of README.md and docs/TUTORIAL.md: each block of a page stands in a source that is compiled and run, and
-//! prints what the page says. (docs/CALLING.md has a test of its own; docs/COMING_FROM.md and docs/GUIDE.md are doctests.)
+//! The programs of README.md, docs/TUTORIAL.md and the pages of runs: each block of a page stands in a source that is
+//! compiled and run, or is a script, and prints what the page says. (docs/CALLING.md has a test of its own;
+//! docs/COMING_FROM.md and docs/GUIDE.md are doctests.)
 
 use std::fs::{self, File};
+use std::io::Write;
 use std::path::PathBuf;
 use std::process::{Command, Output, Stdio};
 
@@ -33,14 +35,19 @@ fn block(page: &str, language: &str) -> String {
     block
 }
 
-/// What an example that Cargo built with the tests does with an input.
-fn run(example: &str, input: &str) -> Output {
+/// An example that Cargo built with the tests.
+fn example(name: &str) -> Command {
     let tests = std::env::current_exe().expect("the test's path");
     let built = tests
         .parent()
         .and_then(|deps| deps.parent())
         .expect("a folder");
-    Command::new(built.join("examples").join(example))
+    Command::new(built.join("examples").join(name))
+}
+
+/// What an example does with the file of an input.
+fn run(name: &str, input: &str) -> Output {
+    example(name)
         .stdin(Stdio::from(
             File::open(top().join(input)).expect("an input"),
         ))
@@ -105,4 +112,31 @@ fn the_tutorial() {
     assert!(printed.starts_with(&block(&page, "text")), "{printed}");
     let refused = run("sensor", "examples/amounts.csv");
     assert_eq!(refused.status.code(), Some(1));
+}
+
+#[test]
+fn the_scripts_of_runs() {
+    for (kind, prints) in [
+        ("filter", "1638\n"),
+        ("poly", "336\n"),
+        ("interval", "1901 2050\n"),
+    ] {
+        let shown = block(&read(&format!("crates/fixed_{kind}/README.md")), "text");
+        let script: Vec<&str> = shown
+            .lines()
+            .map(|line| line.split_once("  ").map_or(line, |(said, _)| said))
+            .collect();
+        let mut run = example("runs")
+            .arg(kind)
+            .stdin(Stdio::piped())
+            .stdout(Stdio::piped())
+            .spawn()
+            .expect("the example starts");
+        let mut input = run.stdin.take().expect("the example reads");
+        writeln!(input, "{}", script.join("\n")).expect("a script");
+        drop(input);
+        let done = run.wait_with_output().expect("the example ends");
+        let printed = String::from_utf8(done.stdout).expect("text");
+        assert!(printed.ends_with(prints), "{kind}: {printed}");
+    }
 }
