@@ -1,9 +1,11 @@
 //! Conversions beside plain arithmetic in an `i128`: every number of every pair of formats of 8 bits, and floats.
 
+use std::cmp::Ordering;
 use zugyelmas::convert::{
     Castable, ceil_of, compare_of, convert_of, convert_round_of, floor_of, frac_of, mul_into_of,
     round_of, round_ties_even_of, saturating_convert_of,
 };
+use zugyelmas::float::compare_float_of;
 use zugyelmas::kernel::Rounding;
 use zugyelmas::prelude::*;
 use zugyelmas::word::{Outcome, Side};
@@ -327,4 +329,49 @@ fn roundings_are_named() {
         FixedI8::<1>::unwrapped_from_num_round(0.75_f32, Rounding::Down),
         FixedI8::from_bits(1)
     );
+}
+
+/// Floats beside every number of 8 bits: the numbers themselves, what is next to them, and the ends of floats.
+#[test]
+fn floats_beside_numbers() {
+    let ends = [
+        0.0,
+        -0.0,
+        f64::MIN_POSITIVE,
+        5e-324,
+        f64::MAX,
+        f64::INFINITY,
+        1e-30,
+        1e19,
+    ];
+    for frac in 0..=8 {
+        for bits in i8::MIN..=i8::MAX {
+            let exact = f64::from(bits) / f64::from(1_u32 << frac);
+            let near = [
+                exact,
+                exact * (1.0 + f64::EPSILON),
+                exact * (1.0 - f64::EPSILON),
+            ];
+            for x in near.into_iter().chain(ends).flat_map(|x| [x, -x]) {
+                assert_eq!(compare_float_of(bits, frac, x), exact.partial_cmp(&x));
+                let narrow = x as f32;
+                assert_eq!(
+                    compare_float_of(bits, frac, narrow),
+                    exact.partial_cmp(&f64::from(narrow))
+                );
+            }
+            assert_eq!(compare_float_of(bits, frac, f64::NAN), None);
+        }
+    }
+    let odd = FixedI64::<0>::from_bits((1 << 53) + 1);
+    assert_eq!(
+        odd.compare_float(9_007_199_254_740_992.0),
+        Some(Ordering::Greater)
+    );
+    assert_eq!(
+        odd.compare_float(9_007_199_254_740_994.0),
+        Some(Ordering::Less)
+    );
+    assert!(FixedU64::<64>::from_bits(1).equals_float(0.5_f64.powi(64)));
+    assert!(!FixedU64::<64>::from_bits(u64::MAX).equals_float(1.0_f32));
 }
