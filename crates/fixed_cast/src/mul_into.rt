@@ -89,7 +89,11 @@ pub trait MulInto: Numeric {
             (Some (rounded_mul_into (Self.units self) Self.FRACTION (B.units rhs) B.FRACTION D.FRACTION rounding)) };
 
     /// The product, rounded as named and wrapped, and whether it does not fit.
-    fn overflowing_mul_into_round<B: Numeric, D: Numeric>(self, rhs: B, rounding: Rounding) -> (D, bool)
+    fn overflowing_mul_into_round<B: Numeric, D: Numeric>(
+        self,
+        rhs: B,
+        rounding: Rounding,
+    ) -> (D, bool)
         requires fraction { Self.FRACTION ≤ Self.Word.BITS }
         requires rhs_fraction { B.FRACTION ≤ B.Word.BITS }
         ensures { Some (D.units result.0, result.1) ≡ overflowing D.Word.SIGNED D.Word.BITS
@@ -170,12 +174,20 @@ impl<A: Numeric> MulInto for A {
     }
 
     #[inline]
-    fn checked_mul_into_round<B: Numeric, D: Numeric>(self, rhs: B, rounding: Rounding) -> Option<D> {
+    fn checked_mul_into_round<B: Numeric, D: Numeric>(
+        self,
+        rhs: B,
+        rounding: Rounding,
+    ) -> Option<D> {
         checked_num(product::<A, B, D>(self, rhs, rounding))
     }
 
     #[inline]
-    fn overflowing_mul_into_round<B: Numeric, D: Numeric>(self, rhs: B, rounding: Rounding) -> (D, bool) {
+    fn overflowing_mul_into_round<B: Numeric, D: Numeric>(
+        self,
+        rhs: B,
+        rounding: Rounding,
+    ) -> (D, bool) {
         overflowing_num(product::<A, B, D>(self, rhs, rounding))
     }
 

@@ -9,3 +9,4 @@ pub mod Wholes
 pub mod Monotone
 pub mod Factors
 pub mod Folds
+pub mod Halves

@@ -28,7 +28,10 @@ pub(crate) fn long_product_of<A: Castable, B: Castable, T: Castable>(
     if from <= to {
         outcome_of(below_zero, raised_alike(magnitude, to - from))
     } else {
-        outcome_of(below_zero, lowered(below_zero, magnitude, from - to, rounding))
+        outcome_of(
+            below_zero,
+            lowered(below_zero, magnitude, from - to, rounding),
+        )
     }
 }
 
@@ -67,13 +70,7 @@ fn lowered(below_zero: bool, magnitude: u128, by: u32, rounding: Rounding) -> u1
 /// 1 where the rounding takes the magnitude past `quotient`, and otherwise 0. The divisor, which may be `2^128`, is one
 /// more than `last`.
 #[inline]
-fn step(
-    rounding: Rounding,
-    below_zero: bool,
-    quotient: u128,
-    remainder: u128,
-    last: u128,
-) -> u128
+fn step(rounding: Rounding, below_zero: bool, quotient: u128, remainder: u128, last: u128) -> u128
     requires { remainder ≤ last }
     ensures { result ≡ rounding_step rounding below_zero quotient remainder (suc last) }
 {
