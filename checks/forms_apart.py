@@ -24,6 +24,7 @@ Allowed = namedtuple("Allowed", "path form line count reason")
 DISPLAY = "crates/fixed_num/src/display.rt"
 CAST = "crates/fixed_cast/src"
 OWN_BOUND = "the bound is a trait of that crate, which the same types meet in both languages"
+SIZED = "each implementation of the trait is `Copy`, and so has a size"
 ADAPTERS = "crates/fixed_prog/src/adapters.rt"
 ADAPTED = "no other impl has a method of that name for the type"
 STD_NAMED = "std's own method is called: another choice has other parameters, or would call itself without end"
@@ -39,6 +40,11 @@ ALLOWED = [
             "its contracts state the text, which goes to a formatter"),
     Allowed(f"{CAST}/floats.rt", "impl", "impl<N: Numeric> ToFloat for N {", 1, OWN_BOUND),
     Allowed(f"{CAST}/to_num.rt", "impl", "impl<S: Source> ToNum for S {", 1, OWN_BOUND),
+    *(Allowed(f"{CAST}/to_num.rt", "impl", f"fn {policy}to_num<D: Target<Self>>(self) -> {result}", 1, SIZED)
+      for policy, result in [("", "D"), ("checked_", "Option<D>"), ("overflowing_", "(D, bool)"), ("wrapping_", "D"),
+                             ("saturating_", "D"), ("strict_", "D"), ("unwrapped_", "D")]),
+    Allowed(f"{CAST}/target.rt", "impl", "impl<S: Source, N: Numeric> Target<S> for N {", 1, OWN_BOUND),
+    Allowed(f"{CAST}/mul_into.rt", "impl", "impl<A: Numeric> MulInto for A {", 1, OWN_BOUND),
     Allowed(f"{CAST}/from_num.rt", "impl", "impl<N: Numeric> FromNum for N {", 1, OWN_BOUND),
     Allowed(f"{CAST}/order.rt", "impl", "impl<M: Numeric> Order for M {", 1, OWN_BOUND),
     Allowed(f"{CAST}/source.rt", "impl", "impl<N: Numeric> Source for N {", 1, OWN_BOUND),

@@ -178,7 +178,9 @@ mod stopping {
     }
 }
 
-pub use cast::{Castable, FromNum, Numeric, Order, Source, ToFloat, ToNum, ToWhole};
+pub use cast::{
+    Castable, FromNum, MulInto, Numeric, Order, Source, Target, ToFloat, ToNum, ToWhole,
+};
 pub use float::Binary;
 pub use interval::{Interval, add_in, div_in, mul_in, sqrt_in, sub_in};
 pub use num::{
@@ -221,7 +223,7 @@ pub mod prelude {
         Constants, Fixed, FixedI8, FixedI16, FixedI32, FixedI64, FixedU8, FixedU16, FixedU32,
         FixedU64, Held, Number,
     };
-    pub use crate::{FromNum, Order, ToFloat, ToNum, ToWhole};
+    pub use crate::{FromNum, MulInto, Order, ToFloat, ToNum, ToWhole};
     pub use crate::{
         Overflowing, OverflowingMulAdd, OverflowingProducts, OverflowingRounded, OverflowingSigned,
         OverflowingUnsigned,

@@ -131,6 +131,52 @@ fn formats() {
     );
 }
 
+fn products() {
+    let factors = |draw: u64| (draw as i16, (draw >> 32) as i32 >> 6);
+    let typed = |(a, b)| (FixedI16::<8>::from_bits(a), FixedI32::<16>::from_bits(b));
+    let exact = |(a, b): (i16, i32)| i64::from(a) * i64::from(b);
+    row(
+        "wrapping_mul_into i16<8> i32<16> to i32<16>",
+        factors,
+        |both| (exact(both) >> 8) as i32,
+        |both| {
+            let (a, b) = typed(both);
+            a.wrapping_mul_into::<_, FixedI32<16>>(b).to_bits()
+        },
+    );
+    row(
+        "checked_mul_into i16<8> i32<16> to i32<16>",
+        factors,
+        |both| i32::try_from(exact(both) >> 8).ok(),
+        |both| {
+            let (a, b) = typed(both);
+            a.checked_mul_into::<_, FixedI32<16>>(b).map(Fixed::to_bits)
+        },
+    );
+    row(
+        "saturating_mul_into i16<8> i32<16> to i32<16>",
+        factors,
+        |both| (exact(both) >> 8).clamp(i32::MIN.into(), i32::MAX.into()) as i32,
+        |both| {
+            let (a, b) = typed(both);
+            a.saturating_mul_into::<_, FixedI32<16>>(b).to_bits()
+        },
+    );
+    row(
+        "wrapping_mul_into_round even to i32<16>",
+        factors,
+        |both| {
+            let product = exact(both);
+            ((product + 127 + (product >> 8 & 1)) >> 8) as i32
+        },
+        |both| {
+            let (a, b) = typed(both);
+            a.wrapping_mul_into_round::<_, FixedI32<16>>(b, Even)
+                .to_bits()
+        },
+    );
+}
+
 fn roundings() {
     let n32 = |draw: u64| FixedI32::<16>::from_bits(draw as i32);
     row(
@@ -220,6 +266,7 @@ fn floats() {
 fn main() {
     println!("{:44} {:>8} {:>8} {:>6}", "", "by hand", "call", "ratio");
     formats();
+    products();
     roundings();
     floats();
 }

@@ -274,8 +274,12 @@ impl Erasing<'_> {
             }
         }
         conditions.extend(known.added(&format!("{}::{name}", self.file)));
+        let is_strict = self.is_strict
+            || ["strict_", "unwrapped_"]
+                .iter()
+                .any(|policy| name.starts_with(policy));
         for condition in &mut conditions {
-            if self.is_strict && condition.kind == "debug_assert" {
+            if is_strict && condition.kind == "debug_assert" {
                 condition.kind = "assert".to_string();
             }
         }

@@ -113,6 +113,8 @@ stops! {
     cast_nan, "the float is no NaN", Byte::saturating_from_num(f32::NAN);
     cast_strict, "the number fits", Byte::strict_from_num(8);
     cast_unwrapped, "the number fits", 8.0_f32.unwrapped_to_num::<Byte>();
+    cast_strict_ceil, "the number fits", Byte::MAX.strict_ceil();
+    cast_unwrapped_round, "the number fits", Byte::MAX.unwrapped_round();
     root_fraction, "the fraction frac is at most the width",
         root::root(1_u8, 9, &mut word::Steps::new(word::Silent::new()));
     logs_zero, "the number is not 0", logs::int_log10_part(0_u8, &mut word::Steps::new(word::Silent::new()));
@@ -184,6 +186,7 @@ stops_when_debugging! {
     ops_sum, "the number fits", ops::sum(&[Byte::MAX, Byte::DELTA]), Byte::MIN;
     cast_number, "the number fits", Byte::from_num(8), byte(-128);
     cast_to_number, "the number fits", byte(-16).to_num::<u8>(), 255;
+    cast_round_ties_even, "the number fits", Byte::MAX.round_ties_even(), Byte::MIN;
     ops_product, "the number fits", ops::product(&[Byte::MAX, Byte::MAX]), byte(-16);
 }
 

@@ -1,9 +1,11 @@
 //! Conversions beside plain arithmetic in an `i128`: every number of every pair of formats of 8 bits, and floats.
 
+use std::cmp::Ordering;
 use zugyelmas::convert::{
-    Castable, ceil_of, compare_of, convert_of, convert_round_of, floor_of, frac_of, round_of,
-    round_ties_even_of, saturating_convert_of,
+    Castable, ceil_of, compare_of, convert_of, convert_round_of, floor_of, frac_of, mul_into_of,
+    round_of, round_ties_even_of, saturating_convert_of,
 };
+use zugyelmas::float::compare_float_of;
 use zugyelmas::kernel::Rounding;
 use zugyelmas::prelude::*;
 use zugyelmas::word::{Outcome, Side};
@@ -92,6 +94,70 @@ fn every_pair_of_formats_of_8_bits() {
     every_fraction(converted::<i8, u8>);
     every_fraction(converted::<u8, i8>);
     every_fraction(converted::<u8, u8>);
+}
+
+/// A product beside that of wide integers, whose `a b 2^to` has at most 127 bits.
+fn multiplied<A: Castable, B: Castable, T: Castable>(a: A, b: B, fractions: (u32, u32, u32)) {
+    let (a_frac, b_frac, to) = fractions;
+    let exact = (a.to_wide() * b.to_wide()) << to;
+    let of = &format!("{} {} {fractions:?}", a.to_wide(), b.to_wide());
+    for rounding in ROUNDINGS {
+        let number = quotient(exact, a_frac + b_frac, rounding);
+        assert_stands::<T>(mul_into_of(a, a_frac, b, b_frac, to, rounding), number, of);
+    }
+}
+
+/// The products of 8 bits in two formats.
+fn every_product<A: Castable, B: Castable>() {
+    for fractions in [
+        (0, 0, 0),
+        (3, 5, 4),
+        (8, 8, 9),
+        (8, 7, 0),
+        (1, 0, 3),
+        (0, 2, 18),
+    ] {
+        for a in all::<A>() {
+            for b in all::<B>().step_by(5) {
+                multiplied::<A, B, i8>(a, b, fractions);
+                multiplied::<A, B, u8>(a, b, fractions);
+            }
+        }
+    }
+}
+
+#[test]
+fn every_product_of_8_bits() {
+    every_product::<i8, i8>();
+    every_product::<i8, u8>();
+    every_product::<u8, u8>();
+}
+
+#[test]
+fn products_of_other_widths() {
+    let mut bits = 0x9e37_79b9_7f4a_7c15_u64;
+    for round in 0..20_000 {
+        bits = bits
+            .wrapping_mul(6_364_136_223_846_793_005)
+            .wrapping_add(round);
+        let (small, long) = ((bits >> 48) as i16, bits.rotate_left(29));
+        multiplied::<i16, i32, i32>(small, long as i32, (8, 16, 16));
+        multiplied::<i32, u32, i64>(long as i32, bits as u32, (31, 32, 40));
+        multiplied::<u32, u32, u16>(long as u32, bits as u32, (32, 0, 3));
+        multiplied::<i64, i16, u64>(long as i64, small, (64, 16, 20));
+        multiplied::<i64, i64, i8>(long as i64, bits as i64, (64, 61, 0));
+        multiplied::<u64, u64, u64>(long >> 1, bits >> 2, (64, 62, 1));
+    }
+    for a in [0, 1, u64::MAX] {
+        multiplied::<u64, i64, i64>(a, 0, (62, 64, 9));
+        multiplied::<u64, i64, i64>(a, -1, (0, 0, 62));
+        multiplied::<u64, i64, u64>(a, 1, (0, 0, 62));
+    }
+    let squared = |to| mul_into_of::<_, _, u64>(u64::MAX, 64, u64::MAX, 64, to, Rounding::Even);
+    assert_stands::<u64>(squared(0), 1, "nearly 1");
+    assert_stands::<u64>(squared(64), (1 << 64) - 2, "2^64 - 2 and 2^-64");
+    assert_stands::<u64>(squared(128), (1 << 65) + 1, "the square");
+    assert_stands::<u64>(squared(192), 1 << 64, "the square times 2^64");
 }
 
 /// The order of every two numbers.
@@ -263,4 +329,49 @@ fn roundings_are_named() {
         FixedI8::<1>::unwrapped_from_num_round(0.75_f32, Rounding::Down),
         FixedI8::from_bits(1)
     );
+}
+
+/// Floats beside every number of 8 bits: the numbers themselves, what is next to them, and the ends of floats.
+#[test]
+fn floats_beside_numbers() {
+    let ends = [
+        0.0,
+        -0.0,
+        f64::MIN_POSITIVE,
+        5e-324,
+        f64::MAX,
+        f64::INFINITY,
+        1e-30,
+        1e19,
+    ];
+    for frac in 0..=8 {
+        for bits in i8::MIN..=i8::MAX {
+            let exact = f64::from(bits) / f64::from(1_u32 << frac);
+            let near = [
+                exact,
+                exact * (1.0 + f64::EPSILON),
+                exact * (1.0 - f64::EPSILON),
+            ];
+            for x in near.into_iter().chain(ends).flat_map(|x| [x, -x]) {
+                assert_eq!(compare_float_of(bits, frac, x), exact.partial_cmp(&x));
+                let narrow = x as f32;
+                assert_eq!(
+                    compare_float_of(bits, frac, narrow),
+                    exact.partial_cmp(&f64::from(narrow))
+                );
+            }
+            assert_eq!(compare_float_of(bits, frac, f64::NAN), None);
+        }
+    }
+    let odd = FixedI64::<0>::from_bits((1 << 53) + 1);
+    assert_eq!(
+        odd.compare_float(9_007_199_254_740_992.0),
+        Some(Ordering::Greater)
+    );
+    assert_eq!(
+        odd.compare_float(9_007_199_254_740_994.0),
+        Some(Ordering::Less)
+    );
+    assert!(FixedU64::<64>::from_bits(1).equals_float(0.5_f64.powi(64)));
+    assert!(!FixedU64::<64>::from_bits(u64::MAX).equals_float(1.0_f32));
 }

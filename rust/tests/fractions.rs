@@ -6,7 +6,7 @@ use std::time::SystemTime;
 use std::{env, fs};
 
 /// Each call that does not compile, and the condition in words.
-const REFUSED: [(&str, &str); 15] = [
+const REFUSED: [(&str, &str); 18] = [
     ("Past::int_nbits()", "the fraction F is at most the width"),
     ("past * past", "the fraction F is at most the width"),
     (
@@ -42,6 +42,18 @@ const REFUSED: [(&str, &str); 15] = [
     (
         "past.to_float::<f32>()",
         "the fraction is at most the width",
+    ),
+    (
+        "past.to_num::<f32>()",
+        "the fraction is at most the width",
+    ),
+    (
+        "past.compare_float(1.5)",
+        "the fraction is at most the width",
+    ),
+    (
+        "byte.checked_mul_into::<_, Past>(past)",
+        "the fraction of `rhs` is at most its width",
     ),
     ("byte.wide_mul::<4, 9>(byte)", "H is F + G"),
     ("byte.wide_div::<4, 9>(byte)", "H + G is the width and F"),

@@ -13,7 +13,9 @@ pub mod logarithms;
 pub mod roots;
 
 pub use fixed_bits::BitWord;
-pub use fixed_cast::{Castable, FromNum, Numeric, Order, Source, ToFloat, ToNum, ToWhole};
+pub use fixed_cast::{
+    Castable, FromNum, MulInto, Numeric, Order, Source, Target, ToFloat, ToNum, ToWhole,
+};
 pub use fixed_decimal::DecimalError;
 pub use fixed_float::Binary;
 pub use fixed_num::{

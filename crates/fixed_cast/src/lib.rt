@@ -7,11 +7,13 @@
 
 mod floats;
 mod from_num;
+mod mul_into;
 mod numbers;
 mod numeric;
 mod order;
 mod policies;
 mod source;
+mod target;
 mod to_num;
 mod to_whole;
 mod truth;
@@ -19,8 +21,10 @@ mod truth;
 pub use fixed_convert::Castable;
 pub use floats::ToFloat;
 pub use from_num::FromNum;
+pub use mul_into::MulInto;
 pub use numeric::Numeric;
 pub use order::Order;
 pub use source::Source;
+pub use target::Target;
 pub use to_num::ToNum;
 pub use to_whole::ToWhole;

@@ -1,11 +1,14 @@
 //! What each policy makes of an outcome, in a number of its format.
 
 ghost use Rattle.std.specs.Prelude.{◌≡◌, ℤ, Some, option_map};
+ghost use Rattle.fixed_word.specs.declared.outcome.Side.TheVariants.{Fits};
 ghost use Rattle.fixed_word.specs.Standing.{StandsFor};
 ghost use Rattle.fixed_word.specs.Policies.{checked, overflowing, saturating, wrapping};
 
 use fixed_num::Fixed;
-use fixed_word::{Outcome, Word, checked_of, overflowing_of, saturating_of, wrapping_of};
+use fixed_word::{
+    Outcome, Word, checked_of, overflowing_of, saturating_of, strict_of, wrapping_of,
+};
 
 /// The number, and None exactly where it does not fit.
 #[inline]
@@ -48,5 +51,16 @@ pub(crate) fn saturating_number<T: Word, const F: u32>(outcome: Outcome<T>) -> F
 {
     Fixed {
         bits: saturating_of(outcome),
+    }
+}
+
+/// The number of an outcome that fits.
+#[inline]
+pub(crate) fn strict_number<T: Word, const F: u32>(outcome: Outcome<T>) -> Fixed<T, F>
+    requires { outcome.side ≡ Fits }
+    ensures { (x : ℤ) → StandsFor T.value T.SIGNED T.BITS x outcome → T.value result.bits ≡ x }
+{
+    Fixed {
+        bits: strict_of(outcome),
     }
 }

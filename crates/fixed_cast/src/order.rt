@@ -1,10 +1,13 @@
-//! Comparisons across formats.
+//! Comparisons across formats, and with floats.
 
-ghost use Rattle.std.specs.Prelude.{◌≡◌, ◌↔◌, ◌^◌, ◌*ℤ◌, IsTrue, pos};
+ghost use Rattle.std.specs.Prelude.{◌≡◌, ◌↔◌, ◌≤◌, ◌^◌, ◌*ℤ◌, IsTrue, Some, pos};
+ghost use Rattle.std.specs.declared.cmp.Ordering.TheVariants.{Equal};
 ghost use Rattle.fixed_convert.specs.Convert.{exact_order};
+ghost use Rattle.fixed_float.specs.Rows.{float_order};
 
 use crate::numeric::Numeric;
 use fixed_convert::compare_of;
+use fixed_float::{Binary, compare_float_of};
 use std::cmp::Ordering;
 
 /// How numbers of any format and integers stand to one another (the crate's operators between types).
@@ -17,6 +20,16 @@ pub trait Order: Numeric {
     fn equals<N: Numeric>(self, other: N) -> bool
         ensures { IsTrue result ↔ (Self.units self *ℤ pos (2 ^ N.FRACTION)
             ≡ N.units other *ℤ pos (2 ^ Self.FRACTION)) };
+
+    /// How the number stands to a float, both exact; None for a NaN, which has no order.
+    fn compare_float<X: Binary>(self, other: X) -> Option<Ordering>
+        requires { Self.FRACTION ≤ Self.Word.BITS }
+        ensures { result ≡ float_order (Self.units self) Self.FRACTION (X.float other) };
+
+    /// Whether the float is the same number.
+    fn equals_float<X: Binary>(self, other: X) -> bool
+        requires { Self.FRACTION ≤ Self.Word.BITS }
+        ensures { IsTrue result ↔ (float_order (Self.units self) Self.FRACTION (X.float other) ≡ Some Equal) };
 }
 
 impl<M: Numeric> Order for M {
@@ -28,5 +41,18 @@ impl<M: Numeric> Order for M {
     #[inline]
     fn equals<N: Numeric>(self, other: N) -> bool {
         self.compare(other) == Ordering::Equal
+    }
+
+    #[inline]
+    fn compare_float<X: Binary>(self, other: X) -> Option<Ordering> {
+        compare_float_of(self.to_word(), M::FRACTION, other)
+    }
+
+    #[inline]
+    fn equals_float<X: Binary>(self, other: X) -> bool {
+        match self.compare_float(other) {
+            Some(Ordering::Equal) => true,
+            _ => false,
+        }
     }
 }

@@ -3,12 +3,14 @@
 ghost use Rattle.std.specs.Prelude.{◌≡◌, ℤ, Option, Some, IfSome, IsSome, option_map};
 ghost use Rattle.fixed_word.specs.declared.outcome.Side.TheVariants.{Fits};
 ghost use Rattle.fixed_word.specs.Format.{InRange};
-ghost use Rattle.fixed_word.specs.Policies.{checked, overflowing, wrapping};
+ghost use Rattle.fixed_word.specs.Policies.{checked, overflowing, saturating, wrapping};
 ghost use Rattle.fixed_word.specs.Standing.{StandsFor};
 ghost use Rattle.fixed_float.specs.Rows.{IsOutcomeOfRow};
 
 use crate::numeric::Numeric;
-use fixed_word::{Outcome, Word, checked_of, overflowing_of, strict_of, wrapping_of};
+use fixed_word::{
+    Outcome, Word, checked_of, overflowing_of, saturating_of, strict_of, wrapping_of,
+};
 
 /// The number; None exactly where there is none or it does not fit.
 #[inline]
@@ -44,6 +46,17 @@ pub(crate) fn wrapping_num<N: Numeric>(outcome: Option<Outcome<N::Word>>) -> N
         → Some (N.units result) ≡ wrapping N.Word.SIGNED N.Word.BITS row }
 {
     N::from_word(wrapping_of(outcome.unwrap()))
+}
+
+/// The number that fits and is nearest.
+#[inline]
+pub(crate) fn saturating_num<N: Numeric>(outcome: Option<Outcome<N::Word>>) -> N
+    requires { IsSome outcome }
+    ensures { (row : Option ℤ)
+        → IsOutcomeOfRow N.Word.value N.Word.SIGNED N.Word.BITS row outcome
+        → Some (N.units result) ≡ saturating N.Word.SIGNED N.Word.BITS row }
+{
+    N::from_word(saturating_of(outcome.unwrap()))
 }
 
 /// The number, where there is one and it fits.

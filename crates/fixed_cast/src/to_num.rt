@@ -1,4 +1,4 @@
-//! The same conversions, called on what they take.
+//! The same conversions, called on what they take, and those to floats.
 
 ghost use Rattle.std.specs.Prelude.{◌≡◌, Some, IsSome, option_map};
 ghost use Rattle.fixed_word.specs.Policies.{checked, overflowing, wrapping};
@@ -6,47 +6,52 @@ ghost use Rattle.fixed_word.specs.Policies.{checked, overflowing, wrapping};
 use crate::numeric::Numeric;
 use crate::policies::{checked_num, exact_num, overflowing_num, strict_num, wrapping_num};
 use crate::source::Source;
+use crate::target::Target;
 use fixed_word::Rounding;
 
-/// Conversions of a number to one of another format or to an integer, by each policy.
+/// Conversions of a number to one of another format, to an integer or to a float, by each policy. A float is the nearest
+/// one, of two as near the one whose last bit is 0; it always fits.
 pub trait ToNum: Source {
     /// The number; condition that there is one and that it fits.
-    fn to_num<N: Numeric>(self) -> N
-        requires { IsSome (checked N.Word.SIGNED N.Word.BITS (Self.exact self N.FRACTION Self.DEFAULT)) }
-        ensures { Some (N.units result) ≡ Self.exact self N.FRACTION Self.DEFAULT };
+    fn to_num<D: Target<Self>>(self) -> D
+        requires format { D.is_format }
+        requires fits { IsSome (D.as_checked (D.exact self)) }
+        ensures { Some (D.exactly result) ≡ D.exact self };
 
     /// The number; None exactly where there is none or it does not fit.
-    fn checked_to_num<N: Numeric>(self) -> Option<N>
-        ensures { option_map N.units result
-            ≡ checked N.Word.SIGNED N.Word.BITS (Self.exact self N.FRACTION Self.DEFAULT) };
+    fn checked_to_num<D: Target<Self>>(self) -> Option<D>
+        requires { D.is_format }
+        ensures { option_map D.exactly result ≡ D.as_checked (D.exact self) };
 
     /// The wrapped number, and whether the number does not fit; condition that there is one.
-    fn overflowing_to_num<N: Numeric>(self) -> (N, bool)
-        requires { IsSome (Self.exact self N.FRACTION Self.DEFAULT) }
-        ensures { Some (N.units result.0, result.1)
-            ≡ overflowing N.Word.SIGNED N.Word.BITS (Self.exact self N.FRACTION Self.DEFAULT) };
+    fn overflowing_to_num<D: Target<Self>>(self) -> (D, bool)
+        requires format { D.is_format }
+        requires some { IsSome (D.exact self) }
+        ensures { Some (D.exactly result.0, result.1) ≡ D.as_overflowing (D.exact self) };
 
     /// The number without what lies past the width; condition that there is one.
-    fn wrapping_to_num<N: Numeric>(self) -> N
-        requires { IsSome (Self.exact self N.FRACTION Self.DEFAULT) }
-        ensures { Some (N.units result)
-            ≡ wrapping N.Word.SIGNED N.Word.BITS (Self.exact self N.FRACTION Self.DEFAULT) };
+    fn wrapping_to_num<D: Target<Self>>(self) -> D
+        requires format { D.is_format }
+        requires some { IsSome (D.exact self) }
+        ensures { Some (D.exactly result) ≡ D.as_wrapping (D.exact self) };
 
     /// The number, held at the ends; condition that there is one.
-    fn saturating_to_num<N: Numeric>(self) -> N
-        requires { IsSome (Self.saturated N.Word.SIGNED N.Word.BITS self N.FRACTION Self.DEFAULT) }
-        ensures { Some (N.units result)
-            ≡ Self.saturated N.Word.SIGNED N.Word.BITS self N.FRACTION Self.DEFAULT };
+    fn saturating_to_num<D: Target<Self>>(self) -> D
+        requires format { D.is_format }
+        requires some { IsSome (D.saturated self) }
+        ensures { Some (D.exactly result) ≡ D.saturated self };
 
     /// The number; condition that there is one and that it fits.
-    fn strict_to_num<N: Numeric>(self) -> N
-        requires { IsSome (checked N.Word.SIGNED N.Word.BITS (Self.exact self N.FRACTION Self.DEFAULT)) }
-        ensures { Some (N.units result) ≡ Self.exact self N.FRACTION Self.DEFAULT };
+    fn strict_to_num<D: Target<Self>>(self) -> D
+        requires format { D.is_format }
+        requires fits { IsSome (D.as_checked (D.exact self)) }
+        ensures { Some (D.exactly result) ≡ D.exact self };
 
     /// The number; condition that there is one and that it fits.
-    fn unwrapped_to_num<N: Numeric>(self) -> N
-        requires { IsSome (checked N.Word.SIGNED N.Word.BITS (Self.exact self N.FRACTION Self.DEFAULT)) }
-        ensures { Some (N.units result) ≡ Self.exact self N.FRACTION Self.DEFAULT };
+    fn unwrapped_to_num<D: Target<Self>>(self) -> D
+        requires format { D.is_format }
+        requires fits { IsSome (D.as_checked (D.exact self)) }
+        ensures { Some (D.exactly result) ≡ D.exact self };
 
     /// The same, rounded as named.
     fn checked_to_num_round<N: Numeric>(self, rounding: Rounding) -> Option<N>
@@ -89,38 +94,38 @@ pub trait ToNum: Source {
 
 impl<S: Source> ToNum for S {
     #[inline]
-    fn to_num<N: Numeric>(self) -> N {
-        exact_num(self.outcome(N::FRACTION, Self::DEFAULT))
+    fn to_num<D: Target<Self>>(self) -> D {
+        D::from_source(self)
     }
 
     #[inline]
-    fn checked_to_num<N: Numeric>(self) -> Option<N> {
-        checked_num(self.outcome(N::FRACTION, Self::DEFAULT))
+    fn checked_to_num<D: Target<Self>>(self) -> Option<D> {
+        D::checked_from_source(self)
     }
 
     #[inline]
-    fn overflowing_to_num<N: Numeric>(self) -> (N, bool) {
-        overflowing_num(self.outcome(N::FRACTION, Self::DEFAULT))
+    fn overflowing_to_num<D: Target<Self>>(self) -> (D, bool) {
+        D::overflowing_from_source(self)
     }
 
     #[inline]
-    fn wrapping_to_num<N: Numeric>(self) -> N {
-        wrapping_num(self.outcome(N::FRACTION, Self::DEFAULT))
+    fn wrapping_to_num<D: Target<Self>>(self) -> D {
+        D::wrapping_from_source(self)
     }
 
     #[inline]
-    fn saturating_to_num<N: Numeric>(self) -> N {
-        N::from_word(self.saturated(N::FRACTION, Self::DEFAULT))
+    fn saturating_to_num<D: Target<Self>>(self) -> D {
+        D::saturating_from_source(self)
     }
 
     #[inline]
-    fn strict_to_num<N: Numeric>(self) -> N {
-        strict_num(self.outcome(N::FRACTION, Self::DEFAULT))
+    fn strict_to_num<D: Target<Self>>(self) -> D {
+        D::strict_from_source(self)
     }
 
     #[inline]
-    fn unwrapped_to_num<N: Numeric>(self) -> N {
-        strict_num(self.outcome(N::FRACTION, Self::DEFAULT))
+    fn unwrapped_to_num<D: Target<Self>>(self) -> D {
+        D::strict_from_source(self)
     }
 
     #[inline]

@@ -5,7 +5,9 @@ ghost use Rattle.fixed_word.specs.Format.{InRange};
 ghost use Rattle.fixed_word.specs.Policies.{checked, overflowing, saturating, wrapping};
 ghost use Rattle.fixed_convert.specs.WholeNumber.{exact_ceil, exact_floor, exact_frac, exact_round, exact_round_ties_even};
 
-use crate::numbers::{checked_number, overflowing_number, saturating_number, wrapping_number};
+use crate::numbers::{
+    checked_number, overflowing_number, saturating_number, strict_number, wrapping_number,
+};
 use fixed_convert::{Castable, ceil_of, floor_of, frac_of, round_of, round_ties_even_of};
 use fixed_num::{Fixed, Number, exact_number};
 
@@ -309,41 +311,41 @@ impl<T: Castable, const F: u32> ToWhole for Fixed<T, F> {
 
     #[inline]
     fn strict_floor(self) -> Self {
-        exact_number(floor_of(self.bits, F))
+        strict_number(floor_of(self.bits, F))
     }
 
     #[inline]
     fn strict_ceil(self) -> Self {
-        exact_number(ceil_of(self.bits, F))
+        strict_number(ceil_of(self.bits, F))
     }
 
     #[inline]
     fn strict_round(self) -> Self {
-        exact_number(round_of(self.bits, F))
+        strict_number(round_of(self.bits, F))
     }
 
     #[inline]
     fn strict_round_ties_even(self) -> Self {
-        exact_number(round_ties_even_of(self.bits, F))
+        strict_number(round_ties_even_of(self.bits, F))
     }
 
     #[inline]
     fn unwrapped_floor(self) -> Self {
-        exact_number(floor_of(self.bits, F))
+        strict_number(floor_of(self.bits, F))
     }
 
     #[inline]
     fn unwrapped_ceil(self) -> Self {
-        exact_number(ceil_of(self.bits, F))
+        strict_number(ceil_of(self.bits, F))
     }
 
     #[inline]
     fn unwrapped_round(self) -> Self {
-        exact_number(round_of(self.bits, F))
+        strict_number(round_of(self.bits, F))
     }
 
     #[inline]
     fn unwrapped_round_ties_even(self) -> Self {
-        exact_number(round_ties_even_of(self.bits, F))
+        strict_number(round_ties_even_of(self.bits, F))
     }
 }

@@ -7,3 +7,6 @@ pub mod Orders
 pub mod Nearness
 pub mod Wholes
 pub mod Monotone
+pub mod Factors
+pub mod Folds
+pub mod Halves

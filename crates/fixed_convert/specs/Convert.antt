@@ -1,5 +1,5 @@
 -- The number a / 2 ^ f, in units of 2 ^ -g and beside the number b / 2 ^ g.
-use Rattle.std.specs.Prelude.{◌^◌, ◌*ℤ◌, ℕ, ℤ, pos}
+use Rattle.std.specs.Prelude.{◌+◌, ◌^◌, ◌*ℤ◌, ℕ, ℤ, pos}
 use Rattle.std.specs.Ordering.{int_cmp}
 use Rattle.std.specs.declared.cmp.Ordering.{Ordering}
 use Rattle.fixed_word.specs.Quotient.{floor_quotient}
@@ -17,3 +17,7 @@ rounded_convert a f g r = rounded (a *ℤ pos (2 ^ g)) (pos (2 ^ f)) r
 -- both are brought to units of 2 ^ -(f + g)
 abbrev pub exact_order : ℤ → ℕ → ℤ → ℕ → Ordering
 exact_order a f b g = int_cmp (a *ℤ pos (2 ^ g)) (b *ℤ pos (2 ^ f))
+
+-- the product of a / 2 ^ f and b / 2 ^ g in units of 2 ^ -h, with that rounding
+abbrev pub rounded_mul_into : ℤ → ℕ → ℤ → ℕ → ℕ → Rounding → ℤ
+rounded_mul_into a f b g h r = rounded_convert (a *ℤ b) (f + g) h r

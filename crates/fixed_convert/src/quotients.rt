@@ -1,6 +1,6 @@
 //! Quotients of whole numbers by powers of two, in an integer of 128 bits.
 
-ghost use Rattle.std.specs.Prelude.{◌≡◌, ◌≤◌, ◌<◌, ◌*◌, ◌^◌, ◌+ℤ◌, ◌-ℤ◌, ◌*ℤ◌, pos, negsuc, nat_abs, int_lt, if◌then◌else◌};
+ghost use Rattle.std.specs.Prelude.{◌≡◌, ◌≤◌, ◌<◌, ◌*◌, ◌^◌, ◌≤ℤ◌, ◌+ℤ◌, ◌-ℤ◌, ◌*ℤ◌, pos, negsuc, nat_abs, int_lt, if◌then◌else◌};
 ghost use Rattle.fixed_word.specs.Quotient.{floor_quotient};
 ghost use Rattle.fixed_word.specs.declared.rounding.Rounding.TheVariants.{Even, Zero};
 ghost use Rattle.fixed_kernel.specs.Rounded.{rounded};
@@ -97,12 +97,12 @@ fn sign_of(number: i128) -> i128
 fn half_added(number: i128, more: i128, by: u32) -> i128
     requires by { by ≤ 66 }
     requires small { nat_abs number < 2 ^ 64 }
-    requires more { nat_abs more ≤ 1 }
+    requires more { (negsuc 0 ≤ℤ more) × (more ≤ℤ pos 0) }
     ensures { result ≡ floor_quotient (((number +ℤ number) +ℤ more) +ℤ pos (2 ^ by)) (2 * 2 ^ by) }
 {
-    number
-        .plus(number)
-        .plus(more)
-        .plus(1_i128.scaled(by))
-        .floored(by + 1)
+    if by == 0 {
+        number
+    } else {
+        number.plus(1_i128.scaled(by - 1).plus(more)).floored(by)
+    }
 }

@@ -8,3 +8,4 @@ pub mod Nearer
 pub mod Exact
 pub mod Products
 pub mod Ends
+pub mod Beside

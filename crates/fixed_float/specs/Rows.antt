@@ -1,7 +1,10 @@
 -- What a float is as a number of units, and which float a number of units is.
 -- A finite float is `fin s m e`: the number m * 2 ^ e, or minus it where s is true. `up e` over `down e` is 2 ^ e.
-use Rattle.std.specs.Prelude.{◌≡◌, ◌*◌, ◌^◌, ℕ, ℤ, Bool, true, false, suc, pos, negsuc, Option, Some, None, if◌then◌else◌}
+use Rattle.std.specs.Prelude.{◌≡◌, ◌*◌, ◌^◌, ◌*ℤ◌, ℕ, ℤ, Bool, true, false, suc, pos, negsuc, Option, Some, None, if◌then◌else◌}
 use Rattle.std.specs.Float.{Float, Format, nan, inf, fin}
+use Rattle.std.specs.Ordering.{int_cmp}
+use Rattle.std.specs.declared.cmp.Ordering.{Ordering}
+use Rattle.std.specs.declared.cmp.Ordering.TheVariants.{Less, Greater}
 use Rattle.std.specs.Float.Ieee.{up, down, round}
 use Rattle.fixed_word.specs.Format.{highest, lowest, with_sign}
 use Rattle.fixed_word.specs.Policies.{saturating}
@@ -26,6 +29,12 @@ saturated_float signed n (fin s m e) g r = saturating signed n (units_of_float (
 abbrev pub nearest_float : Format → ℤ → ℕ → Float
 nearest_float format (pos n) g = round format false n (2 ^ g)
 nearest_float format (negsuc n) g = round format true (suc n) (2 ^ g)
+
+-- how a over 2 ^ g stands to a float; to a NaN not at all
+abbrev pub float_order : ℤ → ℕ → Float → Option Ordering
+float_order a g nan = None
+float_order a g (inf s) = Some (if s then Greater else Less)
+float_order a g (fin s m e) = Some (int_cmp (a *ℤ pos (down e)) (with_sign s (m * up e * 2 ^ g)))
 
 -- the outcome stands for the row's number, and there is none where the row has none
 abbrev pub IsOutcomeOfRow : {T : Type 0} → (T → ℤ) → Bool → ℕ → Option ℤ → Option (Outcome T) → Type 0

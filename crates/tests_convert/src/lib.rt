@@ -4,11 +4,47 @@
 #[cfg(test)]
 mod rows {
     use fixed_convert::{
-        Castable, ceil_of, compare_of, convert_of, convert_round_of, floor_of, frac_of, round_of,
-        round_ties_even_of,
+        Castable, ceil_of, compare_of, convert_of, convert_round_of, floor_of, frac_of,
+        mul_into_of, round_of, round_ties_even_of,
     };
     use fixed_word::{Outcome, Rounding, Side};
     use std::cmp::Ordering;
+
+    #[test]
+    fn products(rt: HostRuntime) {
+        // A sample of 8 fraction bits times a coefficient of 16, in units of 2^-16.
+        let rows = [
+            (384, 147456, Rounding::Down, 221184, Side::Fits),
+            (1, -1, Rounding::Down, -1, Side::Fits),
+            (1, -1, Rounding::Zero, 0, Side::Fits),
+            (3, 128, Rounding::Even, 2, Side::Fits),
+            (1, 128, Rounding::Even, 0, Side::Fits),
+            (i16::MIN, i32::MIN, Rounding::Even, 0, Side::Above),
+        ];
+        for (a, b, rounding, wrapped, side) in rows {
+            assert_eq!(rt;
+                mul_into_of::<i16, i32, i32>(a, 8, b, 16, 16, rounding),
+                Outcome { wrapped, side }
+            );
+        }
+    }
+
+    #[test]
+    fn long_products(rt: HostRuntime) {
+        // The square of the greatest word of 64 bits, 2^128 - 2^65 + 1.
+        let rows = [
+            (0, 1, Side::Fits),
+            (64, 18446744073709551614, Side::Fits),
+            (128, 1, Side::Above),
+            (192, 0, Side::Above),
+        ];
+        for (to, wrapped, side) in rows {
+            assert_eq!(rt;
+                mul_into_of::<u64, u64, u64>(u64::MAX, 64, u64::MAX, 64, to, Rounding::Even),
+                Outcome { wrapped, side }
+            );
+        }
+    }
 
     /// A conversion through the bound.
     fn converted<S: Castable, T: Castable>(a: S, from: u32, to: u32) -> Outcome<T> {

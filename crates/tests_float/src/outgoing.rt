@@ -1,7 +1,8 @@
 //! Floats from numbers.
 
-use fixed_cast::{FromNum, ToFloat};
+use fixed_cast::{FromNum, Order, ToFloat, ToNum};
 use fixed_num::{FixedI8, FixedI64, FixedU64};
+use std::cmp::Ordering;
 
 #[test]
 fn worked_floats(rt: HostRuntime) {
@@ -43,5 +44,31 @@ fn there_and_back(rt: HostRuntime) {
         let (narrow, wide) = (number.to_float::<f32>(), number.to_float::<f64>());
         assert_eq!(rt; FixedI8::checked_from_num(narrow), Some(number));
         assert_eq!(rt; FixedI8::checked_from_num(wide), Some(number));
+    }
+}
+
+#[test]
+fn floats_as_targets(rt: HostRuntime) {
+    let number = FixedI8::<4> { bits: -24 };
+    assert_eq!(rt; number.to_num::<f64>(), -1.5);
+    assert_eq!(rt; number.checked_to_num::<f32>(), Some(-1.5));
+    assert_eq!(rt; number.overflowing_to_num::<f64>(), (-1.5, false));
+    assert_eq!(rt; number.checked_to_num::<i32>(), Some(-2));
+}
+
+#[test]
+fn orders_beside_floats(rt: HostRuntime) {
+    let rows = [
+        (-1.5, Some(Ordering::Equal)),
+        (-1.5000000000000002, Some(Ordering::Greater)),
+        (-1.4999999999999998, Some(Ordering::Less)),
+        (-0.0, Some(Ordering::Less)),
+        (1.7976931348623157e308, Some(Ordering::Less)),
+        (f64::INFINITY, Some(Ordering::Less)),
+        (f64::NEG_INFINITY, Some(Ordering::Greater)),
+        (f64::NAN, None),
+    ];
+    for (float, order) in rows {
+        assert_eq!(rt; FixedI8::<4> { bits: -24 }.compare_float(float), order);
     }
 }
