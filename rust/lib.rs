@@ -121,6 +121,7 @@ extern crate alloc;
 #[cfg(test)]
 extern crate std;
 
+mod between;
 mod edge;
 #[cfg(any(feature = "calc", feature = "runs"))]
 pub mod memory;
@@ -175,6 +176,7 @@ mod stopping {
     }
 }
 
+pub use between::ConversionError;
 pub use cast::{Castable, FromNum, Numeric, Order, Source, ToFloat, ToNum, ToWhole};
 pub use float::Binary;
 pub use interval::{Interval, add_in, div_in, mul_in, sqrt_in, sub_in};
