@@ -8,14 +8,13 @@ use core::fmt;
 
 include!(concat!(env!("OUT_DIR"), "/between.rs"));
 
-/// Two words that are not the same one. Numbers of one word are compared across fractions by [`Order`]: an operator
-/// for them would leave rustc without the fraction of `number == FixedI32::from_bits(1)`.
+/// Two words that differ.
 pub trait Distinct {}
 
-/// A word and one that holds its numbers with a bit to spare.
+/// A word, and another that holds its numbers with at least one fraction bit.
 pub trait Narrower {}
 
-/// Why a number has no counterpart in another type.
+/// Why `try_from` fails: it returns the same number in another type, and never rounds.
 ///
 /// ```
 /// use zugyelmas::{ConversionError, FixedI8, FixedI32};
@@ -28,9 +27,9 @@ pub trait Narrower {}
 /// ```
 #[derive(Clone, Copy, PartialEq, Eq, Hash, Debug)]
 pub enum ConversionError {
-    /// The number, rounded down, is past the greatest or the least of the type.
+    /// The number is too large or too small for the type.
     Overflow,
-    /// The number lies between two of the type.
+    /// The number needs more fraction bits than the type has.
     Inexact,
 }
 
@@ -38,14 +37,14 @@ impl fmt::Display for ConversionError {
     fn fmt(&self, formatter: &mut fmt::Formatter<'_>) -> fmt::Result {
         formatter.write_str(match self {
             ConversionError::Overflow => "the number does not fit",
-            ConversionError::Inexact => "the number lies between two of the type",
+            ConversionError::Inexact => "the number needs more fraction bits",
         })
     }
 }
 
 impl Error for ConversionError {}
 
-/// The same number in another type, if it has it.
+/// The same number in another type; fails if the type does not have it.
 #[inline]
 fn exact<S: Numeric, N: Numeric>(source: S) -> Result<N, ConversionError> {
     let rounded = N::checked_from_num(source).ok_or(ConversionError::Overflow)?;
@@ -56,7 +55,7 @@ fn exact<S: Numeric, N: Numeric>(source: S) -> Result<N, ConversionError> {
     }
 }
 
-/// Whether each number of a word with `from` bits behind the point is one of another word with `to` bits behind it.
+/// Whether a word with `to` fraction bits holds every number of a word with `from` fraction bits.
 const fn holds<S: Castable, T: Castable>(from: u32, to: u32) -> bool {
     let sign = (T::SIGNED && !S::SIGNED) as u64;
     let (up, has) = (
@@ -67,6 +66,18 @@ const fn holds<S: Castable, T: Castable>(from: u32, to: u32) -> bool {
 }
 
 /// Whether the numbers are the same.
+///
+/// The operators compare numbers of two words, or a number and an integer. Numbers of one word and two fractions are
+/// compared by [`Order`], since an operator would make `number == FixedI32::from_bits(1)` ambiguous.
+///
+/// ```
+/// use zugyelmas::prelude::*;
+///
+/// let gain = FixedI32::<16>::from_num(1.5); // 98304 units of 1/65536
+/// assert!(gain == FixedI16::<8>::from_num(1.5)); // 384 units of 1/256
+/// assert!(gain < 2 && gain > FixedU8::<8>::MAX); // 255/256
+/// assert!(gain.equals(FixedI32::<8>::from_num(1.5)));
+/// ```
 impl<T: Castable, U: Castable, const F: u32, const G: u32> PartialEq<Fixed<U, G>> for Fixed<T, F>
 where
     (T, U): Distinct,
@@ -77,7 +88,7 @@ where
     }
 }
 
-/// How the numbers stand to one another.
+/// The order of the numbers.
 impl<T: Castable, U: Castable, const F: u32, const G: u32> PartialOrd<Fixed<U, G>> for Fixed<T, F>
 where
     (T, U): Distinct,
@@ -88,7 +99,22 @@ where
     }
 }
 
-/// The same number. It is a compile error if the format does not hold each number of the source's.
+/// The same number. If the format does not hold every number of the source's, it is a compile error.
+///
+/// ```
+/// use zugyelmas::prelude::*;
+///
+/// let sample = FixedI16::<8>::from_num(-1.5); // -384 units of 1/256
+/// assert_eq!(FixedI32::<16>::from(sample), FixedI32::from_num(-1.5)); // -98304 units of 1/65536
+/// assert_eq!(FixedI32::<16>::from(7_u8), FixedI32::from_num(7));
+/// assert_eq!(f64::from(sample), -1.5);
+/// ```
+///
+/// ```compile_fail
+/// use zugyelmas::prelude::*;
+///
+/// let _ = FixedI32::<28>::from(7_u8); // 255 needs 8 bits before the point
+/// ```
 impl<T: Castable, U: Castable, const F: u32, const G: u32> From<Fixed<U, G>> for Fixed<T, F>
 where
     (U, T): Narrower,
@@ -98,14 +124,14 @@ where
         const {
             assert!(
                 holds::<U, T>(G, F),
-                "the format holds each number of the source's"
+                "the format holds every number of the source's"
             )
         }
         Fixed::from_num(source)
     }
 }
 
-/// 1 for true and 0 for false. It is a compile error if the format does not hold 1.
+/// 1 for true and 0 for false. If the format does not hold 1, it is a compile error.
 impl<T: Castable, const F: u32> From<bool> for Fixed<T, F> {
     #[inline]
     fn from(source: bool) -> Fixed<T, F> {

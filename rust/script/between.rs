@@ -15,7 +15,7 @@ const WORDS: [(&str, u32, bool); 8] = [
     ("u64", 64, false),
 ];
 
-/// The floats: the name, and how many bits a number has in them at most.
+/// The floats: the name, and how many bits its significand has.
 const FLOATS: [(&str, u32); 2] = [("f32", 24), ("f64", 53)];
 
 /// An integer beside numbers of any format.
@@ -34,7 +34,7 @@ impl<T: Castable, const F: u32> PartialOrd<$Source> for Fixed<T, F> {
     }
 }
 
-/// The integer, if the number is one of its type.
+/// The integer; fails if the number is none of its type.
 impl<T: Castable, const F: u32> TryFrom<Fixed<T, F>> for $Source {
     type Error = ConversionError;
 
@@ -45,24 +45,24 @@ impl<T: Castable, const F: u32> TryFrom<Fixed<T, F>> for $Source {
 }
 ";
 
-/// An integer that is narrower than some words.
+/// An integer that some words hold with at least one fraction bit.
 const NARROW_INTEGER: &str = "
-/// The same number. It is a compile error if the format does not hold each integer of the type.
+/// The same number. If the format does not hold every integer of the type, it is a compile error.
 impl<T: Castable, const F: u32> From<$Source> for Fixed<T, F>
 where
     ($Source, T): Narrower,
 {
     #[inline]
     fn from(source: $Source) -> Fixed<T, F> {
-        const { assert!(holds::<$Source, T>(0, F), \"the format holds each integer of the type\") }
+        const { assert!(holds::<$Source, T>(0, F), \"the format holds every integer of the type\") }
         Fixed::from_num(source)
     }
 }
 ";
 
-/// An integer and a format of another word that, or none of whose words, is as narrow.
+/// An integer that a word may not hold, or not with a fraction bit.
 const INTEGER_IN: &str = "
-/// The same number, if it fits.
+/// The same number; fails if it does not fit.
 impl<const F: u32> TryFrom<$Source> for Fixed<$Word, F> {
     type Error = ConversionError;
 
@@ -73,9 +73,9 @@ impl<const F: u32> TryFrom<$Source> for Fixed<$Word, F> {
 }
 ";
 
-/// A number of another word that is not narrower.
+/// A number of another word, likewise.
 const NUMBER_IN: &str = "
-/// The same number, if it is one of the format.
+/// The same number; fails if it is none of the format.
 impl<const F: u32, const G: u32> TryFrom<Fixed<$Source, G>> for Fixed<$Word, F> {
     type Error = ConversionError;
 
@@ -107,7 +107,7 @@ pub fn write_between(name: &str) -> Result<(), String> {
 
 /// What a word has as a source.
 fn of_source((source, bits, is_signed): (&str, u32, bool)) -> String {
-    // A word that holds the source's numbers and has a bit to spare holds them with a bit behind the point.
+    // Whether a word holds the source's numbers with at least one fraction bit.
     let is_narrower = |width: u32, signed: bool| {
         (signed || !is_signed) && bits + u32::from(signed && !is_signed) < width
     };

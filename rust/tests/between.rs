@@ -212,7 +212,7 @@ fn passed(number: FixedI32<16>) -> Result<i64, Box<dyn std::error::Error>> {
 fn the_error() {
     let said = |number: f64| passed(FixedI32::from_num(number)).map_err(|error| error.to_string());
     assert_eq!(said(-3.0), Ok(-3));
-    let inexact = "the number lies between two of the type";
+    let inexact = "the number needs more fraction bits";
     assert_eq!(said(1.5), Err(inexact.to_string()));
     let overflow = u8::try_from(FixedI32::<16>::from_num(256)).unwrap_err();
     assert_eq!(overflow.to_string(), "the number does not fit");

@@ -51,11 +51,11 @@ const REFUSED: [(&str, &str); 19] = [
     ),
     (
         "FixedI16::<8>::from(7_u8)",
-        "the format holds each integer of the type",
+        "the format holds every integer of the type",
     ),
     (
         "FixedI16::<13>::from(byte)",
-        "the format holds each number of the source's",
+        "the format holds every number of the source's",
     ),
     ("FixedI8::<7>::from(true)", "the format holds 1"),
     ("f64::from(past)", "the fraction F is at most the width"),
