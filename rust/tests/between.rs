@@ -154,10 +154,10 @@ fn numbers_that_may_not_fit() {
 }
 
 /// The conversions between integers and formats.
-fn integers<A: Castable + Debug, B: Castable, const F: u32>()
+fn integers<A, B: Castable, const F: u32>()
 where
+    A: Castable + Debug + TryFrom<Fixed<B, F>, Error = ConversionError>,
     Fixed<B, F>: TryFrom<A, Error = ConversionError>,
-    A: TryFrom<Fixed<B, F>, Error = ConversionError>,
 {
     for a in numbers::<A>() {
         let found = Fixed::<B, F>::try_from(a).map(|number| number.to_bits().to_wide());
