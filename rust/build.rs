@@ -1,9 +1,12 @@
 //! Writes the proved sources as files of Rust, which `lib.rs` and the program include: no copy of a source is kept.
 
+#[path = "script/between.rs"]
+mod between;
 #[path = "script/references.rs"]
 mod references;
 mod script;
 
+use between::write_between;
 use references::write_references;
 use script::modules::{CALCULATOR, LIBRARY, write, write_library};
 use std::env;
@@ -36,6 +39,7 @@ fn main() -> Result<(), String> {
     }
     write_library(&library, &with_memory)?;
     write_references("references.rs")?;
+    write_between("between.rs")?;
     write("tests.rs", &TESTS, &[])?;
     write("adapters.rs", &["prog"], &[])
 }

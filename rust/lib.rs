@@ -48,9 +48,10 @@
 //! - The toolchain's table of forms that compile in both languages and run differently. `checks/forms_apart.py` finds none
 //!   of them here but those that it lists with a reason.
 //! - `stopping::exact_number` in `rust/lib.rs`, which every strict and unwrapped call makes: Rust without a proof.
-//! - `rust/edge.rs` and `rust/script/references.rs`: operators on references, [`Sum`](core::iter::Sum) and
-//!   [`Product`](core::iter::Product), and replies as results, which forward to proved calls. With a feature also
-//!   `rust/memory.rs`, which forwards to `alloc`.
+//! - `rust/edge.rs`, `rust/between.rs`, and `references.rs` and `between.rs` of `rust/script/`: operators on references and
+//!   between types, `From` and `TryFrom`, [`Sum`](core::iter::Sum) and [`Product`](core::iter::Product), and replies as
+//!   results, which forward to proved calls; and that a format holds every number that `From` takes, which they assert at
+//!   compile time. With a feature also `rust/memory.rs`, which forwards to `alloc`.
 //! - A `usize` of 64 bits, as in every proof. On smaller targets nothing is proved of lengths and indexes.
 //! - Every implementation of this library's traits in another crate. Nothing is proved of one, nor of a generic call
 //!   that uses it. The traits of words and floats are sealed, since a word that misstates itself would break every call.
@@ -119,6 +120,7 @@ extern crate alloc;
 #[cfg(test)]
 extern crate std;
 
+mod between;
 mod edge;
 #[cfg(any(feature = "calc", feature = "runs"))]
 pub mod memory;
@@ -178,6 +180,7 @@ mod stopping {
     }
 }
 
+pub use between::ConversionError;
 pub use cast::{
     Castable, FromNum, MulInto, Numeric, Order, Source, Target, ToFloat, ToNum, ToWhole,
 };

@@ -6,6 +6,7 @@
 use std::collections::BTreeMap;
 use std::fmt::{self, Debug, Write};
 use std::panic::{AssertUnwindSafe, catch_unwind, set_hook};
+use zugyelmas::Castable;
 use zugyelmas::prelude::*;
 
 /// The hash of a text: FNV-1a of 64 bits.
@@ -54,6 +55,13 @@ macro_rules! calls {
     };
 }
 
+/// Makes calls that need more than a name and operands, each under the name before it.
+macro_rules! named {
+    ($seen:ident: $($name:ident = $call:expr;)*) => {
+        $($seen.call(stringify!($name), &|hash| write!(hash, "{:?};", $call));)*
+    };
+}
+
 /// Numbers by SplitMix64.
 struct Draws(u64);
 
@@ -77,10 +85,16 @@ impl Draws {
             _ => (any % 9).wrapping_sub(4),
         }
     }
+
+    /// A float of any pattern, or more often one of which some formats have a number nearby.
+    fn float(&mut self) -> f64 {
+        let (any, word, down) = (self.next(), self.word() as i64, self.next() % 70);
+        if any % 4 == 0 { f64::from_bits(any) } else { word as f64 / (1_u128 << down) as f64 }
+    }
 }
 
 /// A word of the drawn bits that fit it.
-trait Drawn: Word + Debug {
+trait Drawn: Castable + Debug {
     fn drawn(bits: u64) -> Self;
 }
 
@@ -132,13 +146,15 @@ impl Drawn for u64 {
     }
 }
 
-/// The operands of one round: three numbers of a format, a number of another fraction, and the amount of a shift.
+/// The operands of one round: three numbers of a format, a number of another fraction, the amount of a shift, and a
+/// float.
 struct Operands<T: Word, const F: u32, const G: u32> {
     a: Fixed<T, F>,
     b: Fixed<T, F>,
     c: Fixed<T, F>,
     m: Fixed<T, G>,
     amount: u32,
+    x: f64,
 }
 
 fn operands<T: Drawn, const F: u32, const G: u32>(draws: &mut Draws) -> Operands<T, F, G> {
@@ -148,11 +164,12 @@ fn operands<T: Drawn, const F: u32, const G: u32>(draws: &mut Draws) -> Operands
         c: Fixed::from_bits(T::drawn(draws.word())),
         m: Fixed::from_bits(T::drawn(draws.word())),
         amount: (draws.next() % u64::from(T::BITS + 4)) as u32,
+        x: draws.float(),
     }
 }
 
 fn checked<T: Drawn, const F: u32, const G: u32>(seen: &mut Seen, drawn: &Operands<T, F, G>) {
-    let &Operands { a, b, c, m, amount } = drawn;
+    let &Operands { a, b, c, m, amount, .. } = drawn;
     let bits = b.to_bits();
     calls!(seen, a:
         checked_neg() checked_add(b) checked_sub(b) checked_mul(b) checked_div(b) checked_recip() checked_rem(b)
@@ -163,7 +180,7 @@ fn checked<T: Drawn, const F: u32, const G: u32>(seen: &mut Seen, drawn: &Operan
 }
 
 fn overflowing<T: Drawn, const F: u32, const G: u32>(seen: &mut Seen, drawn: &Operands<T, F, G>) {
-    let &Operands { a, b, c, m, amount } = drawn;
+    let &Operands { a, b, c, m, amount, .. } = drawn;
     let bits = b.to_bits();
     calls!(seen, a:
         overflowing_neg() overflowing_add(b) overflowing_sub(b) overflowing_mul(b) overflowing_div(b)
@@ -175,7 +192,7 @@ fn overflowing<T: Drawn, const F: u32, const G: u32>(seen: &mut Seen, drawn: &Op
 }
 
 fn wrapping<T: Drawn, const F: u32, const G: u32>(seen: &mut Seen, drawn: &Operands<T, F, G>) {
-    let &Operands { a, b, c, m, amount } = drawn;
+    let &Operands { a, b, c, m, amount, .. } = drawn;
     let bits = b.to_bits();
     calls!(seen, a:
         wrapping_neg() wrapping_add(b) wrapping_sub(b) wrapping_mul(b) wrapping_div(b) wrapping_recip()
@@ -197,13 +214,39 @@ fn saturating<T: Drawn, const F: u32, const G: u32>(seen: &mut Seen, drawn: &Ope
 }
 
 fn strict<T: Drawn, const F: u32, const G: u32>(seen: &mut Seen, drawn: &Operands<T, F, G>) {
-    let &Operands { a, b, c, m, amount } = drawn;
+    let &Operands { a, b, c, m, amount, .. } = drawn;
     let bits = b.to_bits();
     calls!(seen, a:
         strict_neg() strict_add(b) strict_sub(b) strict_mul(b) strict_div(b) strict_recip() strict_rem(b)
         strict_rem_euclid(b) strict_div_euclid(b) strict_dist(b) strict_next_multiple_of(b) strict_mul_int(bits)
         strict_div_int(bits) strict_rem_int(bits) strict_rem_euclid_int(bits) strict_div_euclid_int(bits)
         strict_sqrt() strict_shl(amount) strict_shr(amount) strict_mul_add(m, c) strict_add_prod(m, b)
+    );
+}
+
+fn conversions<T: Drawn, const F: u32, const G: u32>(seen: &mut Seen, drawn: &Operands<T, F, G>) {
+    let &Operands { a, m, x, .. } = drawn;
+    let narrow = x as f32;
+    named!(seen:
+        checked_from_f64 = Fixed::<T, F>::checked_from_num(x);
+        saturating_from_f64 = Fixed::<T, F>::saturating_from_num(x);
+        wrapping_from_f64 = Fixed::<T, F>::wrapping_from_num(x);
+        checked_from_f32 = Fixed::<T, F>::checked_from_num(narrow);
+        saturating_from_f32 = Fixed::<T, F>::saturating_from_num(narrow);
+        to_f64 = a.to_float::<f64>();
+        to_f32 = a.to_float::<f32>();
+        checked_to_i16 = a.checked_to_num::<FixedI16<5>>();
+        overflowing_to_u32 = a.overflowing_to_num::<FixedU32<29>>();
+        saturating_to_i64 = a.saturating_to_num::<i64>();
+        wrapping_to_u8 = a.wrapping_to_num::<u8>();
+        compare = a.compare(m);
+        compare_int = a.compare(3);
+        text = (a.to_string(), format!("{m:.3}"));
+        read = a.to_string().parse::<Fixed<T, F>>();
+    );
+    calls!(seen, a:
+        int() frac() checked_floor() checked_ceil() checked_round() checked_round_ties_even() wrapping_ceil()
+        saturating_round() overflowing_floor()
     );
 }
 
@@ -216,6 +259,7 @@ fn format<T: Drawn, const F: u32, const G: u32>(seen: &mut Seen, rounds: u64) {
         wrapping(seen, &drawn);
         saturating(seen, &drawn);
         strict(seen, &drawn);
+        conversions(seen, &drawn);
     }
 }
 

@@ -1,9 +1,11 @@
 //! Nanoseconds an element of conversions in loops over arrays, beside the same loop by hand on native operations.
 //!
 //!     cargo bench --bench casts [WORD..]      (words of a row's name: `saturating`, `f64`)
+//!     bench/counts                            (instructions in place of nanoseconds)
 //!
 //! Each loop takes 4,096 numbers. Both results are compared first. The least of many short samples counts.
 
+mod counting;
 mod draws;
 
 use draws::Draws;
@@ -50,7 +52,7 @@ fn row<A: Copy, R: Clone + Default + PartialEq>(
 ) {
     let wanted: Vec<String> = std::env::args()
         .skip(1)
-        .filter(|word| word != "--bench")
+        .filter(|word| !word.starts_with('-'))
         .collect();
     if !wanted.is_empty() && !wanted.iter().any(|word| name.contains(word.as_str())) {
         return;
@@ -61,14 +63,18 @@ fn row<A: Copy, R: Clone + Default + PartialEq>(
     pass(&numbers, &mut plain, by_hand);
     pass(&numbers, &mut typed, call);
     assert!(plain == typed, "{name}: both sides agree");
+    let mut by_hand = || pass(black_box(&numbers), black_box(&mut plain), by_hand);
+    let mut call = || pass(black_box(&numbers), black_box(&mut typed), call);
+    if counting::is_on() {
+        counting::count(c"by hand", by_hand);
+        counting::count(c"call", call);
+        println!("{name}");
+        return;
+    }
     let (mut ours, mut theirs) = (f64::MAX, f64::MAX);
     for _ in 0..SAMPLES {
-        theirs = theirs.min(sample(|| {
-            pass(black_box(&numbers), black_box(&mut plain), by_hand)
-        }));
-        ours = ours.min(sample(|| {
-            pass(black_box(&numbers), black_box(&mut typed), call)
-        }));
+        theirs = theirs.min(sample(&mut by_hand));
+        ours = ours.min(sample(&mut call));
     }
     println!("{name:44} {theirs:8.3} {ours:8.3} {:6.2}", ours / theirs);
 }
@@ -263,10 +269,69 @@ fn floats() {
     );
 }
 
+fn comparisons() {
+    let n16 = |draw: u64| FixedI16::<8>::from_bits(draw as i16);
+    let n32 = |draw: u64| FixedI32::<16>::from_bits((draw >> 16) as i32);
+    let n64 = |draw: u64| FixedI64::<32>::from_bits(draw.reverse_bits() as i64);
+    row(
+        "i32<16> < i32<16>",
+        |draw| (n32(draw), n32(draw >> 16)),
+        |(a, b)| a.to_bits() < b.to_bits(),
+        |(a, b)| a < b,
+    );
+    row(
+        "i16<8> == i32<16>",
+        |draw| (n16(draw), n32(draw)),
+        |(a, b)| i32::from(a.to_bits()) << 8 == b.to_bits(),
+        |(a, b)| a == b,
+    );
+    row(
+        "i32<16> < i64<32>",
+        |draw| (n32(draw), n64(draw)),
+        |(a, b)| i64::from(a.to_bits()) << 16 < b.to_bits(),
+        |(a, b)| a < b,
+    );
+    row(
+        "i16<8> <= u16<4>",
+        |draw| (n16(draw), FixedU16::<4>::from_bits((draw >> 16) as u16)),
+        |(a, b)| i32::from(a.to_bits()) <= i32::from(b.to_bits()) << 4,
+        |(a, b)| a <= b,
+    );
+    row("i32<16> < 5", n32, |a| a.to_bits() < 5 << 16, |a| a < 5);
+    row(
+        "i32<16> == an i32",
+        |draw| (n32(draw), draw as i32),
+        |(a, b)| i64::from(a.to_bits()) == i64::from(b) << 16,
+        |(a, b)| a == b,
+    );
+}
+
+fn lossless() {
+    row(
+        "i32<16> from i16<8>",
+        |draw: u64| FixedI16::<8>::from_bits(draw as i16),
+        |a| i32::from(a.to_bits()) << 8,
+        |a| FixedI32::<16>::from(a).to_bits(),
+    );
+    row(
+        "i16 tried from i32<16>",
+        |draw: u64| FixedI32::<16>::from_bits(((draw as i32) >> 12) << 12),
+        |a| {
+            let whole = a.to_bits() & 65535 == 0;
+            whole.then_some((a.to_bits() >> 16) as i16)
+        },
+        |a| i16::try_from(a).ok(),
+    );
+}
+
 fn main() {
-    println!("{:44} {:>8} {:>8} {:>6}", "", "by hand", "call", "ratio");
+    if !counting::is_on() {
+        println!("{:44} {:>8} {:>8} {:>6}", "", "by hand", "call", "ratio");
+    }
     formats();
     products();
     roundings();
     floats();
+    comparisons();
+    lossless();
 }

@@ -1,10 +1,12 @@
 //! Nanoseconds an element in loops over arrays, beside the same loop by hand on native operations.
 //!
 //!     cargo bench [WORD..]      (words of a call's name: `mul`, `checked_add`, `i16`)
+//!     bench/counts              (instructions in place of nanoseconds)
 //!
 //! Each call runs over arrays of 4,096 numbers with half of their bits behind the point, and so does what a programmer
 //! would write by hand for it. Both answers are compared first. The least of many short samples counts, taken in turn.
 
+mod counting;
 mod draws;
 
 use draws::Draws;
@@ -126,6 +128,22 @@ fn sample(mut pass: impl FnMut()) -> f64 {
     }
 }
 
+/// Nanoseconds an element of a call, and by hand: each the least of many samples, taken in turn. Where instructions are
+/// counted, callgrind writes them, and there are none.
+fn beside(mut by_hand: impl FnMut(), mut call: impl FnMut()) -> (f64, f64) {
+    if counting::is_on() {
+        counting::count(c"by hand", by_hand);
+        counting::count(c"call", call);
+        return (f64::NAN, f64::NAN);
+    }
+    let (mut ours, mut theirs) = (f64::MAX, f64::MAX);
+    for _ in 0..SAMPLES {
+        theirs = theirs.min(sample(&mut by_hand));
+        ours = ours.min(sample(&mut call));
+    }
+    (ours, theirs)
+}
+
 /// Measures a call and the loop by hand.
 fn measured<N: Held<Bits = T> + Answer<Bits = T>, T: Word, R: Answer>(
     operands: &Operands<T>,
@@ -144,12 +162,10 @@ fn measured<N: Held<Bits = T> + Answer<Bits = T>, T: Word, R: Answer>(
         .zip(&typed.answers)
         .all(|(plain, typed)| *plain == typed.bits());
     assert!(alike, "both sides answer alike");
-    let (mut ours, mut theirs) = (f64::MAX, f64::MAX);
-    for _ in 0..SAMPLES {
-        theirs = theirs.min(sample(|| black_box(&mut plain).pass(by_hand)));
-        ours = ours.min(sample(|| black_box(&mut typed).pass(call)));
-    }
-    (ours, theirs)
+    beside(
+        || black_box(&mut plain).pass(by_hand),
+        || black_box(&mut typed).pass(call),
+    )
 }
 
 /// Measures a call on whole slices and the loop by hand.
@@ -166,14 +182,10 @@ fn measured_slices<N: Held<Bits = T> + Answer<Bits = T>, T: Word, R: Answer>(
     let typed = Arrays::new(&numbers, |_, _, _| ());
     let (ours, theirs) = (call(&typed.a, &typed.b), by_hand(&plain.a, &plain.b));
     assert!(ours.bits() == theirs, "both sides answer alike");
-    let (mut ours, mut theirs) = (f64::MAX, f64::MAX);
-    for _ in 0..SAMPLES {
-        let pass = || drop(black_box(by_hand(black_box(&plain.a), black_box(&plain.b))));
-        theirs = theirs.min(sample(pass));
-        let pass = || drop(black_box(call(black_box(&typed.a), black_box(&typed.b))));
-        ours = ours.min(sample(pass));
-    }
-    (ours, theirs)
+    beside(
+        || drop(black_box(by_hand(black_box(&plain.a), black_box(&plain.b)))),
+        || drop(black_box(call(black_box(&typed.a), black_box(&typed.b)))),
+    )
 }
 
 /// The module of a word: its operands, the exact numbers and their projections by hand, and its rows.
@@ -465,6 +477,12 @@ fn main() {
     u16::rows(&mut rows, wanted);
     u32::rows(&mut rows, wanted);
     u64::rows(&mut rows, wanted);
+    if counting::is_on() {
+        for row in rows {
+            println!("{} {} {}", row.call, row.word, row.goal.unwrap_or_default());
+        }
+        return;
+    }
     println!("Ratio to the loop by hand\n");
     table(&rows, |row| format!("{:.2}", row.ratio()));
     println!("Nanoseconds an element, and by hand\n");

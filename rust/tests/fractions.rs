@@ -6,7 +6,7 @@ use std::time::SystemTime;
 use std::{env, fs};
 
 /// Each call that does not compile, and the condition in words.
-const REFUSED: [(&str, &str); 18] = [
+const REFUSED: [(&str, &str); 22] = [
     ("Past::int_nbits()", "the fraction F is at most the width"),
     ("past * past", "the fraction F is at most the width"),
     (
@@ -61,6 +61,16 @@ const REFUSED: [(&str, &str); 18] = [
         "byte.wide_sdiv::<4, 8>(byte)",
         "H + G + 1 is the width and F",
     ),
+    (
+        "FixedI16::<8>::from(7_u8)",
+        "the format holds every integer of the type",
+    ),
+    (
+        "FixedI16::<13>::from(byte)",
+        "the format holds every number of the source's",
+    ),
+    ("FixedI8::<7>::from(true)", "the format holds 1"),
+    ("f64::from(past)", "the fraction F is at most the width"),
 ];
 
 const START: &str = "use zugyelmas::{horner, prelude::*};
@@ -129,7 +139,11 @@ fn what_is_at_the_width_compiles() {
     let at = "let at = FixedI8::<8>::from_bits(127);";
     let calls =
         "at.checked_mul(at); at * at; at.wide_mul::<8, 16>(at); byte.wide_div::<4, 8>(byte);";
-    let said = compiled("at_the_width", &format!("{START}    {at} {calls}\n}}\n"));
+    let from = "FixedI16::<7>::from(7_u8); FixedI16::<12>::from(byte); FixedI8::<6>::from(true);";
+    let said = compiled(
+        "at_the_width",
+        &format!("{START}    {at} {calls} {from}\n}}\n"),
+    );
     assert_eq!(said, "");
 }
 
