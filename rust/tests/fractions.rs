@@ -6,7 +6,7 @@ use std::time::SystemTime;
 use std::{env, fs};
 
 /// Each call that does not compile, and the condition in words.
-const REFUSED: [(&str, &str); 22] = [
+const REFUSED: [(&str, &str); 21] = [
     ("Past::int_nbits()", "the fraction F is at most the width"),
     ("past * past", "the fraction F is at most the width"),
     (
@@ -41,10 +41,6 @@ const REFUSED: [(&str, &str); 22] = [
     ),
     (
         "past.to_float::<f32>()",
-        "the fraction is at most the width",
-    ),
-    (
-        "past.to_num::<f32>()",
         "the fraction is at most the width",
     ),
     (
