@@ -1,7 +1,8 @@
 -- What the ends say of each two numbers, and of some.
-use Rattle.std.proofs.Common.{◌≡◌, ◌≤ℤ◌, ◌<ℤ◌, ℤ, refl, arith}
-use Rattle.std.specs.Prelude.{◌↔◌}
+use Rattle.std.proofs.Common.{◌≡◌, ◌≤ℤ◌, ◌<ℤ◌, ◌-ℤ◌, ℤ, pos, refl, arith}
+use Rattle.std.specs.Prelude.{◌↔◌, ◌&&◌, Bool, true, false, IsTrue, unsigned_abs}
 use Rattle.std.specs.Int.{int_max}
+use Rattle.std.proofs.lemmas.Bool.{false≢true}
 use Rattle.std.proofs.lemmas.Int.{clamps, ints}
 use Rattle.fixed_interval.specs.Ends.{Ends}
 use Rattle.fixed_enclosure.specs.Sets.{Contains, ForAll, ForSome}
@@ -49,3 +50,16 @@ module _ (a b : Ends) (p : a.low ≤ℤ a.high) (q : b.low ≤ℤ b.high) where
         (m, m, record { from_low = omega (arith, ints, clamps); to_high = omega (arith, ints, clamps) }, record { from_low = omega (arith, ints, clamps); to_high = omega (arith, ints, clamps) }, refl)),
     (λ h. let i = h.2 in let j = h.3 in let r = h.4 in let l = i.from_low in let u = i.to_high in let m = j.from_low in let v = j.to_high in (omega (arith, ints), omega (arith, ints))),
   )
+
+-- a test of a fact, and what the fact is
+pub through : {t : Bool} {P Q : Type 0} → (IsTrue t ↔ P) → (P ↔ Q) → IsTrue t ↔ Q
+through f g = ((λ h. g.0 (f.0 h)), (λ h. f.1 (g.1 h)))
+
+-- two tests at once
+pub both : (t u : Bool) {P Q : Type 0} → (IsTrue t ↔ P) → (IsTrue u ↔ Q) → IsTrue (t && u) ↔ (P × Q)
+both true u f g = ((λ h. (f.0 refl, g.0 h)), (λ h. g.1 h.1))
+both false u f g = ((λ h. absurd (false≢true h)), (λ h. absurd (false≢true (f.1 h.0))))
+
+-- the distance of two numbers in order
+pub distance_up : (x y : ℤ) → y ≤ℤ x → pos (unsigned_abs (x -ℤ y)) ≡ x -ℤ y
+distance_up x y h = omega (arith, ints)

@@ -1,6 +1,7 @@
 -- Enclosures as sets of numbers.
-use Rattle.std.specs.Prelude.{◌≤ℤ◌, ◌<ℤ◌, ◌≡◌, ℤ, Option, Some, None, int_le, if◌then◌else◌}
+use Rattle.std.specs.Prelude.{◌≤ℤ◌, ◌<ℤ◌, ◌≡◌, ℕ, ℤ, Bool, Option, Some, None, int_le, if◌then◌else◌}
 use Rattle.std.specs.Int.{int_min, int_max}
+use Rattle.fixed_word.specs.Format.{InRange}
 use Rattle.fixed_interval.specs.Ends.{Ends}
 
 -- x lies between the ends
@@ -25,3 +26,7 @@ abbrev pub common_of : Ends → Ends → Option Ends
 common_of a b =
     let e : Ends = record { low = int_max a.low b.low; high = int_min a.high b.high } in
     if int_le e.low e.high then Some e else None
+
+-- both ends fit the word
+abbrev pub EndsFit : Bool → ℕ → Ends → Type 0
+EndsFit signed n e = InRange signed n e.low × InRange signed n e.high

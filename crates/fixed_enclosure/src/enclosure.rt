@@ -10,7 +10,7 @@ use std::alloc::AllocError;
 use std::marker::Model;
 
 /// All numbers from a low end up to a high end, both included. Contracts see the bits of the two ends.
-#[derive(Copy, PartialEq, Eq, Hash)]
+#[derive(Copy, PartialEq, Eq, Hash, Debug)]
 pub struct Enclosure<T: Word, const F: u32> {
     interval: Interval<T>,
 }

@@ -8,6 +8,8 @@
 mod comparing;
 mod enclosure;
 mod operations;
+mod operators;
+mod order;
 mod sets;
 mod width;
 

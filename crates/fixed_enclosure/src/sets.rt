@@ -1,16 +1,16 @@
 //! Enclosures as sets of numbers.
 
 ghost use Rattle.std.specs.Prelude.{◌≡◌, ◌↔◌, IsTrue};
-ghost use Rattle.std.specs.Int.{int_max, int_min};
 ghost use Rattle.std.specs.Option.{option_map};
 ghost use Rattle.fixed_interval.specs.Ends.{ends_of};
 ghost use Rattle.fixed_interval.specs.Containment.{Encloses};
 ghost use Rattle.fixed_enclosure.specs.Sets.{Contains, common_of, hull_of};
 
 use crate::enclosure::{Enclosure, enclosed};
+use crate::order::{greater, is_at_most, lesser};
 use fixed_interval::Interval;
 use fixed_num::Fixed;
-use fixed_word::{RawWord, Word};
+use fixed_word::Word;
 
 impl<T: Word, const F: u32> Enclosure<T, F> {
     /// Returns the enclosure of one number.
@@ -24,14 +24,15 @@ impl<T: Word, const F: u32> Enclosure<T, F> {
     pub fn contains(self, number: Fixed<T, F>) -> bool
         ensures { IsTrue result ↔ Contains (ends_of T.value self) (T.value number.bits) }
     {
-        self.low().bits <= number.bits && number.bits <= self.high().bits
+        is_at_most(self.low().bits, number.bits) & is_at_most(number.bits, self.high().bits)
     }
 
     /// Returns whether each number of the other enclosure lies in this one.
     pub fn contains_enclosure(self, other: Self) -> bool
         ensures { IsTrue result ↔ Encloses (ends_of T.value self) (ends_of T.value other) }
     {
-        self.low().bits <= other.low().bits && other.high().bits <= self.high().bits
+        is_at_most(self.low().bits, other.low().bits)
+            & is_at_most(other.high().bits, self.high().bits)
     }
 
     /// Returns the narrowest enclosure that contains both.
@@ -51,20 +52,4 @@ impl<T: Word, const F: u32> Enclosure<T, F> {
         let high = lesser(self.high().bits, other.high().bits);
         enclosed(Interval::new(low, high))
     }
-}
-
-/// Returns the lesser of two words.
-#[inline]
-fn lesser<T: RawWord>(a: T, b: T) -> T
-    ensures { T.value result ≡ int_min (T.value a) (T.value b) }
-{
-    if b < a { b } else { a }
-}
-
-/// Returns the greater of two words.
-#[inline]
-fn greater<T: RawWord>(a: T, b: T) -> T
-    ensures { T.value result ≡ int_max (T.value a) (T.value b) }
-{
-    if a < b { b } else { a }
 }

@@ -4,20 +4,13 @@ ghost use Rattle.std.specs.Prelude.{◌≡◌, ◌-ℤ◌};
 
 use crate::enclosure::Enclosure;
 use fixed_num::Fixed;
-use fixed_word::{RawWord, Word};
+use fixed_word::Word;
 
 impl<T: Word, const F: u32> Enclosure<T, F> {
     /// Returns how far the high end lies above the low one, exactly: the unsigned format has room for it.
     pub fn width(self) -> Fixed<T::Unsigned, F>
         ensures { T.Unsigned.value result.bits ≡ T.value self.hi -ℤ T.value self.lo }
     {
-        Fixed {
-            bits: self
-                .high()
-                .bits
-                .difference(self.low().bits)
-                .wrapped
-                .to_unsigned(),
-        }
+        self.high().abs_diff(self.low())
     }
 }
