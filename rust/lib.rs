@@ -184,8 +184,9 @@ pub use between::ConversionError;
 pub use cast::{
     Castable, FromNum, MulInto, Numeric, Order, Source, Target, ToFloat, ToNum, ToWhole,
 };
+pub use enclosure::Enclosure;
 pub use float::Binary;
-pub use interval::{Interval, add_in, div_in, mul_in, sqrt_in, sub_in};
+pub use interval::{Interval, abs_in, add_in, div_in, mul_in, neg_in, sqrt_in, square_in, sub_in};
 pub use num::{
     Constants, Fixed, FixedI8, FixedI16, FixedI32, FixedI64, FixedU8, FixedU16, FixedU32, FixedU64,
     Held, Number,

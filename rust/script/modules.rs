@@ -14,9 +14,9 @@ use std::path::Path;
 use std::{env, fs};
 
 /// The crates of the library, lowest first, without the `fixed_` in front.
-pub const LIBRARY: [&str; 17] = [
+pub const LIBRARY: [&str; 18] = [
     "word", "bits", "root", "logs", "kernel", "convert", "text", "decimal", "num", "float", "cast",
-    "policy", "strict", "ops", "poly", "filter", "interval",
+    "policy", "strict", "ops", "poly", "filter", "interval", "enclosure",
 ];
 
 /// The crates of the calculator, lowest first.

@@ -4,7 +4,7 @@
 use std::cell::RefCell;
 use std::panic::{self, PanicHookInfo, UnwindSafe};
 use std::sync::Once;
-use zugyelmas::Binary;
+use zugyelmas::{Binary, Enclosure};
 use zugyelmas::prelude::*;
 use zugyelmas::{
     bits, filter, float, interval, kernel, logs, num, ops, policy, poly, root, strict, word,
@@ -15,6 +15,11 @@ type Unsigned = FixedU8<4>;
 
 fn byte(bits: i8) -> Byte {
     Byte::from_bits(bits)
+}
+
+/// The enclosure of the numbers with 4 fraction bits and bits from `low` to `high`.
+fn enclosure(low: i8, high: i8) -> Enclosure<i8, 4> {
+    Enclosure::from_interval(interval::Interval::from_ends(low, high))
 }
 
 /// The interval from 1 to 4 bits.
@@ -167,6 +172,14 @@ stops! {
     interval_product, "the fraction frac is at most the width", interval::mul_in(&ends(), &ends(), 9);
     interval_quotient, "the fraction frac is at most the width", interval::div_in(&ends(), &ends(), 9);
     interval_root, "the fraction frac is at most the width", interval::sqrt_in(&ends(), 9);
+    interval_square, "the fraction frac is at most the width", interval::square_in(&ends(), 9);
+    interval_ends, "`lo` is at most `hi`", interval::Interval::from_ends(2_i8, 1);
+    enclosure_sum, "the ends fit", enclosure(0, 127) + enclosure(0, 1);
+    enclosure_difference, "the ends fit", enclosure(-128, 0) - enclosure(0, 1);
+    enclosure_product, "the ends fit", enclosure(0, 127) * enclosure(0, 127);
+    enclosure_quotient, "the ends fit", enclosure(0, 127) / enclosure(1, 1);
+    enclosure_by_zero, "0 lies outside the divisor", enclosure(0, 1) / enclosure(-1, 1);
+    enclosure_negative, "the ends fit", -enclosure(-128, 0);
 }
 
 stops_when_debugging! {

@@ -32,3 +32,8 @@ filter_reply signed n s ps = overflow_or (accumulator s ps (length ps)) (least_b
 abbrev pub reply_map : {T : Type 0} → (T → ℤ) → Reply T → Reply ℤ
 reply_map value (Value v) = Value (value v)
 reply_map value (Overflow t) = Overflow t
+
+-- a state after a reply: moved by a value, and the same after an overflow
+abbrev pub state_after : {T S : Type 0} → S → (T → S) → Reply T → S
+state_after same moved (Value v) = moved v
+state_after same moved (Overflow t) = same

@@ -8,6 +8,7 @@
 
 mod accumulation;
 mod bank;
+mod biquad;
 mod channel;
 mod fault;
 mod header;
@@ -19,6 +20,7 @@ mod shape;
 
 pub use accumulation::output_of;
 pub use bank::Bank;
+pub use biquad::{Biquad, Section};
 pub use fault::FilterFault;
 pub use reply::Reply;
 pub use running::filter_run;

@@ -9,17 +9,17 @@ use Rattle.fixed_interval.proofs.Corners.{Brackets, corners_high, corners_low, c
 use Rattle.fixed_interval.proofs.Rounded.{ceiling_above, floor_above, floor_below_ceiling}
 
 -- the divisor is above 0
-some : (f : ℕ) → pos 0 <ℤ pos (2 ^ f)
+pub some : (f : ℕ) → pos 0 <ℤ pos (2 ^ f)
 some f = omega (arith, ints, pow_pos f)
 
 -- a product at a corner, in units of 1 / d
-corner_low : (m p r : ℤ) (d f : ℕ) → m ≤ℤ floor_over (p *ℤ r) (pos (2 ^ f)) → (m *ℤ pos (d * d * 2 ^ f)) ≤ℤ ((p *ℤ pos d) *ℤ (r *ℤ pos d))
+pub corner_low : (m p r : ℤ) (d f : ℕ) → m ≤ℤ floor_over (p *ℤ r) (pos (2 ^ f)) → (m *ℤ pos (d * d * 2 ^ f)) ≤ℤ ((p *ℤ pos d) *ℤ (r *ℤ pos d))
 corner_low m p r d f h =
     let l = (floor_above m (p *ℤ r) (pos (2 ^ f)) (some f)).0 h in
     let t = times_le (m *ℤ pos (2 ^ f)) (p *ℤ r) (d * d) l in
     omega (arith, ints, times_assoc m (pos (2 ^ f)) (pos (d * d)), scaled_product p r d)
 
-corner_high : (m p r : ℤ) (d f : ℕ) → ceiling_over (p *ℤ r) (pos (2 ^ f)) ≤ℤ m → ((p *ℤ pos d) *ℤ (r *ℤ pos d)) ≤ℤ (m *ℤ pos (d * d * 2 ^ f))
+pub corner_high : (m p r : ℤ) (d f : ℕ) → ceiling_over (p *ℤ r) (pos (2 ^ f)) ≤ℤ m → ((p *ℤ pos d) *ℤ (r *ℤ pos d)) ≤ℤ (m *ℤ pos (d * d * 2 ^ f))
 corner_high m p r d f h =
     let l = (ceiling_above m (p *ℤ r) (pos (2 ^ f)) (some f)).0 h in
     let t = times_le (p *ℤ r) (m *ℤ pos (2 ^ f)) (d * d) l in

@@ -14,16 +14,16 @@ use Rattle.fixed_interval.proofs.Rounded.{ceiling_above, ceiling_below, floor_ab
 use Rattle.fixed_interval.proofs.RootEnds.{ceiling_root_is, square_at_most}
 
 -- a number between the ends, over 1
-at_one : (x : ℤ) (e : Ends) → e.low ≤ℤ x → x ≤ℤ e.high → IsInside x 1 e
+pub at_one : (x : ℤ) (e : Ends) → e.low ≤ℤ x → x ≤ℤ e.high → IsInside x 1 e
 at_one x e l h = record { from_low = omega (arith, ints); to_high = omega (arith, ints) }
 
-low_one : (e : Ends) → e.low ≤ℤ e.high → IsInside e.low 1 e
+pub low_one : (e : Ends) → e.low ≤ℤ e.high → IsInside e.low 1 e
 low_one e o = at_one e.low e (omega (arith, ints)) o
 
-high_one : (e : Ends) → e.low ≤ℤ e.high → IsInside e.high 1 e
+pub high_one : (e : Ends) → e.low ≤ℤ e.high → IsInside e.high 1 e
 high_one e o = at_one e.high e o (omega (arith, ints))
 
-to_ends : (r e f : Ends) → e ≡ f → Encloses r e → Encloses r f
+pub to_ends : (r e f : Ends) → e ≡ f → Encloses r e → Encloses r f
 to_ends r e f is h = subst (λ (x : Ends). Encloses r x) is h
 
 pub sum_tight : IsTight sum_ends HoldsSums
@@ -44,13 +44,13 @@ difference_tight a b e r p q is h =
 
 module _ (f : ℕ) (r : Ends) where
   -- ---- products
-  product_low : (x y : ℤ) → IsInside (x *ℤ y) (1 * 1 * 2 ^ f) r → r.low ≤ℤ floor_over (x *ℤ y) (pos (2 ^ f))
+  pub product_low : (x y : ℤ) → IsInside (x *ℤ y) (1 * 1 * 2 ^ f) r → r.low ≤ℤ floor_over (x *ℤ y) (pos (2 ^ f))
   product_low x y i =
       let one : 1 * 1 * 2 ^ f ≡ 2 ^ f = omega arith in
       let some = pow_pos f in
       (floor_above r.low (x *ℤ y) (pos (2 ^ f)) (omega (arith, ints))).1 (subst (λ (n : ℕ). (r.low *ℤ pos n) ≤ℤ (x *ℤ y)) one i.from_low)
 
-  product_high : (x y : ℤ) → IsInside (x *ℤ y) (1 * 1 * 2 ^ f) r → ceiling_over (x *ℤ y) (pos (2 ^ f)) ≤ℤ r.high
+  pub product_high : (x y : ℤ) → IsInside (x *ℤ y) (1 * 1 * 2 ^ f) r → ceiling_over (x *ℤ y) (pos (2 ^ f)) ≤ℤ r.high
   product_high x y i =
       let one : 1 * 1 * 2 ^ f ≡ 2 ^ f = omega arith in
       let some = pow_pos f in

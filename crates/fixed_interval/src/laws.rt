@@ -2,8 +2,8 @@
 
 ghost use Rattle.std.specs.Prelude.{◌≡◌, ◌↔◌, ◌≤ℤ◌, ◌<ℤ◌, ◌*ℤ◌, ℕ, ℤ, pos};
 ghost use Rattle.fixed_text.specs.Texts.{IsReader};
-ghost use Rattle.fixed_interval.specs.Ends.{ceiling_over, ceiling_root, difference_ends, floor_over, product_ends, quotient_ends, root_ends, sum_ends};
-ghost use Rattle.fixed_interval.specs.Containment.{HoldsDifferences, HoldsProducts, HoldsQuotients, HoldsRoots, HoldsSums, IsCeilingRoot, IsMonotone, IsMonotoneOfOne, IsTight, IsTightOfOne};
+ghost use Rattle.fixed_interval.specs.Ends.{ceiling_over, ceiling_root, difference_ends, floor_over, magnitude_ends, negation_ends, product_ends, quotient_ends, root_ends, square_ends, sum_ends};
+ghost use Rattle.fixed_interval.specs.Containment.{HoldsDifferences, HoldsMagnitudes, HoldsNegations, HoldsProducts, HoldsQuotients, HoldsRoots, HoldsSquares, HoldsSums, IsCeilingRoot, IsMonotone, IsMonotoneOfOne, IsTight, IsTightOfOne};
 ghost use Rattle.fixed_interval.specs.Parser.{header_of, line_of};
 ghost use Rattle.fixed_interval.specs.Text.{header_text, line_text};
 
@@ -32,6 +32,9 @@ pub fn inclusion_law()
     ensures product { (f : ℕ) → IsMonotone (λ a b. product_ends a b f) }
     ensures quotient { (f : ℕ) → IsMonotone (λ a b. quotient_ends a b f) }
     ensures root { (f : ℕ) → IsMonotoneOfOne (λ a. root_ends a f) }
+    ensures negation { IsMonotoneOfOne negation_ends }
+    ensures magnitude { IsMonotoneOfOne magnitude_ends }
+    ensures square { (f : ℕ) → IsMonotoneOfOne (λ a. square_ends a f) }
 {}
 
 /// No narrower interval holds all that an operation makes of the numbers in two intervals: each
@@ -42,6 +45,9 @@ pub fn tightness_law()
     ensures product { (f : ℕ) → IsTight (λ a b. product_ends a b f) (λ a b r. HoldsProducts a b f r) }
     ensures quotient { (f : ℕ) → IsTight (λ a b. quotient_ends a b f) (λ a b r. HoldsQuotients a b f r) }
     ensures root { (f : ℕ) → IsTightOfOne (λ a. root_ends a f) (λ a r. HoldsRoots a f r) }
+    ensures negation { IsTightOfOne negation_ends HoldsNegations }
+    ensures magnitude { IsTightOfOne magnitude_ends HoldsMagnitudes }
+    ensures square { (f : ℕ) → IsTightOfOne (λ a. square_ends a f) (λ a r. HoldsSquares a f r) }
 {}
 
 /// A piece is a header, or a line, exactly where it is the text of one, and is read as that.

@@ -1,6 +1,6 @@
 //! Intervals of fixed-point numbers, whose ends are rounded outward and are as near as the format allows.
 //!
-//! An [`Interval`] is seen by the words of its ends. Each of the five calls answers the interval of the ends that its
+//! An [`Interval`] is seen by the words of its ends. Each of the eight calls answers the interval of the ends that its
 //! operation has, and None exactly where it has none or one of them does not fit the word. What the operation makes
 //! of any rationals in the operands lies in the answer; [`laws::inclusion_law`](laws::inclusion_law) says that
 //! narrower operands give a narrower answer, and [`laws::tightness_law`](laws::tightness_law) that no interval of
@@ -18,6 +18,8 @@ mod products;
 mod quotients;
 mod roots;
 mod running;
+mod signs;
+mod squares;
 mod sums;
 mod whole;
 
@@ -27,4 +29,6 @@ pub use products::mul_in;
 pub use quotients::div_in;
 pub use roots::sqrt_in;
 pub use running::interval_run;
+pub use signs::{abs_in, neg_in};
+pub use squares::square_in;
 pub use sums::{add_in, sub_in};

@@ -1,6 +1,7 @@
 //! Banks of filters: scripts with known answers, and the calls of a bank.
 
-use fixed_filter::{Bank, FilterFault, Reply, Shape, filter_run};
+use fixed_filter::{Bank, Biquad, FilterFault, Reply, Section, Shape, filter_run};
+use fixed_num::Fixed;
 use std::test::Fail;
 
 /// Scripts and what they print.
@@ -189,4 +190,25 @@ fn on_words(rt: HostRuntime) -> Result<(), Fail> {
     assert_eq!(rt; bank.tap(1, 0), 32767);
     assert_eq!(rt; [bank.past(0, 0), bank.past(0, 1)], [512, 256]);
     Ok(())
+}
+
+#[test]
+fn a_second_order_section(rt: HostRuntime) {
+    let half = Fixed::<i16, 14> { bits: 8192 };
+    let zero = Fixed::<i16, 14> { bits: 0 };
+    let one = Fixed::<i16, 8> { bits: 256 };
+    let mut filter = Biquad::new(Section {
+        b0: half,
+        b1: zero,
+        b2: zero,
+        a1: half,
+        a2: zero,
+    });
+    let found = [filter.push(one), filter.push(one), filter.push(one)];
+    let wanted = [
+        Reply::Value(Fixed { bits: 128 }),
+        Reply::Value(Fixed { bits: 192 }),
+        Reply::Value(Fixed { bits: 224 }),
+    ];
+    assert_eq!(rt; found, wanted);
 }

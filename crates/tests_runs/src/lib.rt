@@ -2,6 +2,8 @@
 #![tactic(auto)]
 
 #[cfg(test)]
+mod enclosure;
+#[cfg(test)]
 mod filter;
 #[cfg(test)]
 mod interval;

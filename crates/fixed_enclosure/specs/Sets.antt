@@ -1,0 +1,32 @@
+-- Enclosures as sets of numbers.
+use Rattle.std.specs.Prelude.{◌≤ℤ◌, ◌<ℤ◌, ◌≡◌, ℕ, ℤ, Bool, Option, Some, None, int_le, if◌then◌else◌}
+use Rattle.std.specs.Int.{int_min, int_max}
+use Rattle.fixed_word.specs.Format.{InRange}
+use Rattle.fixed_interval.specs.Ends.{Ends}
+
+-- x lies between the ends
+pub record Contains (e : Ends) (x : ℤ) : Type 0 where
+  pub from_low : e.low ≤ℤ x
+  pub to_high : x ≤ℤ e.high
+
+-- each number of a stands in the relation to each one of b
+abbrev pub ForAll : (ℤ → ℤ → Type 0) → Ends → Ends → Type 0
+ForAll R a b = (x y : ℤ) → Contains a x → Contains b y → R x y
+
+-- some number of a stands in the relation to some one of b
+abbrev pub ForSome : (ℤ → ℤ → Type 0) → Ends → Ends → Type 0
+ForSome R a b = (x : ℤ) × (y : ℤ) × Contains a x × Contains b y × R x y
+
+-- the narrowest ends around both
+abbrev pub hull_of : Ends → Ends → Ends
+hull_of a b = record { low = int_min a.low b.low; high = int_max a.high b.high }
+
+-- the ends of what lies in both, if anything does
+abbrev pub common_of : Ends → Ends → Option Ends
+common_of a b =
+    let e : Ends = record { low = int_max a.low b.low; high = int_min a.high b.high } in
+    if int_le e.low e.high then Some e else None
+
+-- both ends fit the word
+abbrev pub EndsFit : Bool → ℕ → Ends → Type 0
+EndsFit signed n e = InRange signed n e.low × InRange signed n e.high

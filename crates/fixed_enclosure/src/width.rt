@@ -1,0 +1,16 @@
+//! How wide an enclosure is.
+
+ghost use Rattle.std.specs.Prelude.{◌≡◌, ◌-ℤ◌};
+
+use crate::enclosure::Enclosure;
+use fixed_num::Fixed;
+use fixed_word::Word;
+
+impl<T: Word, const F: u32> Enclosure<T, F> {
+    /// Returns how far the high end lies above the low one, exactly: the unsigned format has room for it.
+    pub fn width(self) -> Fixed<T::Unsigned, F>
+        ensures { T.Unsigned.value result.bits ≡ T.value self.hi -ℤ T.value self.lo }
+    {
+        self.high().abs_diff(self.low())
+    }
+}

@@ -1,0 +1,132 @@
+//! Second-order sections.
+
+ghost use Rattle.std.specs.Prelude.{◌≡◌, ◌≤◌, ◌∷◌, [], pos};
+ghost use Rattle.fixed_filter.specs.Replies.{filter_reply, reply_map, state_after};
+
+use crate::accumulation::output_of;
+use crate::reply::Reply;
+use crate::shape::Shape;
+use fixed_num::Fixed;
+use fixed_word::{RawWord, Word};
+
+/// The coefficients of a second-order section, with G fraction bits: the output is
+/// `b0 x + b1 x1 + b2 x2 + a1 y1 + a2 y2` of the sample x, the two samples before it, and the two outputs before it.
+/// Where a transfer function has the denominator `1 + c1 z^-1 + c2 z^-2`, a1 is `-c1` and a2 is `-c2`.
+#[derive(Clone, Copy, PartialEq, Eq, Hash, Debug)]
+pub struct Section<T: Word, const G: u32> {
+    /// The coefficient of the sample.
+    pub b0: Fixed<T, G>,
+    /// That of the sample before it.
+    pub b1: Fixed<T, G>,
+    /// That of the sample before that.
+    pub b2: Fixed<T, G>,
+    /// That of the output before.
+    pub a1: Fixed<T, G>,
+    /// That of the output before that.
+    pub a2: Fixed<T, G>,
+}
+
+/// A second-order section in direct form I, with samples and outputs of F fraction bits: its coefficients, and the last
+/// two samples and outputs.
+#[derive(Clone, Copy, PartialEq, Eq, Hash, Debug)]
+pub struct Biquad<T: Word, const F: u32, const G: u32> {
+    /// The coefficients.
+    pub section: Section<T, G>,
+    /// The last sample.
+    pub x1: Fixed<T, F>,
+    /// The sample before it.
+    pub x2: Fixed<T, F>,
+    /// The last output.
+    pub y1: Fixed<T, F>,
+    /// The output before it.
+    pub y2: Fixed<T, F>,
+}
+
+impl<T: Word, const F: u32, const G: u32> Biquad<T, F, G> {
+    /// Returns the section at rest: samples and outputs so far are 0.
+    pub fn new(section: Section<T, G>) -> Self
+        ensures { result ≡ record {
+          section = section;
+          x1 = record { bits = T.ZERO };
+          x2 = record { bits = T.ZERO };
+          y1 = record { bits = T.ZERO };
+          y2 = record { bits = T.ZERO };
+        } }
+    {
+        Biquad {
+            section,
+            x1: Fixed { bits: T::ZERO },
+            x2: Fixed { bits: T::ZERO },
+            y1: Fixed { bits: T::ZERO },
+            y2: Fixed { bits: T::ZERO },
+        }
+    }
+
+    /// Takes a sample, and returns the output: the sum of the five products, each rounded down. If a partial sum does not
+    /// fit, the reply names its coefficient, from 0 for b0 to 4 for a2, and the section stays as it was. Preconditions: F
+    /// and G are at most the width. By [`output_law`](crate::laws::output_law) the output lies at or below the exact sum,
+    /// by less than five units.
+    pub fn push(&mut self, sample: Fixed<T, F>) -> Reply<Fixed<T, F>>
+        requires samples { F ≤ T.BITS }
+        requires coefficients { G ≤ T.BITS }
+        ensures reply { reply_map (λ y. T.value y.bits) result ≡ filter_reply T.SIGNED T.BITS (pos G)
+            ((T.value self.old.section.b0.bits, T.value sample.bits)
+            ∷ (T.value self.old.section.b1.bits, T.value self.old.x1.bits)
+            ∷ (T.value self.old.section.b2.bits, T.value self.old.x2.bits)
+            ∷ (T.value self.old.section.a1.bits, T.value self.old.y1.bits)
+            ∷ (T.value self.old.section.a2.bits, T.value self.old.y2.bits) ∷ []) }
+        ensures state { self.new ≡ state_after self.old (λ y. record self.old {
+          x1 = sample;
+          x2 = self.old.x1;
+          y1 = y;
+          y2 = self.old.y1;
+        }) result }
+    {
+        match self.output(sample) {
+            Reply::Value(bits) => {
+                let output = Fixed { bits };
+                self.x2 = self.x1;
+                self.x1 = sample;
+                self.y2 = self.y1;
+                self.y1 = output;
+                Reply::Value(output)
+            }
+            Reply::Overflow(coefficient) => Reply::Overflow(coefficient),
+        }
+    }
+
+    /// The output after a sample.
+    #[inline]
+    fn output(&self, sample: Fixed<T, F>) -> Reply<T>
+        requires samples { F ≤ T.BITS }
+        requires coefficients { G ≤ T.BITS }
+        ensures { reply_map T.value result ≡ filter_reply T.SIGNED T.BITS (pos G)
+            ((T.value self.now.section.b0.bits, T.value sample.bits)
+            ∷ (T.value self.now.section.b1.bits, T.value self.now.x1.bits)
+            ∷ (T.value self.now.section.b2.bits, T.value self.now.x2.bits)
+            ∷ (T.value self.now.section.a1.bits, T.value self.now.y1.bits)
+            ∷ (T.value self.now.section.a2.bits, T.value self.now.y2.bits) ∷ []) }
+    {
+        let shape = Shape {
+            out_frac: F,
+            coef_frac: G,
+            sample_frac: F,
+        };
+        let section = self.section;
+        let coefs = [
+            section.b0.bits,
+            section.b1.bits,
+            section.b2.bits,
+            section.a1.bits,
+            section.a2.bits,
+        ];
+        let past = [
+            sample.bits,
+            self.x1.bits,
+            self.x2.bits,
+            self.y1.bits,
+            self.y2.bits,
+        ];
+        output_of(&shape, &coefs, &past)
+    }
+}
