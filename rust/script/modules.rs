@@ -23,8 +23,9 @@ pub const LIBRARY: [&str; 17] = [
 pub const CALCULATOR: [&str; 4] = ["stream", "script", "machine", "calc"];
 
 /// The files that the library does not offer: their public calls are made by the proved code beside them alone.
-pub const INSIDE: [&str; 10] = [
+pub const INSIDE: [&str; 11] = [
     "decimal/halves",
+    "decimal/literal",
     "decimal/numeral",
     "decimal/tens",
     "kernel/whole",

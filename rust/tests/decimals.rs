@@ -9,7 +9,10 @@ use std::fmt::Debug;
 use zugyelmas::decimal::{
     DecimalError, decimal_of, exact_decimal_of, exact_places, shortest_places, write_decimal,
 };
-use zugyelmas::num::{Fixed, FixedI32, FixedU8, FromDecimal};
+use zugyelmas::num::{
+    Fixed, FixedI8, FixedI16, FixedI32, FixedI64, FixedU8, FixedU16, FixedU32, FixedU64,
+    FromDecimal,
+};
 use zugyelmas::word::{Rounding, Side, Word};
 
 const ROUNDINGS: [Rounding; 3] = [Rounding::Down, Rounding::Zero, Rounding::Even];
@@ -389,6 +392,63 @@ fn a_strict_number_that_does_not_fit_stops() {
 #[should_panic(expected = "the number fits")]
 fn an_unwrapped_number_that_does_not_fit_stops() {
     let _ = FixedU8::<4>::unwrapped_from_str("16");
+}
+
+#[test]
+fn a_constant_is_read_when_the_program_is_built() {
+    const LEAST: [i64; 4] = [
+        FixedI8::<4>::lit("-8").to_bits() as i64,
+        FixedI16::<15>::lit("-1").to_bits() as i64,
+        FixedI32::<0>::lit("-2147483648").to_bits() as i64,
+        FixedI64::<63>::lit("-1.0000000000000000000000001").to_bits(),
+    ];
+    assert_eq!(
+        LEAST,
+        [i8::MIN.into(), i16::MIN.into(), i32::MIN.into(), i64::MIN]
+    );
+    const GREATEST: [u64; 4] = [
+        FixedU8::<8>::lit("0.997").to_bits() as u64,
+        FixedU16::<4>::lit("+4095.9375").to_bits() as u64,
+        FixedU32::<32>::lit("0.9999999998").to_bits() as u64,
+        FixedU64::<64>::lit("0.99999999999999999995").to_bits(),
+    ];
+    assert_eq!(
+        GREATEST,
+        [u8::MAX.into(), u16::MAX.into(), u32::MAX.into(), u64::MAX]
+    );
+    // An error of less than half a unit, by the first 21 digits of pi.
+    const PI: FixedI64<61> = FixedI64::lit("3.14159265358979323846");
+    assert_eq!(PI.to_bits(), 0x6487_ed51_10b4_611a);
+    assert_eq!(FixedU8::<4>::lit("-0.03125"), FixedU8::from_bits(0));
+}
+
+#[test]
+fn a_constant_is_the_number_that_is_read() {
+    let mut draws = Draws(55);
+    for _ in 0..10_000 {
+        let (digits, _) = drawn(&mut draws);
+        let zeros = "0".repeat(draws.below(20) as usize);
+        for text in [format!("-{digits}"), format!("{zeros}{digits}")] {
+            if let Ok(number) = FixedI32::<16>::checked_from_str(&text) {
+                assert_eq!(FixedI32::<16>::lit(&text), number, "{text}");
+            }
+            if let Ok(number) = FixedU64::<20>::checked_from_str(&text) {
+                assert_eq!(FixedU64::<20>::lit(&text), number, "{text}");
+            }
+        }
+    }
+}
+
+#[test]
+#[should_panic(expected = "the text is a decimal that fits")]
+fn a_constant_that_does_not_fit_stops() {
+    let _ = FixedI8::<4>::lit("7.97");
+}
+
+#[test]
+#[should_panic(expected = "the text is a decimal that fits")]
+fn a_constant_with_a_fraction_past_the_width_stops() {
+    let _ = FixedI8::<9>::lit("0");
 }
 
 #[test]

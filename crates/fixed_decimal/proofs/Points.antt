@@ -1,6 +1,8 @@
 -- Where the point stands, from the runs of digits before it and behind it.
 use Rattle.std.proofs.Common.{◌≡◌, ℕ, ◌+◌, ◌-◌, ◌<◌, ◌≤◌, Bool, true, false, not, List, [], ◌∷◌, ◌++◌, length, take, drop, get_or, Some, None, zero, suc, min, if◌then◌else◌, inl, inr, true≢false, zero-add, length-append, length-drop, refl, sym, ap, ◌∙◌, arith}
-use Rattle.std.specs.Prelude.{find}
+use mir.Val.{bool_byte}
+use Rattle.std.specs.Prelude.{find, nat_lt}
+use Rattle.std.proofs.lemmas.Bool.Decides.{nat_tests}
 use Rattle.std.specs.Option.{option_or}
 use Rattle.std.specs.Char.{is_ascii_digit}
 use Rattle.std.specs.List.{list_all, prefix_len, position_or_len}
@@ -190,3 +192,7 @@ point_seen b e = ap fault_at e
 
 pub point_other : (b : ℕ) → (b ≡ 46 → ⊥) → fault_at b ≡ InvalidDigit
 point_other b ne = ap (λ t. if t then TooManyPoints else InvalidDigit) (ne_eqb b 46 ne)
+
+-- a point and a digit behind it, or none
+pub byte_is : (at end : ℕ) → min (end - at) 1 ≡ bool_byte (nat_lt at end)
+byte_is at end = grind (arith, nat_tests)

@@ -5,12 +5,12 @@ use Rattle.fixed_decimal.proofs.reading.is_exact.Goals as goal
 
 pub returns-then-halves-eq0 : goal.returns-then-halves-eq0
 returns-then-halves-eq0 c free =
-    let tail = tail_is c.args.bytes.now c.in-Ok.point c.min.result c.min.ensures in
+    let tail = tail_is c.args.bytes.now c.in-Ok.point c.smaller.result c.smaller.ensures in
     seen_even c.halves_of-halves.result.0 c.halves_of-halves.result.1 (is_exact_in c.args.bytes.now c.args.frac) c.if-halves-eq0.true
     (exact_seen c.args.bytes.now _ c.in-Ok.point c.args.frac c.halves_of-halves.result.0 c.halves_of-halves.result.1 c.in-Ok.ensures tail c.halves_of-halves.ensures.halves c.halves_of-halves.ensures.rest)
 
 pub returns-else-halves-eq0 : goal.returns-else-halves-eq0
 returns-else-halves-eq0 c free =
-    let tail = tail_is c.args.bytes.now c.in-Ok.point c.min.result c.min.ensures in
+    let tail = tail_is c.args.bytes.now c.in-Ok.point c.smaller.result c.smaller.ensures in
     seen_odd c.halves_of-halves.result.0 c.halves_of-halves.result.1 (is_exact_in c.args.bytes.now c.args.frac) c.if-halves-eq0.false
     (exact_seen c.args.bytes.now _ c.in-Ok.point c.args.frac c.halves_of-halves.result.0 c.halves_of-halves.result.1 c.in-Ok.ensures tail c.halves_of-halves.ensures.halves c.halves_of-halves.ensures.rest)
