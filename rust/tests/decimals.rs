@@ -460,16 +460,47 @@ fn what_is_no_decimal_is_named() {
     );
     assert_eq!(
         Small::checked_from_str("1_0"),
-        Err(DecimalError::InvalidDigit)
+        Err(DecimalError::InvalidDigit(1))
     );
     assert_eq!(
-        Small::checked_from_str("1e3"),
-        Err(DecimalError::InvalidDigit)
+        Small::checked_from_str("-12.5e3"),
+        Err(DecimalError::InvalidDigit(5))
+    );
+    let text = format!("+.{}x.", "0".repeat(30));
+    assert_eq!(
+        Small::checked_from_str(&text),
+        Err(DecimalError::InvalidDigit(32))
+    );
+    // The bytes are counted, and not the letters.
+    assert_eq!(
+        Small::checked_from_str("1,5"),
+        Err(DecimalError::InvalidDigit(1))
+    );
+    assert_eq!(
+        Small::checked_from_str("1\u{a0}5"),
+        Err(DecimalError::InvalidDigit(1))
     );
     assert_eq!(Small::checked_from_str("+."), Err(DecimalError::NoDigits));
     assert_eq!(Small::checked_from_str(""), Err(DecimalError::NoDigits));
     assert_eq!(Small::checked_from_str("+.5"), Ok(Small::from_bits(8)));
     assert_eq!(Small::checked_from_str("5."), Ok(Small::from_bits(80)));
+}
+
+#[test]
+fn an_error_says_what_it_is() {
+    fn read(text: &str) -> Result<FixedI32<16>, Box<dyn std::error::Error>> {
+        Ok(text.parse()?)
+    }
+    let message = |text| read(text).map_err(|error| error.to_string());
+    assert_eq!(message("1.5"), Ok(FixedI32::from_bits(98304)));
+    assert_eq!(message("12,5"), Err("invalid digit at byte 2".to_string()));
+    assert_eq!(message("-."), Err("no digits".to_string()));
+    assert_eq!(message("1.2.3"), Err("more than one point".to_string()));
+    assert_eq!(message("32768"), Err("overflow".to_string()));
+    assert_eq!(
+        DecimalError::Inexact.to_string(),
+        "not exactly a number of the format"
+    );
 }
 
 #[test]

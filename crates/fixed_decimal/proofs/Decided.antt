@@ -14,7 +14,7 @@ use Rattle.fixed_kernel.specs.inside.Alike.{Alike}
 use Rattle.fixed_kernel.proofs.Alikes.{signed_times, stands_alike}
 use Rattle.fixed_kernel.proofs.Stepped.{rounded_signed}
 use Rattle.fixed_decimal.specs.declared.error.DecimalError.{DecimalError}
-use Rattle.fixed_decimal.specs.Decimal.{decimal_row, digits_in, fault_of, places_in, unless}
+use Rattle.fixed_decimal.specs.Decimal.{decimal_row, digits_in, fault_of, place_in, places_in, unless}
 use Rattle.fixed_decimal.specs.Rows.{IsOutcomeOf}
 use Rattle.fixed_decimal.specs.inside.Reading.{IsPointAt, IsReadAs, held}
 use Rattle.fixed_decimal.specs.inside.Stepped.{stepped}
@@ -32,12 +32,12 @@ rounded_by_step r b m d h = rounded_signed r b false m d h ∙ ap (λ c. with_si
 abbrev ok : ℤ → Result ℤ DecimalError
 ok x = Ok x
 
-abbrev row_by : Bool → ℕ → Rounding → List ℕ → Result ℤ DecimalError
-row_by b f r bytes = unless (fault_of (digits_in bytes)) (rounded (with_sign b (digits_value 10 (digits_in bytes)) *ℤ pos (2 ^ f)) (pos (10 ^ places_in bytes)) r)
+abbrev row_by : ℕ → Bool → ℕ → Rounding → List ℕ → Result ℤ DecimalError
+row_by k b f r bytes = unless (fault_of k (digits_in bytes)) (rounded (with_sign b (digits_value 10 (digits_in bytes)) *ℤ pos (2 ^ f)) (pos (10 ^ places_in bytes)) r)
 
-row_of_parts : (b : Bool) (bytes : List ℕ) (at f : ℕ) (r : Rounding) → IsPointAt bytes at
-    → row_by b f r bytes ≡ Ok (with_sign b (stepped r b (digits_value 10 (take at bytes) * 2 ^ f * 10 ^ length (drop (at + 1) bytes) + digits_value 10 (drop (at + 1) bytes) * 2 ^ f) (10 ^ length (drop (at + 1) bytes))))
-row_of_parts b bytes at f r i =
+row_of_parts : (k : ℕ) (b : Bool) (bytes : List ℕ) (at f : ℕ) (r : Rounding) → IsPointAt bytes at
+    → row_by k b f r bytes ≡ Ok (with_sign b (stepped r b (digits_value 10 (take at bytes) * 2 ^ f * 10 ^ length (drop (at + 1) bytes) + digits_value 10 (drop (at + 1) bytes) * 2 ^ f) (10 ^ length (drop (at + 1) bytes))))
+row_of_parts w b bytes at f r i =
     let whole = take at bytes in
     let part = drop (at + 1) bytes in
     let k = length part in
@@ -46,7 +46,7 @@ row_of_parts b bytes at f r i =
     let value : digits_value 10 (digits_in bytes) ≡ digits_value 10 whole * 10 ^ k + digits_value 10 part = ap (digits_value 10) digits ∙ value_join whole part in
     let units : digits_value 10 (digits_in bytes) * 2 ^ f ≡ digits_value 10 whole * 2 ^ f * 10 ^ k + digits_value 10 part * 2 ^ f =
     ap (λ n. n * 2 ^ f) value ∙ add-mul (digits_value 10 whole * 10 ^ k) (digits_value 10 part) (2 ^ f) ∙ ap (λ n. n + digits_value 10 part * 2 ^ f) (mul_right_comm (digits_value 10 whole) (10 ^ k) (2 ^ f)) in
-    ap (λ o. unless o (rounded (with_sign b (digits_value 10 (digits_in bytes)) *ℤ pos (2 ^ f)) (pos (10 ^ places_in bytes)) r)) i.free
+    ap (λ o. unless o (rounded (with_sign b (digits_value 10 (digits_in bytes)) *ℤ pos (2 ^ f)) (pos (10 ^ places_in bytes)) r)) (i.free w)
     ∙ ap (λ (x : ℤ). ok (rounded x (pos (10 ^ places_in bytes)) r)) (signed_times b (digits_value 10 (digits_in bytes)) (2 ^ f) ∙ ap (with_sign b) units)
     ∙ ap (λ n. ok (rounded (with_sign b (digits_value 10 whole * 2 ^ f * 10 ^ k + digits_value 10 part * 2 ^ f)) (pos (10 ^ n)) r)) places
     ∙ ap ok (rounded_by_step r b (digits_value 10 whole * 2 ^ f * 10 ^ k + digits_value 10 part * 2 ^ f) (10 ^ k) (one-le-pow k 10 (omega arith)))
@@ -81,7 +81,7 @@ decided b text bytes whole part at f units halves magnitude rest r eb ebytes i e
     let j = halves_joined (held u) q d hd in
     let size : magnitude ≡ held u + mv.0 = step (held u * d + q) d hd (ap (λ x. 2 * x + halves) eunits ∙ ap (λ x. 2 * held u + x) ehalves ∙ j.0) (erest ∙ ap (λ x. not (x == 0)) j.1) ∙ mv.2 in
     let row : decimal_row text f r ≡ Ok (with_sign b (u + mv.0)) =
-    ap (λ c. row_by c f r (without_leading_sign text)) (sym eb) ∙ ap (row_by b f r) (sym ebytes) ∙ row_of_parts b bytes at f r i
+    ap (λ c. row_by (place_in text) c f r (without_leading_sign text)) (sym eb) ∙ ap (row_by (place_in text) b f r) (sym ebytes) ∙ row_of_parts (place_in text) b bytes at f r i
     ∙ ap (λ xs. ok (with_sign b (stepped r b (digits_value 10 xs * 2 ^ f * 10 ^ length (drop (at + 1) bytes) + digits_value 10 (drop (at + 1) bytes) * 2 ^ f) (10 ^ length (drop (at + 1) bytes))))) (sym ewhole)
     ∙ ap (λ xs. ok (with_sign b (stepped r b (digits_value 10 whole * 2 ^ f * 10 ^ length xs + digits_value 10 xs * 2 ^ f) (10 ^ length xs)))) (sym epart)
     ∙ ap (λ m. ok (with_sign b m)) mv.1 in

@@ -16,6 +16,7 @@ pub const PART: usize = 18;
 pub const fn sign_of(text: &[u8]) -> (bool, &[u8])
     ensures minus { result.0 ≡ starts_with_minus text.now }
     ensures rest { result.1.now ≡ without_leading_sign text.now }
+    ensures length { length result.1.now ≤ length text.now }
 {
     match text {
         [b'-', rest @ ..] => (true, rest),
@@ -54,10 +55,11 @@ const fn part_end(bytes: &[u8], at: usize) -> usize
 }
 
 /// Where the point stands, or where the digits end if there is none. An error where the bytes are no decimal without
-/// its sign.
+/// its sign: an invalid digit has its place behind so many bytes that stand before these.
 #[inline]
-pub const fn point_of(bytes: &[u8]) -> Result<usize, DecimalError>
-    ensures { IsPoint bytes.now result }
+pub const fn point_of(bytes: &[u8], before: usize) -> Result<usize, DecimalError>
+    requires { before + length bytes.now < 2 ^ 64 }
+    ensures { IsPoint before bytes.now result }
 {
     let point = digits_end(bytes, 0);
     let end = part_end(bytes, point);
@@ -65,7 +67,7 @@ pub const fn point_of(bytes: &[u8]) -> Result<usize, DecimalError>
         if bytes[end] == b'.' {
             Err(DecimalError::TooManyPoints)
         } else {
-            Err(DecimalError::InvalidDigit)
+            Err(DecimalError::InvalidDigit(before + end))
         }
     } else if end == (end > point) as usize {
         Err(DecimalError::NoDigits)

@@ -3,8 +3,8 @@
 ghost use Rattle.std.specs.Prelude.{◌≡◌, ◌==◌, ◌+◌, ◌*◌, ◌/◌, ◌%◌, ◌^◌, ◌<◌, ◌≤◌, drop, length, min, not, take, true, None};
 ghost use Rattle.std.specs.Char.{is_ascii_digit};
 ghost use Rattle.std.specs.List.{list_all};
-ghost use Rattle.std.specs.Str.Parse.{digits_value};
-ghost use Rattle.fixed_decimal.specs.Decimal.{decimal_row, digits_in, exact_row, fault_of, is_exact_in};
+ghost use Rattle.std.specs.Str.Parse.{digits_value, without_leading_sign};
+ghost use Rattle.fixed_decimal.specs.Decimal.{decimal_row, exact_row, fault_in, is_exact_in};
 ghost use Rattle.fixed_decimal.specs.Rows.{IsOutcomeOf};
 ghost use Rattle.fixed_decimal.specs.inside.Reading.{IsReadAs, held};
 
@@ -47,7 +47,7 @@ pub(crate) const fn magnitude_of(
         let magnitude = rounded_halves(halves, rest, below_zero, rounding);
         return Ok((below_zero, magnitude));
     }
-    match point_of(bytes) {
+    match point_of(bytes, text.len() - bytes.len()) {
         Ok(point) => {
             let whole = units_of(bytes, point, frac);
             let (halves, rest) = halves_of(bytes, smaller(point + 1, bytes.len()), frac);
@@ -66,7 +66,7 @@ pub fn exact_decimal_of<T: Word>(text: &[u8], frac: u32) -> Result<Outcome<T>, D
 {
     match decimal_of(text, frac, Rounding::Zero) {
         Ok(outcome) => {
-            if is_exact(sign_of(text).1, frac) {
+            if is_exact(text, frac) {
                 Ok(outcome)
             } else {
                 Err(DecimalError::Inexact)
@@ -76,13 +76,14 @@ pub fn exact_decimal_of<T: Word>(text: &[u8], frac: u32) -> Result<Outcome<T>, D
     }
 }
 
-/// Whether the number of a decimal without its sign is a whole number of units of `2^-frac`.
+/// Whether the number of a decimal is a whole number of units of `2^-frac`.
 #[inline]
-const fn is_exact(bytes: &[u8], frac: u32) -> bool
+const fn is_exact(text: &[u8], frac: u32) -> bool
     requires { frac ≤ 64 }
-    ensures { fault_of (digits_in bytes.now) ≡ None → result ≡ is_exact_in bytes.now frac }
+    ensures { fault_in text.now ≡ None → result ≡ is_exact_in (without_leading_sign text.now) frac }
 {
-    match point_of(bytes) {
+    let bytes = sign_of(text).1;
+    match point_of(bytes, text.len() - bytes.len()) {
         Ok(point) => {
             let (halves, rest) = halves_of(bytes, smaller(point + 1, bytes.len()), frac);
             halves % 2 == 0 && !rest

@@ -6,7 +6,7 @@ use Rattle.fixed_word.specs.Format.{with_sign}
 use Rattle.fixed_kernel.specs.inside.Alike.{Alike}
 use Rattle.fixed_decimal.specs.declared.error.DecimalError.{DecimalError}
 use Rattle.std.specs.Str.Parse.{digits_value}
-use Rattle.fixed_decimal.specs.Decimal.{digits_in, fault_of, is_point, places_in}
+use Rattle.fixed_decimal.specs.Decimal.{digits_in, fault_of, is_point, lead, places_in}
 
 -- a number below 2 ^ 64, or one from there on that ends in the same 64 bits
 abbrev pub held : ℕ → ℕ
@@ -20,15 +20,16 @@ part_end bytes at = if slice_index bytes at == 46 then at + 1 + prefix_len is_as
 pub record IsPointAt (bytes : List ℕ) (at : ℕ) : Type 0 where
   pub place : position_or_len is_point bytes ≡ at
   pub digits : list_all is_ascii_digit (digits_in bytes) ≡ true
-  pub free : fault_of (digits_in bytes) ≡ None
+  pub free : (place : ℕ) → fault_of place (digits_in bytes) ≡ None
 
-abbrev pub IsPoint : List ℕ → Result ℕ DecimalError → Type 0
-IsPoint bytes (Ok at) = IsPointAt bytes at
-IsPoint bytes (Err e) = fault_of (digits_in bytes) ≡ Some e
+-- the same, or why not, of bytes that stand behind so many others
+abbrev pub IsPoint : ℕ → List ℕ → Result ℕ DecimalError → Type 0
+IsPoint before bytes (Ok at) = IsPointAt bytes at
+IsPoint before bytes (Err e) = fault_of (before + lead bytes) (digits_in bytes) ≡ Some e
 
 -- the number of all digits, and how many of them stand behind the point
 pub record IsShort (bytes : List ℕ) (value places : ℕ) : Type 0 where
-  pub free : fault_of (digits_in bytes) ≡ None
+  pub free : (place : ℕ) → fault_of place (digits_in bytes) ≡ None
   pub number : value ≡ digits_value 10 (digits_in bytes)
   pub behind : places ≡ places_in bytes
   pub small : value < 2 ^ 60
