@@ -179,7 +179,7 @@ fn reading<T: Word + std::fmt::Display>(
 fn why_no_decimal(error: DecimalError) -> &'static str {
     match error {
         DecimalError::NoDigits => "no digits",
-        DecimalError::InvalidDigit => "invalid digit",
+        DecimalError::InvalidDigit(_) => "invalid digit",
         DecimalError::TooManyPoints => "more than one point",
         DecimalError::Inexact => "inexact",
         DecimalError::Overflow => "overflow",

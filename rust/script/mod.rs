@@ -5,6 +5,7 @@ pub mod changes;
 pub mod conditions;
 pub mod edits;
 pub mod erasing;
+pub mod errors;
 pub mod examples;
 pub mod items;
 pub mod modules;

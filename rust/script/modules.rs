@@ -4,6 +4,7 @@ use crate::script::attributes::mark;
 use crate::script::conditions::Known;
 use crate::script::edits::{Edits, bytes};
 use crate::script::erasing::Erasing;
+use crate::script::errors::errors;
 use crate::script::items::{Part, Source};
 use crate::script::names::Names;
 use crate::script::pages::Pages;
@@ -23,8 +24,9 @@ pub const LIBRARY: [&str; 18] = [
 pub const CALCULATOR: [&str; 4] = ["stream", "script", "machine", "calc"];
 
 /// The files that the library does not offer: their public calls are made by the proved code beside them alone.
-pub const INSIDE: [&str; 10] = [
+pub const INSIDE: [&str; 11] = [
     "decimal/halves",
+    "decimal/literal",
     "decimal/numeral",
     "decimal/tens",
     "kernel/whole",
@@ -242,7 +244,7 @@ impl Modules<'_> {
         names.edit(source, &mut edits);
         let memory = if has_memory { MEMORY } else { "" };
         let casts = if source.text.contains(".cast_") { CASTS } else { "" };
-        Ok(edits.applied(source.text) + memory + casts)
+        Ok(edits.applied(source.text) + memory + casts + &errors(source))
     }
 
     /// The edits for the modules that a file names. It says which names would be offered by those that are left out.

@@ -9,7 +9,10 @@ use std::fmt::Debug;
 use zugyelmas::decimal::{
     DecimalError, decimal_of, exact_decimal_of, exact_places, shortest_places, write_decimal,
 };
-use zugyelmas::num::{Fixed, FixedI32, FixedU8, FromDecimal};
+use zugyelmas::num::{
+    Fixed, FixedI8, FixedI16, FixedI32, FixedI64, FixedU8, FixedU16, FixedU32, FixedU64,
+    FromDecimal,
+};
 use zugyelmas::word::{Rounding, Side, Word};
 
 const ROUNDINGS: [Rounding; 3] = [Rounding::Down, Rounding::Zero, Rounding::Even];
@@ -392,6 +395,63 @@ fn an_unwrapped_number_that_does_not_fit_stops() {
 }
 
 #[test]
+fn a_constant_is_read_when_the_program_is_built() {
+    const LEAST: [i64; 4] = [
+        FixedI8::<4>::lit("-8").to_bits() as i64,
+        FixedI16::<15>::lit("-1").to_bits() as i64,
+        FixedI32::<0>::lit("-2147483648").to_bits() as i64,
+        FixedI64::<63>::lit("-1.0000000000000000000000001").to_bits(),
+    ];
+    assert_eq!(
+        LEAST,
+        [i8::MIN.into(), i16::MIN.into(), i32::MIN.into(), i64::MIN]
+    );
+    const GREATEST: [u64; 4] = [
+        FixedU8::<8>::lit("0.997").to_bits() as u64,
+        FixedU16::<4>::lit("+4095.9375").to_bits() as u64,
+        FixedU32::<32>::lit("0.9999999998").to_bits() as u64,
+        FixedU64::<64>::lit("0.99999999999999999995").to_bits(),
+    ];
+    assert_eq!(
+        GREATEST,
+        [u8::MAX.into(), u16::MAX.into(), u32::MAX.into(), u64::MAX]
+    );
+    // An error of less than half a unit, by the first 21 digits of pi.
+    const PI: FixedI64<61> = FixedI64::lit("3.14159265358979323846");
+    assert_eq!(PI.to_bits(), 0x6487_ed51_10b4_611a);
+    assert_eq!(FixedU8::<4>::lit("-0.03125"), FixedU8::from_bits(0));
+}
+
+#[test]
+fn a_constant_is_the_number_that_is_read() {
+    let mut draws = Draws(55);
+    for _ in 0..10_000 {
+        let (digits, _) = drawn(&mut draws);
+        let zeros = "0".repeat(draws.below(20) as usize);
+        for text in [format!("-{digits}"), format!("{zeros}{digits}")] {
+            if let Ok(number) = FixedI32::<16>::checked_from_str(&text) {
+                assert_eq!(FixedI32::<16>::lit(&text), number, "{text}");
+            }
+            if let Ok(number) = FixedU64::<20>::checked_from_str(&text) {
+                assert_eq!(FixedU64::<20>::lit(&text), number, "{text}");
+            }
+        }
+    }
+}
+
+#[test]
+#[should_panic(expected = "the text is a decimal that fits")]
+fn a_constant_that_does_not_fit_stops() {
+    let _ = FixedI8::<4>::lit("7.97");
+}
+
+#[test]
+#[should_panic(expected = "the text is a decimal that fits")]
+fn a_constant_with_a_fraction_past_the_width_stops() {
+    let _ = FixedI8::<9>::lit("0");
+}
+
+#[test]
 fn what_is_no_decimal_is_named() {
     type Small = FixedU8<4>;
     assert_eq!(
@@ -400,16 +460,47 @@ fn what_is_no_decimal_is_named() {
     );
     assert_eq!(
         Small::checked_from_str("1_0"),
-        Err(DecimalError::InvalidDigit)
+        Err(DecimalError::InvalidDigit(1))
     );
     assert_eq!(
-        Small::checked_from_str("1e3"),
-        Err(DecimalError::InvalidDigit)
+        Small::checked_from_str("-12.5e3"),
+        Err(DecimalError::InvalidDigit(5))
+    );
+    let text = format!("+.{}x.", "0".repeat(30));
+    assert_eq!(
+        Small::checked_from_str(&text),
+        Err(DecimalError::InvalidDigit(32))
+    );
+    // The bytes are counted, and not the letters.
+    assert_eq!(
+        Small::checked_from_str("1,5"),
+        Err(DecimalError::InvalidDigit(1))
+    );
+    assert_eq!(
+        Small::checked_from_str("1\u{a0}5"),
+        Err(DecimalError::InvalidDigit(1))
     );
     assert_eq!(Small::checked_from_str("+."), Err(DecimalError::NoDigits));
     assert_eq!(Small::checked_from_str(""), Err(DecimalError::NoDigits));
     assert_eq!(Small::checked_from_str("+.5"), Ok(Small::from_bits(8)));
     assert_eq!(Small::checked_from_str("5."), Ok(Small::from_bits(80)));
+}
+
+#[test]
+fn an_error_says_what_it_is() {
+    fn read(text: &str) -> Result<FixedI32<16>, Box<dyn std::error::Error>> {
+        Ok(text.parse()?)
+    }
+    let message = |text| read(text).map_err(|error| error.to_string());
+    assert_eq!(message("1.5"), Ok(FixedI32::from_bits(98304)));
+    assert_eq!(message("12,5"), Err("invalid digit at byte 2".to_string()));
+    assert_eq!(message("-."), Err("no digits".to_string()));
+    assert_eq!(message("1.2.3"), Err("more than one point".to_string()));
+    assert_eq!(message("32768"), Err("overflow".to_string()));
+    assert_eq!(
+        DecimalError::Inexact.to_string(),
+        "not exactly a number of the format"
+    );
 }
 
 #[test]

@@ -13,7 +13,7 @@ use Rattle.fixed_kernel.proofs.Alikes.{signed_times}
 use Rattle.fixed_kernel.proofs.RoundedLaws.{rounded_is}
 use Rattle.std.proofs.lemmas.Int.{ints}
 use Rattle.fixed_decimal.specs.declared.error.DecimalError.{DecimalError}
-use Rattle.fixed_decimal.specs.Decimal.{decimal_row, digits_in, exact_row, fault_of, is_exact_in, number_in, places_in, unless, unless_inexact}
+use Rattle.fixed_decimal.specs.Decimal.{decimal_row, digits_in, exact_row, fault_in, is_exact_in, number_in, places_in, unless, unless_inexact}
 use Rattle.fixed_decimal.specs.inside.Reading.{IsPointAt}
 use Rattle.fixed_decimal.proofs.Decided.{rounded_by_step}
 use Rattle.fixed_decimal.proofs.Readings.{stepped_exact, unless_ok}
@@ -23,7 +23,7 @@ abbrev ok : ℤ → Result ℤ DecimalError
 ok x = Ok x
 
 -- ---- a text is read with the named rounding
-pub rounded_law : (f : ℕ) (r : Rounding) (text : List ℕ) → fault_of (digits_in (without_leading_sign text)) ≡ None
+pub rounded_law : (f : ℕ) (r : Rounding) (text : List ℕ) → fault_in text ≡ None
     → (a : ℤ) × (decimal_row text f r ≡ ok a) × IsRounded (number_in text *ℤ pos (2 ^ f)) (pos (10 ^ places_in (without_leading_sign text))) r a
 rounded_law f r text free =
     let x = number_in text *ℤ pos (2 ^ f) in
@@ -51,7 +51,7 @@ exact_read_law a f text e =
     let g = only_ok (is_exact_in bytes f) (decimal_row text f Zero) a e in
     let whole : n % 10 ^ p ≡ 0 = test_zero (n % 10 ^ p) g.0 in
     let units = signed_times b (digits_value 10 (digits_in bytes)) (2 ^ f) in
-    let is : rounded (number_in text *ℤ pos (2 ^ f)) (pos (10 ^ p)) Zero ≡ a = unless_ok (fault_of (digits_in bytes)) (rounded (number_in text *ℤ pos (2 ^ f)) (pos (10 ^ p)) Zero) a g.1 in
+    let is : rounded (number_in text *ℤ pos (2 ^ f)) (pos (10 ^ p)) Zero ≡ a = unless_ok (fault_in text) (rounded (number_in text *ℤ pos (2 ^ f)) (pos (10 ^ p)) Zero) a g.1 in
     let size : a ≡ with_sign b (n / 10 ^ p) = sym is ∙ ap (λ (x : ℤ). rounded x (pos (10 ^ p)) Zero) units ∙ rounded_by_step Zero b n (10 ^ p) t ∙ ap (with_sign b) (stepped_exact Zero b n (10 ^ p) t whole) in
     let back : n / 10 ^ p * 10 ^ p ≡ n = omega (arith, div-add-mod' n (10 ^ p), whole) in
     ap (λ (x : ℤ). x *ℤ pos (10 ^ p)) size ∙ signed_times b (n / 10 ^ p) (10 ^ p) ∙ ap (with_sign b) back ∙ sym units

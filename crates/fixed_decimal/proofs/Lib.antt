@@ -18,3 +18,4 @@ pub mod Firsts
 pub mod Exactness
 pub mod Laid
 pub mod Padded
+pub mod Literals

@@ -1,6 +1,8 @@
 -- Where the point stands, from the runs of digits before it and behind it.
-use Rattle.std.proofs.Common.{◌≡◌, ℕ, ◌+◌, ◌-◌, ◌<◌, ◌≤◌, Bool, true, false, not, List, [], ◌∷◌, ◌++◌, length, take, drop, get_or, Some, None, zero, suc, min, if◌then◌else◌, inl, inr, true≢false, zero-add, length-append, length-drop, refl, sym, ap, ◌∙◌, arith}
-use Rattle.std.specs.Prelude.{find}
+use Rattle.std.proofs.Common.{◌≡◌, ℕ, ◌+◌, ◌-◌, ◌<◌, ◌≤◌, ◌||◌, Bool, true, false, not, List, [], ◌∷◌, ◌++◌, length, take, drop, get_or, Some, None, zero, suc, min, if◌then◌else◌, inl, inr, true≢false, zero-add, length-append, length-drop, refl, sym, ap, ◌∙◌, arith}
+use mir.Val.{bool_byte}
+use Rattle.std.specs.Prelude.{find, nat_lt}
+use Rattle.std.proofs.lemmas.Bool.Decides.{nat_tests}
 use Rattle.std.specs.Option.{option_or}
 use Rattle.std.specs.Char.{is_ascii_digit}
 use Rattle.std.specs.List.{list_all, prefix_len, position_or_len}
@@ -13,7 +15,7 @@ use Rattle.std.proofs.lemmas.List.Sums.{passes_at_first, position_or_len_is, pre
 use lib.ListN.{get_or-eq_default}
 use Rattle.fixed_decimal.specs.inside.Reading.{IsPointAt, part_end}
 use Rattle.fixed_text.proofs.Capping.{digit_value_is}
-use Rattle.fixed_decimal.specs.Decimal.{digits_in, fault_at, fault_of, is_point}
+use Rattle.fixed_decimal.specs.Decimal.{digits_in, fault_at, fault_of, is_point, lead}
 use Rattle.fixed_decimal.specs.declared.error.DecimalError.TheVariants.{InvalidDigit, TooManyPoints}
 
 abbrev pub other : ℕ → Bool
@@ -43,13 +45,13 @@ pub find_none : (ds : List ℕ) → run ds ≡ length ds → (find other ds ≡ 
 find_none [] h = (refl, refl)
 find_none (d ∷ ds) h = find_none_step (is_ascii_digit d) d ds refl (find_none ds) h
 
-pub fault_first : (ds : List ℕ) (b : ℕ) → find other ds ≡ Some b → fault_of ds ≡ Some (fault_at b)
-fault_first [] b e = absurd (cc)
-fault_first (d ∷ ds) b e = rw e refl
+pub fault_first : (w : ℕ) (ds : List ℕ) (b : ℕ) → find other ds ≡ Some b → fault_of w ds ≡ Some (fault_at w b)
+fault_first w [] b e = absurd (cc)
+fault_first w (d ∷ ds) b e = rw e refl
 
-pub fault_free : (ds : List ℕ) → find other ds ≡ None → 0 < length ds → fault_of ds ≡ None
-fault_free [] e h = absurd (omega arith)
-fault_free (d ∷ ds) e h = rw e refl
+pub fault_free : (w : ℕ) (ds : List ℕ) → find other ds ≡ None → 0 < length ds → fault_of w ds ≡ None
+fault_free w [] e h = absurd (omega arith)
+fault_free w (d ∷ ds) e h = rw e refl
 
 -- ---- the whole form
 before_point : (bytes : List ℕ) (k : ℕ) → k < run bytes → is_point (get_or bytes k 0) ≡ false
@@ -127,20 +129,20 @@ in_bytes bytes at e = elim (cases_lt at (length bytes)) [
   | inr more ↦ absurd (omega (arith, get_or-eq_default bytes 0 more))
 ]
 
-fault_by : (b : Bool) (bytes : List ℕ) (end : ℕ) → is_point (get_or bytes (run bytes) 0) ≡ b → end ≡ (if b then run bytes + 1 + run (drop (run bytes + 1) bytes) else run bytes) → end < length bytes → fault_of (digits_in bytes) ≡ Some (fault_at (get_or bytes end 0))
-fault_by true bytes end here e lt = rw e (fault_first (digits_in bytes) _ (other_behind bytes (in_bytes bytes (run bytes) (eqb-true _ 46 here)) here (omega arith)))
-fault_by false bytes end here e lt = rw e (fault_first (digits_in bytes) _ (other_before bytes (omega arith) here))
+fault_by : (w : ℕ) (b : Bool) (bytes : List ℕ) (end : ℕ) → is_point (get_or bytes (run bytes) 0) ≡ b → end ≡ (if b then run bytes + 1 + run (drop (run bytes + 1) bytes) else run bytes) → end < length bytes → fault_of w (digits_in bytes) ≡ Some (fault_at w (get_or bytes end 0))
+fault_by w true bytes end here e lt = rw e (fault_first w (digits_in bytes) _ (other_behind bytes (in_bytes bytes (run bytes) (eqb-true _ 46 here)) here (omega arith)))
+fault_by w false bytes end here e lt = rw e (fault_first w (digits_in bytes) _ (other_before bytes (omega arith) here))
 
-pub fault_here : (bytes : List ℕ) (at end : ℕ) → at ≡ 0 + run (drop 0 bytes) → end ≡ part_end bytes at → end < length bytes → fault_of (digits_in bytes) ≡ Some (fault_at (get_or bytes end 0))
-fault_here bytes at end a e lt =
+pub fault_here : (w : ℕ) (bytes : List ℕ) (at end : ℕ) → at ≡ 0 + run (drop 0 bytes) → end ≡ part_end bytes at → end < length bytes → fault_of w (digits_in bytes) ≡ Some (fault_at w (get_or bytes end 0))
+fault_here w bytes at end a e lt =
     let f : at ≡ run bytes = a ∙ zero-add (run bytes) in
-    fault_by (is_point (get_or bytes (run bytes) 0)) bytes end refl (e ∙ ap (part_end bytes) f) lt
+    fault_by w (is_point (get_or bytes (run bytes) 0)) bytes end refl (e ∙ ap (part_end bytes) f) lt
 
 clear : (bytes : List ℕ) (n : ℕ) → position_or_len is_point bytes ≡ n → list_all is_ascii_digit (take n bytes) ≡ true → list_all is_ascii_digit (drop (n + 1) bytes) ≡ true → find other (take n bytes ++ drop (n + 1) bytes) ≡ None → 0 < length (take n bytes ++ drop (n + 1) bytes) → IsPointAt bytes n
 clear bytes n e front back none some = record {
   place = e;
   digits = ap (list_all is_ascii_digit) (digits_at bytes n e) ∙ list_all-append is_ascii_digit (take n bytes) (drop (n + 1) bytes) ∙ both_true front back;
-  free = ap fault_of (digits_at bytes n e) ∙ fault_free (take n bytes ++ drop (n + 1) bytes) none some;
+  free = λ w. ap (fault_of w) (digits_at bytes n e) ∙ fault_free w (take n bytes ++ drop (n + 1) bytes) none some;
 }
 
 joined_none : (xs ys : List ℕ) → find other xs ≡ None → find other ys ≡ None → find other (xs ++ ys) ≡ None
@@ -185,8 +187,55 @@ point_clear bytes at end a e le some =
     let f : at ≡ run bytes = a ∙ zero-add (run bytes) in
     rw f (clear_by (is_point (get_or bytes (run bytes) 0)) bytes end refl (e ∙ ap (part_end bytes) f) le (λ z. some (z ∙ ap (λ k. min (end - k) 1) (sym f))))
 
-pub point_seen : (b : ℕ) → b ≡ 46 → fault_at b ≡ TooManyPoints
-point_seen b e = ap fault_at e
+pub point_seen : (w b : ℕ) → b ≡ 46 → fault_at w b ≡ TooManyPoints
+point_seen w b e = ap (fault_at w) e
 
-pub point_other : (b : ℕ) → (b ≡ 46 → ⊥) → fault_at b ≡ InvalidDigit
-point_other b ne = ap (λ t. if t then TooManyPoints else InvalidDigit) (ne_eqb b 46 ne)
+pub point_other : (w b : ℕ) → (b ≡ 46 → ⊥) → fault_at w b ≡ InvalidDigit w
+point_other w b ne = ap (λ t. if t then TooManyPoints else InvalidDigit w) (ne_eqb b 46 ne)
+
+-- ---- the place of a byte that is neither a digit nor a point
+or_true : (a : Bool) → (a || true) ≡ true
+or_true true = refl
+or_true false = refl
+
+by_digit : (c : ℕ) → is_ascii_digit c ≡ true → (is_ascii_digit c || is_point c) ≡ true
+by_digit c h = ap (λ t. t || is_point c) h
+
+by_point : (c : ℕ) → is_point c ≡ true → (is_ascii_digit c || is_point c) ≡ true
+by_point c h = ap (λ t. is_ascii_digit c || t) h ∙ or_true (is_ascii_digit c)
+
+by_neither : (c : ℕ) → is_ascii_digit c ≡ false → is_point c ≡ false → (is_ascii_digit c || is_point c) ≡ false
+by_neither c h p = ap (λ t. t || is_point c) h ∙ p
+
+lead_by : (b : Bool) (bytes : List ℕ) (end : ℕ) → is_point (get_or bytes (run bytes) 0) ≡ b → end ≡ (if b then run bytes + 1 + run (drop (run bytes + 1) bytes) else run bytes) → end < length bytes → is_point (get_or bytes end 0) ≡ false → lead bytes ≡ end
+lead_by false bytes end here e lt clear =
+    rw e (prefix_len_is (λ c. is_ascii_digit c || is_point c) bytes (run bytes) 0 (omega arith)
+    (λ k less. by_digit (get_or bytes k 0) (prefix_len_passes is_ascii_digit bytes k 0 less))
+    (λ less. by_neither (get_or bytes (run bytes) 0) (prefix_len_stops is_ascii_digit bytes 0 less) here))
+lead_by true bytes end here e lt clear =
+    let at = run bytes in
+    let back = drop (at + 1) bytes in
+    let long = length-drop (at + 1) bytes in
+    let seen : get_or bytes end 0 ≡ get_or back (run back) 0 = ap (λ k. get_or bytes k 0) e ∙ sym (get_or-drop (at + 1) bytes (run back) 0) in
+    let passes : (k : ℕ) → k < end → (is_ascii_digit (get_or bytes k 0) || is_point (get_or bytes k 0)) ≡ true = λ k less. elim (cases_lt k at) [
+      | inl front ↦ by_digit (get_or bytes k 0) (prefix_len_passes is_ascii_digit bytes k 0 front)
+      | inr later ↦ elim (cases_lt at k) [
+          | inl behind ↦
+              let e2 : at + 1 + (k - (at + 1)) ≡ k = omega arith in
+              by_digit (get_or bytes k 0) (ap (λ n. is_ascii_digit (get_or bytes n 0)) (sym e2) ∙ ap is_ascii_digit (sym (get_or-drop (at + 1) bytes (k - (at + 1)) 0)) ∙ prefix_len_passes is_ascii_digit back (k - (at + 1)) 0 (omega arith))
+          | inr same ↦
+              let e3 : k ≡ at = omega arith in
+              by_point (get_or bytes k 0) (ap (λ n. is_point (get_or bytes n 0)) e3 ∙ here)
+        ]
+    ] in
+    prefix_len_is (λ c. is_ascii_digit c || is_point c) bytes end 0 (omega arith) passes
+    (λ less. by_neither (get_or bytes end 0) (ap is_ascii_digit seen ∙ prefix_len_stops is_ascii_digit back 0 (omega arith)) clear)
+
+pub lead_here : (bytes : List ℕ) (at end : ℕ) → at ≡ 0 + run (drop 0 bytes) → end ≡ part_end bytes at → end < length bytes → (get_or bytes end 0 ≡ 46 → ⊥) → lead bytes ≡ end
+lead_here bytes at end a e lt ne =
+    let f : at ≡ run bytes = a ∙ zero-add (run bytes) in
+    lead_by (is_point (get_or bytes (run bytes) 0)) bytes end refl (e ∙ ap (part_end bytes) f) lt (ne_eqb (get_or bytes end 0) 46 ne)
+
+-- a point and a digit behind it, or none
+pub byte_is : (at end : ℕ) → min (end - at) 1 ≡ bool_byte (nat_lt at end)
+byte_is at end = grind (arith, nat_tests)

@@ -20,7 +20,7 @@ use Rattle.fixed_kernel.specs.Rounded.{IsNearestEven}
 use Rattle.fixed_kernel.proofs.RoundedLaws.{rounded_is}
 use Rattle.fixed_kernel.proofs.ToNearest.{IsNear, nearest_is}
 use Rattle.fixed_decimal.specs.declared.error.DecimalError.{DecimalError}
-use Rattle.fixed_decimal.specs.Decimal.{decimal_row, digits_in, fault_of, places_in, unless}
+use Rattle.fixed_decimal.specs.Decimal.{decimal_row, digits_in, fault_in, places_in, unless}
 use Rattle.fixed_decimal.specs.Text.{IsExactAt, ReadsBack, text_of, to_places}
 use Rattle.fixed_decimal.specs.inside.Close.{IsClose, off}
 use Rattle.fixed_decimal.specs.inside.Stepped.{stepped}
@@ -123,7 +123,7 @@ read_law a f text e =
     let p = places_in bytes in
     let t = one-le-pow p 10 (omega arith) in
     let d = one-le-pow f 2 (omega arith) in
-    let is : rounded (with_sign c n *ℤ pos (2 ^ f)) (pos (10 ^ p)) Even ≡ a = unless_ok (fault_of (digits_in bytes)) (rounded (with_sign c n *ℤ pos (2 ^ f)) (pos (10 ^ p)) Even) a e in
+    let is : rounded (with_sign c n *ℤ pos (2 ^ f)) (pos (10 ^ p)) Even ≡ a = unless_ok (fault_in text) (rounded (with_sign c n *ℤ pos (2 ^ f)) (pos (10 ^ p)) Even) a e in
     let signed : with_sign c (nearest (n * 2 ^ f) (10 ^ p)) ≡ a = sym (ap (λ (x : ℤ). rounded x (pos (10 ^ p)) Even) (signed_times c n (2 ^ f)) ∙ nearest_signed c (n * 2 ^ f) (10 ^ p) t) ∙ is in
     let size : nearest (n * 2 ^ f) (10 ^ p) ≡ nat_abs a = sym (abs_signed c (nearest (n * 2 ^ f) (10 ^ p))) ∙ ap nat_abs signed in
     reads_from_close a (nat_abs a) f p refl (close_to_read n (nat_abs a) (10 ^ p) (2 ^ f) t d size)

@@ -5,15 +5,13 @@ use Rattle.std.specs.Str.Parse.{digits_value, digits_value_after, starts_with_mi
 use Rattle.std.proofs.Math.Nat.{one-le-pow, pow-le-pow_right}
 use Rattle.std.proofs.lemmas.List.{drop_all, take_all}
 use Rattle.fixed_word.specs.Format.{with_sign}
-use Rattle.fixed_word.specs.Standing.{StandsFor}
-use Rattle.fixed_word.specs.declared.outcome.Outcome.{Outcome}
 use Rattle.fixed_word.specs.declared.rounding.Rounding.{Rounding}
 use Rattle.fixed_kernel.specs.Rounded.{rounded}
-use Rattle.fixed_kernel.proofs.Alikes.{signed_times}
+use Rattle.fixed_kernel.proofs.Alikes.{alike_refl, signed_times}
+use Rattle.fixed_kernel.specs.inside.Alike.{Alike}
 use Rattle.fixed_decimal.specs.declared.error.DecimalError.{DecimalError}
-use Rattle.fixed_decimal.specs.Decimal.{decimal_row, digits_in, fault_of, places_in, unless}
-use Rattle.fixed_decimal.specs.Rows.{IsOutcomeOf}
-use Rattle.fixed_decimal.specs.inside.Reading.{IsPointAt, IsShort, part_end}
+use Rattle.fixed_decimal.specs.Decimal.{decimal_row, digits_in, fault_of, place_in, places_in, unless}
+use Rattle.fixed_decimal.specs.inside.Reading.{IsPointAt, IsReadAs, IsShort, part_end}
 use Rattle.fixed_decimal.specs.inside.Stepped.{stepped}
 use Rattle.fixed_decimal.proofs.Decided.{rounded_by_step}
 use Rattle.fixed_decimal.proofs.Parts.{moved_up}
@@ -62,29 +60,28 @@ point_short bytes at w end v a here e le within two few front is small =
 abbrev ok : ℤ → Result ℤ DecimalError
 ok x = Ok x
 
-abbrev row_by : Bool → ℕ → Rounding → List ℕ → Result ℤ DecimalError
-row_by b f r bytes = unless (fault_of (digits_in bytes)) (rounded (with_sign b (digits_value 10 (digits_in bytes)) *ℤ pos (2 ^ f)) (pos (10 ^ places_in bytes)) r)
+abbrev row_by : ℕ → Bool → ℕ → Rounding → List ℕ → Result ℤ DecimalError
+row_by k b f r bytes = unless (fault_of k (digits_in bytes)) (rounded (with_sign b (digits_value 10 (digits_in bytes)) *ℤ pos (2 ^ f)) (pos (10 ^ places_in bytes)) r)
 
-row_of_short : (b : Bool) (bytes : List ℕ) (v p f : ℕ) (r : Rounding) → IsShort bytes v p → row_by b f r bytes ≡ ok (with_sign b (stepped r b (v * 2 ^ f) (10 ^ p)))
-row_of_short b bytes v p f r i =
-    ap (λ o. unless o (rounded (with_sign b (digits_value 10 (digits_in bytes)) *ℤ pos (2 ^ f)) (pos (10 ^ places_in bytes)) r)) i.free
+row_of_short : (k : ℕ) (b : Bool) (bytes : List ℕ) (v p f : ℕ) (r : Rounding) → IsShort bytes v p → row_by k b f r bytes ≡ ok (with_sign b (stepped r b (v * 2 ^ f) (10 ^ p)))
+row_of_short k b bytes v p f r i =
+    ap (λ o. unless o (rounded (with_sign b (digits_value 10 (digits_in bytes)) *ℤ pos (2 ^ f)) (pos (10 ^ places_in bytes)) r)) (i.free k)
     ∙ ap (λ n. ok (rounded (with_sign b n *ℤ pos (2 ^ f)) (pos (10 ^ places_in bytes)) r)) (sym i.number)
     ∙ ap (λ k. ok (rounded (with_sign b v *ℤ pos (2 ^ f)) (pos (10 ^ k)) r)) (sym i.behind)
     ∙ ap (λ (x : ℤ). ok (rounded x (pos (10 ^ p)) r)) (signed_times b v (2 ^ f))
     ∙ ap ok (rounded_by_step r b (v * 2 ^ f) (10 ^ p) (one-le-pow p 10 (omega arith)))
 
-pub short_decided : {T : Type 0} (value : T → ℤ) (s : Bool) (n : ℕ) (o : Outcome T) (b : Bool) (text bytes : List ℕ) (v p f x t halves magnitude : ℕ) (rest : Bool) (r : Rounding)
-    → f ≤ 64 → b ≡ starts_with_minus text → bytes ≡ without_leading_sign text → IsShort bytes v p → x ≡ v → t ≡ 10 ^ p
-    → halves ≡ (x * 2 ^ (f + 1)) % 2 ^ 128 / t → rest ≡ not ((x * 2 ^ (f + 1)) % 2 ^ 128 % t == 0)
+pub short_decided : (b : Bool) (text bytes : List ℕ) (v p f t halves magnitude : ℕ) (rest : Bool) (r : Rounding)
+    → f ≤ 64 → b ≡ starts_with_minus text → bytes ≡ without_leading_sign text → IsShort bytes v p → t ≡ 10 ^ p
+    → halves ≡ (v * 2 ^ (f + 1)) % 2 ^ 128 / t → rest ≡ not ((v * 2 ^ (f + 1)) % 2 ^ 128 % t == 0)
     → ((m d : ℕ) → 0 < d → halves ≡ 2 * m / d → rest ≡ not (2 * m % d == 0) → magnitude ≡ stepped r b m d)
-    → StandsFor value s n (with_sign b magnitude) o
-    → IsOutcomeOf value s n (decimal_row text f r) (Ok o)
-short_decided value s n o b text bytes v p f x t halves magnitude rest r le eb ebytes i ex et ehalves erest step stands =
-    let up : (x * 2 ^ (f + 1)) % 2 ^ 128 ≡ 2 * (v * 2 ^ f) = ap (λ k. (k * 2 ^ (f + 1)) % 2 ^ 128) ex ∙ moved_up v f i.small le ∙ mul_left_comm v 2 (2 ^ f) in
+    → IsReadAs (decimal_row text f r) (Ok (b, magnitude))
+short_decided b text bytes v p f t halves magnitude rest r le eb ebytes i et ehalves erest step =
+    let up : (v * 2 ^ (f + 1)) % 2 ^ 128 ≡ 2 * (v * 2 ^ f) = moved_up v f i.small le ∙ mul_left_comm v 2 (2 ^ f) in
     let size : magnitude ≡ stepped r b (v * 2 ^ f) (10 ^ p) =
     step (v * 2 ^ f) (10 ^ p) (one-le-pow p 10 (omega arith))
     (ehalves ∙ ap (λ k. k / t) up ∙ ap (λ k. 2 * (v * 2 ^ f) / k) et)
     (erest ∙ ap (λ k. not (k % t == 0)) up ∙ ap (λ k. not (2 * (v * 2 ^ f) % k == 0)) et) in
     let row : decimal_row text f r ≡ ok (with_sign b (stepped r b (v * 2 ^ f) (10 ^ p))) =
-    ap (λ c. row_by c f r (without_leading_sign text)) (sym eb) ∙ ap (row_by b f r) (sym ebytes) ∙ row_of_short b bytes v p f r i in
-    subst (λ (y : Result ℤ DecimalError). IsOutcomeOf value s n y (Ok o)) (sym row) (subst (λ (m : ℕ). StandsFor value s n (with_sign b m) o) size stands)
+    ap (λ c. row_by (place_in text) c f r (without_leading_sign text)) (sym eb) ∙ ap (row_by (place_in text) b f r) (sym ebytes) ∙ row_of_short (place_in text) b bytes v p f r i in
+    subst (λ (y : Result ℤ DecimalError). IsReadAs y (Ok (b, magnitude))) (sym row) (subst (λ (m : ℕ). Alike (2 ^ 64) (with_sign b (stepped r b (v * 2 ^ f) (10 ^ p))) (with_sign b m)) (sym size) (alike_refl (2 ^ 64) _))

@@ -20,7 +20,7 @@ use Rattle.fixed_text.proofs.Capping.{digit_value_is}
 use Rattle.fixed_text.proofs.Decimals.{both, decimal_of_text}
 use Rattle.fixed_text.specs.Numerals.{is_decimal}
 use Rattle.fixed_decimal.specs.declared.error.DecimalError.{DecimalError}
-use Rattle.fixed_decimal.specs.Decimal.{decimal_row, digits_in, fault_of, is_point, places_in, unless}
+use Rattle.fixed_decimal.specs.Decimal.{decimal_row, digits_in, fault_of, is_point, place_in, places_in, unless}
 use Rattle.fixed_decimal.specs.Text.{magnitude_text, places_text, text_of}
 use Rattle.fixed_decimal.specs.inside.Stepped.{stepped}
 use Rattle.fixed_decimal.proofs.Decided.{rounded_by_step}
@@ -93,13 +93,13 @@ parts_both xs ys h =
 
 -- what is read of the text of n / 10 ^ p
 pub record IsRead (text : List ℕ) (n p : ℕ) : Type 0 where
-  pub free : fault_of (digits_in text) ≡ None
+  pub free : (place : ℕ) → fault_of place (digits_in text) ≡ None
   pub value : digits_value 10 (digits_in text) ≡ n
   pub places : places_in text ≡ p
 
 from_parts : (text digits : List ℕ) (n p : ℕ) → HasParts text digits p → list_all is_ascii_digit digits ≡ true → 0 < length digits → digits_value 10 digits ≡ n → IsRead text n p
 from_parts text digits n p h all some is = record {
-  free = ap fault_of h.all ∙ fault_free digits (none digits all) some;
+  free = λ k. ap (fault_of k) h.all ∙ fault_free k digits (none digits all) some;
   value = ap (digits_value 10) h.all ∙ is;
   places = h.places;
 }
@@ -154,17 +154,18 @@ row_at b n p f s = rounded (with_sign b n *ℤ pos (2 ^ f)) (pos (10 ^ p)) s
 abbrev pub ok : ℤ → Result ℤ DecimalError
 ok x = Ok x
 
-abbrev row_by : Bool → List ℕ → ℕ → Rounding → Result ℤ DecimalError
-row_by b bytes f s = unless (fault_of (digits_in bytes)) (row_at b (digits_value 10 (digits_in bytes)) (places_in bytes) f s)
+abbrev row_by : ℕ → Bool → List ℕ → ℕ → Rounding → Result ℤ DecimalError
+row_by k b bytes f s = unless (fault_of k (digits_in bytes)) (row_at b (digits_value 10 (digits_in bytes)) (places_in bytes) f s)
 
 row_written : (b : Bool) (n p f : ℕ) (s : Rounding) → decimal_row (signed_text b (magnitude_text n p)) f s ≡ ok (row_at b n p f s)
 row_written b n p f s =
     let t = magnitude_text n p in
     let g = signs_read b n p in
     let i = magnitude_read n p in
-    ap (λ c. row_by c (without_leading_sign (signed_text b t)) f s) g.0
-    ∙ ap (λ bs. row_by b bs f s) g.1
-    ∙ ap (λ o. unless o (row_at b (digits_value 10 (digits_in t)) (places_in t) f s)) i.free
+    let w = place_in (signed_text b t) in
+    ap (λ c. row_by w c (without_leading_sign (signed_text b t)) f s) g.0
+    ∙ ap (λ bs. row_by w b bs f s) g.1
+    ∙ ap (λ o. unless o (row_at b (digits_value 10 (digits_in t)) (places_in t) f s)) (i.free w)
     ∙ ap (λ m. ok (row_at b m (places_in t) f s)) i.value
     ∙ ap (λ k. ok (row_at b n k f s)) i.places
 

@@ -1,8 +1,8 @@
 -- The texts that are decimals, and the number of units that each stands for.
-use Rattle.std.specs.Prelude.{ℕ, ℤ, pos, ◌==◌, ◌*◌, ◌%◌, ◌^◌, ◌*ℤ◌, ◌++◌, Bool, not, List, [], ◌∷◌, length, Option, Some, None, Result, Ok, Err, if◌then◌else◌, find}
+use Rattle.std.specs.Prelude.{ℕ, ℤ, pos, ◌==◌, ◌+◌, ◌-◌, ◌*◌, ◌%◌, ◌^◌, ◌*ℤ◌, ◌++◌, ◌||◌, Bool, not, List, [], ◌∷◌, length, Option, Some, None, Result, Ok, Err, if◌then◌else◌, find}
 use Rattle.std.specs.Option.{option_map}
 use Rattle.std.specs.Char.{is_ascii_digit}
-use Rattle.std.specs.List.{after_first, before_first}
+use Rattle.std.specs.List.{after_first, before_first, prefix_len}
 use Rattle.std.specs.Str.Parse.{digits_value, starts_with_minus, without_leading_sign}
 use Rattle.fixed_word.specs.Format.{with_sign}
 use Rattle.fixed_word.specs.declared.rounding.Rounding.{Rounding}
@@ -21,13 +21,25 @@ digits_in bytes = before_first is_point bytes ++ after_first is_point bytes
 abbrev pub places_in : List ℕ → ℕ
 places_in bytes = length (after_first is_point bytes)
 
--- why the bytes are not digits alone, at least one: the first that is no digit, or that there is none
-abbrev pub fault_at : ℕ → DecimalError
-fault_at b = if is_point b then TooManyPoints else InvalidDigit
+-- how many digits and points stand before the first other byte
+abbrev pub lead : List ℕ → ℕ
+lead bytes = prefix_len (λ b. is_ascii_digit b || is_point b) bytes
 
-abbrev pub fault_of : List ℕ → Option DecimalError
-fault_of [] = Some NoDigits
-fault_of (b ∷ bs) = option_map fault_at (find (λ c. not (is_ascii_digit c)) (b ∷ bs))
+-- why the bytes are not digits alone, at least one: the first that is no digit, or that there is none
+abbrev pub fault_at : ℕ → ℕ → DecimalError
+fault_at place b = if is_point b then TooManyPoints else InvalidDigit place
+
+abbrev pub fault_of : ℕ → List ℕ → Option DecimalError
+fault_of place [] = Some NoDigits
+fault_of place (b ∷ bs) = option_map (fault_at place) (find (λ c. not (is_ascii_digit c)) (b ∷ bs))
+
+-- the place of the first byte behind the sign that is neither a digit nor a point
+abbrev pub place_in : List ℕ → ℕ
+place_in text = length text - length (without_leading_sign text) + lead (without_leading_sign text)
+
+-- why a text is no decimal
+abbrev pub fault_in : List ℕ → Option DecimalError
+fault_in text = fault_of (place_in text) (digits_in (without_leading_sign text))
 
 abbrev pub unless : {A E : Type 0} → Option E → A → Result A E
 unless None x = Ok x
@@ -45,7 +57,7 @@ number_in text = with_sign (starts_with_minus text) (digits_value 10 (digits_in 
 abbrev pub decimal_row : List ℕ → ℕ → Rounding → Result ℤ DecimalError
 decimal_row text f r =
     let bytes = without_leading_sign text in
-    unless (fault_of (digits_in bytes)) (rounded (number_in text *ℤ pos (2 ^ f)) (pos (10 ^ places_in bytes)) r)
+    unless (fault_in text) (rounded (number_in text *ℤ pos (2 ^ f)) (pos (10 ^ places_in bytes)) r)
 
 -- the number of bytes behind a sign is a whole number of units of 2 ^ -f
 abbrev pub is_exact_in : List ℕ → ℕ → Bool

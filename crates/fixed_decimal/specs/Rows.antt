@@ -1,8 +1,11 @@
 -- What each policy makes of the row of a text: of a number without a bound, or of an error.
-use Rattle.std.specs.Prelude.{◌≡◌, ℕ, ℤ, Bool, not, Result, Ok, Err, if◌then◌else◌}
+use Rattle.std.specs.Prelude.{◌≡◌, ℕ, ℤ, nat_le, Bool, not, List, Option, Some, None, Result, Ok, Err, if◌then◌else◌}
+use Rattle.std.specs.Result.{result_ok}
 use Rattle.fixed_word.specs.Format.{clamp, fits, wrap}
 use Rattle.fixed_word.specs.Standing.{StandsFor}
 use Rattle.fixed_word.specs.declared.outcome.Outcome.{Outcome}
+use Rattle.fixed_word.specs.declared.rounding.Rounding.TheVariants.{Even}
+use Rattle.fixed_decimal.specs.Decimal.{decimal_row}
 use Rattle.fixed_decimal.specs.declared.error.DecimalError.{DecimalError}
 use Rattle.fixed_decimal.specs.declared.error.DecimalError.TheVariants.{Overflow}
 
@@ -29,3 +32,11 @@ wrapping_decimal signed n row = result_map (wrap signed n) row
 
 abbrev pub overflowing_decimal : Bool → ℕ → Result ℤ DecimalError → Result (ℤ × Bool) DecimalError
 overflowing_decimal signed n row = result_map (λ x. (wrap signed n x, not (fits signed n x))) row
+
+-- a number, if it fits
+abbrev pub within : Bool → ℕ → ℤ → Option ℤ
+within signed n x = if fits signed n x then Some x else None
+
+-- the number of a constant's text to the nearest unit, if the fraction is at most the width and it fits
+abbrev pub literal : Bool → ℕ → ℕ → List ℕ → Option ℤ
+literal signed n f text = if nat_le f n then result_ok (checked_decimal signed n (decimal_row text f Even)) else None

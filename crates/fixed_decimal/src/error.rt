@@ -8,9 +8,9 @@ pub enum DecimalError {
     /// No digit stands in it.
     #[error("no digits")]
     NoDigits,
-    /// Behind the sign a byte is neither a digit nor a point.
-    #[error("invalid digit")]
-    InvalidDigit,
+    /// Behind the sign the byte at this index of the text is neither a digit nor a point.
+    #[error("invalid digit at byte {0}")]
+    InvalidDigit(usize),
     /// A second point stands in it.
     #[error("more than one point")]
     TooManyPoints,

@@ -7,7 +7,7 @@ use fixed_word::Rounding;
 
 /// The magnitude of a rounded quotient, from that of twice the dividend, rounded down, and whether that left a rest.
 #[inline]
-pub fn rounded_halves(halves: u128, rest: bool, below_zero: bool, rounding: Rounding) -> u128
+pub const fn rounded_halves(halves: u128, rest: bool, below_zero: bool, rounding: Rounding) -> u128
     ensures { (n d : ℕ) → 0 < d → halves ≡ 2 * n / d → rest ≡ not (2 * n % d == 0)
         → result ≡ stepped rounding below_zero n d }
 {
@@ -18,7 +18,13 @@ pub fn rounded_halves(halves: u128, rest: bool, below_zero: bool, rounding: Roun
 
 /// Whether the rounding takes a magnitude past its whole number, by what is behind that: a half, and a rest.
 #[inline]
-fn moves_past(rounding: Rounding, below_zero: bool, is_odd: bool, half: bool, rest: bool) -> bool
+const fn moves_past(
+    rounding: Rounding,
+    below_zero: bool,
+    is_odd: bool,
+    half: bool,
+    rest: bool,
+) -> bool
     ensures { result ≡ moves_past rounding below_zero is_odd half rest }
 {
     match rounding {
@@ -30,7 +36,7 @@ fn moves_past(rounding: Rounding, below_zero: bool, is_odd: bool, half: bool, re
 
 /// What is left of a number by `2^count`.
 #[inline]
-pub fn low_bits(number: u128, count: u32) -> u128
+pub const fn low_bits(number: u128, count: u32) -> u128
     requires { count ≤ 64 }
     ensures { result ≡ number % 2 ^ count }
 {

@@ -5,13 +5,13 @@ ghost use Rattle.std.specs.Str.Parse.{without_leading_sign};
 ghost use Rattle.fixed_word.specs.declared.rounding.Rounding.{Rounding};
 ghost use Rattle.fixed_word.specs.declared.rounding.Rounding.TheVariants.{Even};
 ghost use Rattle.fixed_kernel.specs.Rounded.{IsRounded};
-ghost use Rattle.fixed_decimal.specs.Decimal.{decimal_row, digits_in, exact_row, fault_of, number_in, places_in};
+ghost use Rattle.fixed_decimal.specs.Decimal.{decimal_row, exact_row, fault_in, number_in, places_in};
 ghost use Rattle.fixed_decimal.specs.Text.{IsExactAt, IsLeast, ReadsBack, shortest, text_of, to_places};
 
 /// A text is read as its number with the named rounding: down, toward zero, or to the nearest and to the even one of
 /// two. What is read as exact is the text's number itself.
 pub fn reading_law()
-    ensures rounded { (f : ℕ) (r : Rounding) (text : List ℕ) → fault_of (digits_in (without_leading_sign text)) ≡ None
+    ensures rounded { (f : ℕ) (r : Rounding) (text : List ℕ) → fault_in text ≡ None
         → (a : ℤ) × (decimal_row text f r ≡ Ok a)
         × IsRounded (number_in text *ℤ pos (2 ^ f)) (pos (10 ^ places_in (without_leading_sign text))) r a }
     ensures exact { (a : ℤ) (f : ℕ) (text : List ℕ) → exact_row text f ≡ Ok a

@@ -10,6 +10,7 @@ mod error;
 mod halves;
 pub mod laws;
 mod layout;
+mod literal;
 mod numeral;
 mod places;
 mod reading;
@@ -18,6 +19,9 @@ mod writing;
 
 pub use error::DecimalError;
 pub use layout::pad_number;
+pub use literal::{
+    checked_signed_literal, checked_unsigned_literal, signed_literal, unsigned_literal,
+};
 pub use places::{exact_places, shortest_places};
 pub use reading::{decimal_of, exact_decimal_of};
 pub use writing::write_decimal;

@@ -13,9 +13,10 @@ pub const PART: usize = 18;
 
 /// Whether a minus stands in front, and what stands behind a sign.
 #[inline]
-pub fn sign_of(text: &[u8]) -> (bool, &[u8])
+pub const fn sign_of(text: &[u8]) -> (bool, &[u8])
     ensures minus { result.0 ≡ starts_with_minus text.now }
     ensures rest { result.1.now ≡ without_leading_sign text.now }
+    ensures length { length result.1.now ≤ length text.now }
 {
     match text {
         [b'-', rest @ ..] => (true, rest),
@@ -26,7 +27,7 @@ pub fn sign_of(text: &[u8]) -> (bool, &[u8])
 
 /// Where the digits from a place on end.
 #[inline]
-fn digits_end(bytes: &[u8], from: usize) -> usize
+const fn digits_end(bytes: &[u8], from: usize) -> usize
     requires { from ≤ length bytes.now }
     ensures end { result ≡ from + prefix_len is_ascii_digit (drop from bytes.now) }
     ensures within { result ≤ length bytes.now }
@@ -40,7 +41,7 @@ fn digits_end(bytes: &[u8], from: usize) -> usize
 
 /// Where the digits end that stand behind a point at a place, or that place if there is none.
 #[inline]
-fn part_end(bytes: &[u8], at: usize) -> usize
+const fn part_end(bytes: &[u8], at: usize) -> usize
     requires { at ≤ length bytes.now }
     ensures end { result ≡ part_end bytes.now at }
     ensures from { at ≤ result }
@@ -54,10 +55,11 @@ fn part_end(bytes: &[u8], at: usize) -> usize
 }
 
 /// Where the point stands, or where the digits end if there is none. An error where the bytes are no decimal without
-/// its sign.
+/// its sign: an invalid digit has its place behind so many bytes that stand before these.
 #[inline]
-pub fn point_of(bytes: &[u8]) -> Result<usize, DecimalError>
-    ensures { IsPoint bytes.now result }
+pub const fn point_of(bytes: &[u8], before: usize) -> Result<usize, DecimalError>
+    requires { before + length bytes.now < 2 ^ 64 }
+    ensures { IsPoint before bytes.now result }
 {
     let point = digits_end(bytes, 0);
     let end = part_end(bytes, point);
@@ -65,9 +67,9 @@ pub fn point_of(bytes: &[u8]) -> Result<usize, DecimalError>
         if bytes[end] == b'.' {
             Err(DecimalError::TooManyPoints)
         } else {
-            Err(DecimalError::InvalidDigit)
+            Err(DecimalError::InvalidDigit(before + end))
         }
-    } else if end == (end - point).min(1) {
+    } else if end == (end > point) as usize {
         Err(DecimalError::NoDigits)
     } else {
         Ok(point)
@@ -76,7 +78,7 @@ pub fn point_of(bytes: &[u8]) -> Result<usize, DecimalError>
 
 /// The number of a run of digits from a place on, after those of a number before it, and where the run ends.
 #[inline]
-fn run_from(bytes: &[u8], from: usize, before: u64) -> (u64, usize)
+const fn run_from(bytes: &[u8], from: usize, before: u64) -> (u64, usize)
     requires from { from ≤ length bytes.now }
     requires room { length bytes.now ≤ 18 }
     requires before { before < 10 ^ from }
@@ -88,7 +90,7 @@ fn run_from(bytes: &[u8], from: usize, before: u64) -> (u64, usize)
     let mut value = before;
     let mut at = from;
     while at < bytes.len() && bytes[at].is_ascii_digit() {
-        value = value * 10 + u64::from(bytes[at] - b'0');
+        value = value * 10 + (bytes[at] - b'0') as u64;
         at += 1;
     }
     (value, at)
@@ -97,7 +99,7 @@ fn run_from(bytes: &[u8], from: usize, before: u64) -> (u64, usize)
 /// A decimal of at most 18 bytes without its sign, in one pass: the number of all its digits, and how many of them
 /// stand behind the point. None for other bytes.
 #[inline]
-pub fn short_decimal(bytes: &[u8]) -> Option<(u64, usize)>
+pub const fn short_decimal(bytes: &[u8]) -> Option<(u64, usize)>
     ensures { IfSome result (λ found. IsShort bytes.now found.0 found.1) }
 {
     if bytes.len() > PART {
@@ -117,16 +119,19 @@ pub fn short_decimal(bytes: &[u8]) -> Option<(u64, usize)>
     Some((value, end - point - 1))
 }
 
-/// The number of at most 18 digits.
+/// The number of at most 18 digits from a place on.
 #[inline]
-pub fn value_of(digits: &[u8]) -> u64
-    requires digits { list_all is_ascii_digit digits.now ≡ true }
-    requires room { length digits.now ≤ 18 }
-    ensures { result ≡ digits_value 10 digits.now }
+pub const fn value_of(bytes: &[u8], from: usize, count: usize) -> u64
+    requires within { from + count ≤ length bytes.now }
+    requires digits { list_all is_ascii_digit (take count (drop from bytes.now)) ≡ true }
+    requires room { count ≤ 18 }
+    ensures { result ≡ digits_value 10 (take count (drop from bytes.now)) }
 {
     let mut value = 0;
-    for digit in digits {
-        value = value * 10 + u64::from(*digit - b'0');
+    let mut at = 0;
+    while at < count {
+        value = value * 10 + (bytes[from + at] - b'0') as u64;
+        at += 1;
     }
     value
 }

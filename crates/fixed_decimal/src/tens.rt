@@ -28,7 +28,7 @@ static TENS: [u64; 20] = [
 
 /// `10^power`. Condition: `power` is below 20.
 #[inline(always)]
-pub fn ten_to(power: usize) -> u64
+pub const fn ten_to(power: usize) -> u64
     requires { power < 20 }
     ensures { result ≡ 10 ^ power }
 {

@@ -15,6 +15,7 @@ mod from_decimal;
 mod from_outcome;
 mod integer_operators;
 pub mod laws;
+mod literal;
 mod logarithms;
 mod magnitudes;
 mod operators;

@@ -1,10 +1,12 @@
 -- What the reader's steps answer.
-use Rattle.std.specs.Prelude.{◌≡◌, ◌<◌, ◌≤◌, ◌+◌, ◌%◌, ◌^◌, ◌==◌, ℕ, true, nat_lt, List, drop, slice_index, Some, None, Result, Ok, Err, if◌then◌else◌}
+use Rattle.std.specs.Prelude.{◌≡◌, ◌<◌, ◌≤◌, ◌+◌, ◌%◌, ◌^◌, ◌==◌, ℕ, ℤ, Bool, true, nat_lt, List, drop, slice_index, Some, None, Result, Ok, Err, if◌then◌else◌}
 use Rattle.std.specs.Char.{is_ascii_digit}
 use Rattle.std.specs.List.{list_all, position_or_len, prefix_len}
+use Rattle.fixed_word.specs.Format.{with_sign}
+use Rattle.fixed_kernel.specs.inside.Alike.{Alike}
 use Rattle.fixed_decimal.specs.declared.error.DecimalError.{DecimalError}
 use Rattle.std.specs.Str.Parse.{digits_value}
-use Rattle.fixed_decimal.specs.Decimal.{digits_in, fault_of, is_point, places_in}
+use Rattle.fixed_decimal.specs.Decimal.{digits_in, fault_of, is_point, lead, places_in}
 
 -- a number below 2 ^ 64, or one from there on that ends in the same 64 bits
 abbrev pub held : ℕ → ℕ
@@ -18,16 +20,24 @@ part_end bytes at = if slice_index bytes at == 46 then at + 1 + prefix_len is_as
 pub record IsPointAt (bytes : List ℕ) (at : ℕ) : Type 0 where
   pub place : position_or_len is_point bytes ≡ at
   pub digits : list_all is_ascii_digit (digits_in bytes) ≡ true
-  pub free : fault_of (digits_in bytes) ≡ None
+  pub free : (place : ℕ) → fault_of place (digits_in bytes) ≡ None
 
-abbrev pub IsPoint : List ℕ → Result ℕ DecimalError → Type 0
-IsPoint bytes (Ok at) = IsPointAt bytes at
-IsPoint bytes (Err e) = fault_of (digits_in bytes) ≡ Some e
+-- the same, or why not, of bytes that stand behind so many others
+abbrev pub IsPoint : ℕ → List ℕ → Result ℕ DecimalError → Type 0
+IsPoint before bytes (Ok at) = IsPointAt bytes at
+IsPoint before bytes (Err e) = fault_of (before + lead bytes) (digits_in bytes) ≡ Some e
 
 -- the number of all digits, and how many of them stand behind the point
 pub record IsShort (bytes : List ℕ) (value places : ℕ) : Type 0 where
-  pub free : fault_of (digits_in bytes) ≡ None
+  pub free : (place : ℕ) → fault_of place (digits_in bytes) ≡ None
   pub number : value ≡ digits_value 10 (digits_in bytes)
   pub behind : places ≡ places_in bytes
   pub small : value < 2 ^ 60
   pub few : places ≤ 18
+
+-- the row's number, or another that each word of at most 64 bits keeps alike; or the row's error
+abbrev pub IsReadAs : Result ℤ DecimalError → Result (Bool × ℕ) DecimalError → Type 0
+IsReadAs (Ok x) (Ok r) = Alike (2 ^ 64) x (with_sign r.0 r.1)
+IsReadAs (Err e) (Err fault) = fault ≡ e
+IsReadAs (Ok x) (Err fault) = ⊥
+IsReadAs (Err e) (Ok r) = ⊥

@@ -5,9 +5,9 @@ use Rattle.fixed_decimal.proofs.reading.halves_of.Given as goal
 abbrev pub invariant-loop-end : goal.invariant-loop-end
 invariant-loop-end l =
     record {
-      within : l.end ≤ length l.part;
-      halves : l.halves ≡ 2 * (digits_value 10 (drop l.end l.part) * 2 ^ l.frac) / 10 ^ length (drop l.end l.part);
-      rest : l.rest ≡ not (2 * (digits_value 10 (drop l.end l.part) * 2 ^ l.frac) % 10 ^ length (drop l.end l.part) == 0);
+      within : l.end ≤ length (drop l.from l.bytes);
+      halves : l.halves ≡ 2 * (digits_value 10 (drop l.end (drop l.from l.bytes)) * 2 ^ l.frac) / 10 ^ length (drop l.end (drop l.from l.bytes));
+      rest : l.rest ≡ not (2 * (digits_value 10 (drop l.end (drop l.from l.bytes)) * 2 ^ l.frac) % 10 ^ length (drop l.end (drop l.from l.bytes)) == 0);
     }
 
 abbrev pub decreases-loop-end : goal.decreases-loop-end

@@ -1,0 +1,93 @@
+//! Decimals as constants.
+
+ghost use Rattle.std.specs.Prelude.{◌≡◌, pos, IsSome, Some, false, true};
+ghost use Rattle.std.specs.Option.{option_map};
+ghost use Rattle.fixed_word.specs.Format.{InRange, IsWidth, with_sign};
+ghost use Rattle.fixed_decimal.specs.Rows.{literal, within};
+
+use crate::reading::magnitude_of;
+use fixed_word::Rounding;
+
+/// The number of a decimal in units of `2^-frac`, to the nearest and to the even one of two. None if the text is no
+/// decimal, the number does not fit into a signed word of that width, or the fraction is past the width. Precondition:
+/// the width is 8, 16, 32 or 64.
+pub const fn checked_signed_literal(text: &[u8], frac: u32, width: u32) -> Option<i64>
+    requires { IsWidth width }
+    ensures { result ≡ literal true width frac text.now }
+{
+    if frac > width {
+        return None;
+    }
+    match magnitude_of(text, frac, Rounding::Even) {
+        Ok((below_zero, magnitude)) => signed_within(below_zero, magnitude, width),
+        Err(_) => None,
+    }
+}
+
+/// The same for an unsigned word.
+pub const fn checked_unsigned_literal(text: &[u8], frac: u32, width: u32) -> Option<u64>
+    requires { IsWidth width }
+    ensures { option_map pos result ≡ literal false width frac text.now }
+{
+    if frac > width {
+        return None;
+    }
+    match magnitude_of(text, frac, Rounding::Even) {
+        Ok((below_zero, magnitude)) => unsigned_within(below_zero, magnitude, width),
+        Err(_) => None,
+    }
+}
+
+/// The number of a decimal in units of `2^-frac`, to the nearest and to the even one of two. Preconditions: the width is
+/// 8, 16, 32 or 64, the fraction is at most the width, and the number fits into a signed word of that width.
+pub const fn signed_literal(text: &[u8], frac: u32, width: u32) -> i64
+    requires width { IsWidth width }
+    requires fits { IsSome (literal true width frac text.now) }
+    ensures value { literal true width frac text.now ≡ Some result }
+    ensures range { InRange true width result }
+{
+    match checked_signed_literal(text, frac, width) {
+        Some(bits) => bits,
+        None => 0,
+    }
+}
+
+/// The same for an unsigned word.
+pub const fn unsigned_literal(text: &[u8], frac: u32, width: u32) -> u64
+    requires width { IsWidth width }
+    requires fits { IsSome (literal false width frac text.now) }
+    ensures value { literal false width frac text.now ≡ Some (pos result) }
+    ensures range { InRange false width (pos result) }
+{
+    match checked_unsigned_literal(text, frac, width) {
+        Some(bits) => bits,
+        None => 0,
+    }
+}
+
+/// The number, if it fits into a signed word of that width.
+const fn signed_within(below_zero: bool, magnitude: u128, width: u32) -> Option<i64>
+    requires { IsWidth width }
+    ensures { result ≡ within true width (with_sign below_zero magnitude) }
+{
+    let end = 1 << (width - 1);
+    if below_zero && magnitude <= end {
+        Some(-(magnitude as i128) as i64)
+    } else if !below_zero && magnitude < end {
+        Some(magnitude as i64)
+    } else {
+        None
+    }
+}
+
+/// The number, if it fits into an unsigned word of that width.
+const fn unsigned_within(below_zero: bool, magnitude: u128, width: u32) -> Option<u64>
+    requires { IsWidth width }
+    ensures { option_map pos result ≡ within false width (with_sign below_zero magnitude) }
+{
+    if magnitude < 1 << width && (magnitude == 0 || !below_zero) {
+        Some(magnitude as u64)
+    } else {
+        None
+    }
+}
