@@ -1,0 +1,4 @@
+pub mod RecipRoot
+pub mod Rows
+pub mod inside
+pub use Rattle.fixed_root.specs.Root

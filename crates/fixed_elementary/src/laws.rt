@@ -1,0 +1,21 @@
+//! Laws of the exact results: what each of them is, and where it is simple. These functions do nothing: each
+//! contract is the law.
+
+ghost use Rattle.std.specs.Prelude.{◌≡◌, ◌+ℤ◌, ◌*ℤ◌, ◌<ℤ◌, ℕ, ℤ, pos, unsigned_abs};
+ghost use Rattle.fixed_root.specs.Root.{IsRoot};
+ghost use Rattle.fixed_elementary.specs.RecipRoot.{IsRecipRoot};
+ghost use Rattle.fixed_elementary.specs.Rows.{exact_hypot, exact_recip_sqrt};
+
+/// The length is the root of the sum of both squares, rounded down; it is that of the exchanged pair, and on
+/// an axis it is the magnitude.
+pub fn hypot_law()
+    ensures is_root { (a b : ℤ) → IsRoot (a *ℤ a +ℤ b *ℤ b) 0 (exact_hypot a b) }
+    ensures exchanged { (a b : ℤ) → exact_hypot a b ≡ exact_hypot b a }
+    ensures on_axis { (a : ℤ) → exact_hypot a (pos 0) ≡ pos (unsigned_abs a) }
+{}
+
+/// The reciprocal root is the r with `r^2 a <= 2^(3f) < (r+1)^2 a`, and nothing else is.
+pub fn recip_sqrt_law()
+    ensures is_recip_root { (a : ℤ) (f : ℕ) → pos 0 <ℤ a → IsRecipRoot a f (exact_recip_sqrt a f) }
+    ensures unique { (a r s : ℤ) (f : ℕ) → IsRecipRoot a f r → IsRecipRoot a f s → r ≡ s }
+{}
