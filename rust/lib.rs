@@ -178,6 +178,9 @@ mod stopping {
 pub use cast::{Castable, FromNum, Numeric, Order, Source, ToFloat, ToNum, ToWhole};
 pub use float::Binary;
 pub use interval::{Interval, add_in, div_in, mul_in, sqrt_in, sub_in};
+pub use math::{
+    CheckedMath, OverflowingMath, SaturatingMath, StrictMath, UnwrappedMath, WrappingMath,
+};
 pub use num::{
     Constants, Fixed, FixedI8, FixedI16, FixedI32, FixedI64, FixedU8, FixedU16, FixedU32, FixedU64,
     Held, Number,
@@ -213,6 +216,9 @@ pub mod prelude {
     pub use crate::{Binary as _, Saturating as _, Wrapping as _};
     pub use crate::{
         Checked, CheckedMulAdd, CheckedProducts, CheckedRounded, CheckedSigned, CheckedUnsigned,
+    };
+    pub use crate::{
+        CheckedMath, OverflowingMath, SaturatingMath, StrictMath, UnwrappedMath, WrappingMath,
     };
     pub use crate::{
         Constants, Fixed, FixedI8, FixedI16, FixedI32, FixedI64, FixedU8, FixedU16, FixedU32,

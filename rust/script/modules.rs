@@ -14,9 +14,26 @@ use std::path::Path;
 use std::{env, fs};
 
 /// The crates of the library, lowest first, without the `fixed_` in front.
-pub const LIBRARY: [&str; 17] = [
-    "word", "bits", "root", "logs", "kernel", "convert", "text", "decimal", "num", "float", "cast",
-    "policy", "strict", "ops", "poly", "filter", "interval",
+pub const LIBRARY: [&str; 19] = [
+    "word",
+    "bits",
+    "root",
+    "logs",
+    "kernel",
+    "elementary",
+    "convert",
+    "text",
+    "decimal",
+    "num",
+    "float",
+    "cast",
+    "policy",
+    "strict",
+    "math",
+    "ops",
+    "poly",
+    "filter",
+    "interval",
 ];
 
 /// The crates of the calculator, lowest first.
@@ -241,7 +258,11 @@ impl Modules<'_> {
         };
         names.edit(source, &mut edits);
         let memory = if has_memory { MEMORY } else { "" };
-        let casts = if source.text.contains(".cast_") { CASTS } else { "" };
+        let casts = if source.text.contains(".cast_") {
+            CASTS
+        } else {
+            ""
+        };
         Ok(edits.applied(source.text) + memory + casts)
     }
 

@@ -33,7 +33,7 @@ impl Names<'_> {
     /// The name of a crate at the front of a path; other names stay.
     fn name(&self, name: &str) -> String {
         // The strict forms know the numbers by the module where each number has to fit.
-        let numbers = if self.krate == "strict" {
+        let numbers = if matches!(self.krate, "strict" | "math") {
             "stopping"
         } else {
             "num"

@@ -1,8 +1,10 @@
 //! Laws of the exact results: what each of them is, and where it is simple. These functions do nothing: each
 //! contract is the law.
 
-ghost use Rattle.std.specs.Prelude.{◌≡◌, ◌+ℤ◌, ◌*ℤ◌, ◌<ℤ◌, ℕ, ℤ, pos, unsigned_abs};
+ghost use Rattle.std.specs.Prelude.{◌≡◌, ◌≤◌, ◌<◌, ◌-◌, ◌*◌, ◌^◌, ◌+ℤ◌, ◌-ℤ◌, ◌*ℤ◌, ◌≤ℤ◌, ◌<ℤ◌, ℕ, ℤ, true, pos, unsigned_abs};
+ghost use Rattle.fixed_word.specs.Format.{InRange};
 ghost use Rattle.fixed_root.specs.Root.{IsRoot};
+ghost use Rattle.fixed_elementary.specs.Logarithm.{IsLog2Of};
 ghost use Rattle.fixed_elementary.specs.RecipRoot.{IsRecipRoot};
 ghost use Rattle.fixed_elementary.specs.Rows.{exact_hypot, exact_recip_sqrt};
 
@@ -18,4 +20,17 @@ pub fn hypot_law()
 pub fn recip_sqrt_law()
     ensures is_recip_root { (a : ℤ) (f : ℕ) → pos 0 <ℤ a → IsRecipRoot a f (exact_recip_sqrt a f) }
     ensures unique { (a r s : ℤ) (f : ℕ) → IsRecipRoot a f r → IsRecipRoot a f s → r ≡ s }
+{}
+
+/// The logarithm of a power of two is exact: that of `2^j` units is `j - f`. Two numbers that are the logarithm of one
+/// number, each rounded down up to a part of a unit, differ by one unit at most. On signed words of n bits each
+/// logarithm fits where the range of the word reaches from `-f` to `n - 1 - f`.
+pub fn log2_law()
+    ensures exact { (room j f : ℕ) (r : ℤ) → IsLog2Of room (pos (2 ^ j)) f r
+        → r ≡ pos (j * 2 ^ f) -ℤ pos (f * 2 ^ f) }
+    ensures near { (room f : ℕ) (a r s : ℤ) → f ≤ room → IsLog2Of room a f r → IsLog2Of room a f s
+        → r ≤ℤ (s +ℤ pos 1) }
+    ensures fits { (room n f : ℕ) (a r : ℤ) → f ≤ room → f < n → f * 2 ^ f ≤ 2 ^ (n - 1)
+        → (n - 1 - f) * 2 ^ f < 2 ^ (n - 1) → InRange true n a → pos 0 <ℤ a
+        → IsLog2Of room a f r → InRange true n r }
 {}

@@ -8,8 +8,11 @@
 mod digits;
 pub mod laws;
 mod lengths;
+mod logarithms;
 mod reciprocals;
 mod roots;
+mod wide;
 
 pub use lengths::hypot_of;
+pub use logarithms::log2_of;
 pub use reciprocals::recip_sqrt_of;
