@@ -39,6 +39,9 @@ pub const LIBRARY: [&str; 19] = [
 /// The crates of the calculator, lowest first.
 pub const CALCULATOR: [&str; 4] = ["stream", "script", "machine", "calc"];
 
+/// The crates with strict forms, which stop in every build where a number does not fit.
+pub const STRICT: [&str; 2] = ["strict", "math"];
+
 /// The files that the library does not offer: their public calls are made by the proved code beside them alone.
 pub const INSIDE: [&str; 10] = [
     "decimal/halves",
@@ -241,8 +244,7 @@ impl Modules<'_> {
             source,
             file: name,
             known: is_offered.then_some(known),
-            // Strict forms stop in every build.
-            is_strict: krate == "strict",
+            is_strict: STRICT.contains(&krate),
             traits: &self.traits,
             pages: self.pages,
         };

@@ -1,12 +1,12 @@
 -- Laws of logarithms that are rounded down up to a part of a unit.
-use Rattle.std.proofs.Common.{◌≡◌, ◌+◌, ◌-◌, ◌*◌, ◌^◌, ◌<◌, ◌≤◌, ◌≤ℤ◌, ◌<ℤ◌, ◌+ℤ◌, ◌-ℤ◌, ◌*ℤ◌, ℕ, ℤ, pos, negsuc, suc, true, refl, ap, sym, ◌∙◌, arith, inl, inr}
+use Rattle.std.proofs.Common.{◌≡◌, ◌+◌, ◌-◌, ◌*◌, ◌^◌, ◌<◌, ◌≤◌, ◌≤ℤ◌, ◌<ℤ◌, ◌+ℤ◌, ◌-ℤ◌, ℕ, ℤ, pos, suc, true, refl, ap, ◌∙◌, arith, inl, inr}
 use Rattle.std.specs.Prelude.{unsigned_abs}
 use Rattle.std.proofs.lemmas.Int.{ints}
 use Rattle.std.proofs.lemmas.Bool.{cases_lt}
-use Rattle.std.proofs.Math.Nat.{pow-le-pow_right, pow-le-pow_left, pow-zero, pow-suc, mul-le-mul_right}
+use Rattle.std.proofs.Math.Nat.{pow-le-pow_right, pow-le-pow_left, pow-suc}
 use Rattle.std.proofs.lemmas.Nat.{pow_pos}
 use Rattle.fixed_word.specs.Format.{InRange}
-use Rattle.fixed_elementary.specs.Logarithm.{IsLog2, IsLog2Of}
+use Rattle.fixed_elementary.specs.Logarithm.{IsLog2Of}
 use Rattle.fixed_elementary.proofs.Reading.{pow_times}
 
 -- exponents are in the order of the powers of two

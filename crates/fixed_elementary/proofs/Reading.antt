@@ -80,11 +80,11 @@ unit_mantissa : (w d j m : ℕ) → 0 < w → w ≤ m → m < 2 * w → 2 ^ d * 
 unit_mantissa w d j m o l u e = elim (cases_lt d j) [
   | inl less ↦ absurd (too_small (2 ^ d) (2 ^ j) w m (pow_pos d) u (twice_le d j less) e)
   | inr fine ↦ elim (cases_lt j d) [
-      | inl more ↦ absurd (too_large (2 ^ d) (2 ^ j) w m (pow_pos j) o l (twice_le j d more) e)
-      | inr both ↦
-          let same : d ≡ j = omega arith in
-          (same_factor (2 ^ j) m w (pow_pos j) (subst (λ k. 2 ^ k * m ≡ 2 ^ j * w) same e), same)
-    ]
+    | inl more ↦ absurd (too_large (2 ^ d) (2 ^ j) w m (pow_pos j) o l (twice_le j d more) e)
+    | inr both ↦
+        let same : d ≡ j = omega arith in
+        (same_factor (2 ^ j) m w (pow_pos j) (subst (λ k. 2 ^ k * m ≡ 2 ^ j * w) same e), same)
+  ]
 ]
 
 -- ---- the loop
@@ -97,17 +97,18 @@ read_none w a r m o h =
     let z = pow-zero w in
     let v = pow-zero (w + 1) in
     record {
-        turns = 0;
-        turns_are = rw x refl;
-        least = h.least;
-        most = h.most;
-        below = rw (x, y) (omega arith);
-        above = rw (x, y, z, v) (omega arith);
-        digits = rw x (omega (arith, h.digits));
-        exact = λ j p.
-            let u = unit_mantissa w r j m o h.least h.most (e ∙ ap (λ n. n * w) p) in
-            let k = u.1 in
-            (u.0, rw x (omega arith)) }
+      turns = 0;
+      turns_are = rw x refl;
+      least = h.least;
+      most = h.most;
+      below = rw (x, y) (omega arith);
+      above = rw (x, y, z, v) (omega arith);
+      digits = rw x (omega (arith, h.digits));
+      exact = λ j p.
+          let u = unit_mantissa w r j m o h.least h.most (e ∙ ap (λ n. n * w) p) in
+          let k = u.1 in
+          (u.0, rw x (omega arith));
+    }
 
 read_on : (w a i r m n b : ℕ) → 0 < w → IsRead w a i r m → IsSquared w m b n → IsRead w a (suc i) (2 * r + b) n
 read_on w a i r m n b o h k =
@@ -123,20 +124,21 @@ read_on w a i r m n b o h k =
     let x = twice_more w c in
     let y = twice_more (w + 1) c in
     record {
-        turns = c + c + 1;
-        turns_are = omega arith;
-        least = k.least;
-        most = k.most;
-        below = rw (e, t) (omega arith);
-        above = rw (e, t, sym x, sym y) (omega arith);
-        digits = omega arith;
-        exact = λ j f.
-            let u = h.exact j f in
-            let v : n * (w * 2 ^ b) ≤ w * w = subst (λ l. n * (w * 2 ^ b) ≤ l * l) u.0 k.below in
-            let z = unit_squared w b n o s k.least v in
-            let none = z.1 in
-            let before = u.1 in
-            (z.0, rw (p, none, before) (omega arith)) }
+      turns = c + c + 1;
+      turns_are = omega arith;
+      least = k.least;
+      most = k.most;
+      below = rw (e, t) (omega arith);
+      above = rw (e, t, sym x, sym y) (omega arith);
+      digits = omega arith;
+      exact = λ j f.
+          let u = h.exact j f in
+          let v : n * (w * 2 ^ b) ≤ w * w = subst (λ l. n * (w * 2 ^ b) ≤ l * l) u.0 k.below in
+          let z = unit_squared w b n o s k.least v in
+          let none = z.1 in
+          let before = u.1 in
+          (z.0, rw (p, none, before) (omega arith));
+    }
 
 pub read_turn : (w a i r m n b : ℕ) → 0 < w → IsRead w a i r m → IsSquared w m b n → IsRead w a (i + 1) (2 * r + b) n
 read_turn w a i r m n b o h k = let e : i + 1 ≡ suc i = omega arith in rw e (read_on w a i r m n b o h k)
@@ -189,8 +191,9 @@ read_near w a g k r m o h s =
     let e3 = pow_times 2 (r + 1) (2 ^ k) in
     let e4 = pow-add 2 ((r + 1) * 2 ^ k) 1 in
     record {
-        below = le_of_mul-le-mul_right lo o;
-        above = rw (sym e1, e4, sym e3, sym e2) t }
+      below = le_of_mul-le-mul_right lo o;
+      above = rw (sym e1, e4, sym e3, sym e2) t;
+    }
 
 enough : (room g k : ℕ) → g + k ≤ room → 2 * (2 ^ g * 2 ^ k) ≤ 2 ^ (room + 1)
 enough room g k h =
@@ -204,8 +207,9 @@ read_all room w a g i r m u e h =
     let all = subst (λ (j : ℕ). IsRead w a j r m) e h in
     let o : 0 < w = omega (arith, pow_pos (room + 1)) in
     record {
-        near = λ k l. read_near w a g k r m o all (omega (arith, enough room g k l));
-        exact = λ j p. (all.exact j p).1 }
+      near = λ k l. read_near w a g k r m o all (omega (arith, enough room g k l));
+      exact = λ j p. (all.exact j p).1;
+    }
 
 -- ---- the mantissa
 
@@ -247,10 +251,11 @@ broad_is a d m b n h f e =
 
 pub log2_is : (n b : ℕ) (a : ℤ) (m f u : ℕ) → b ≡ n → pos 0 <ℤ a → m ≡ unsigned_abs a → IsFound (log2_room b) m f u → IsLog2Of (log2_room n) a f (pos u -ℤ pos (f * 2 ^ f))
 log2_is n b a m f u w o e h = rw (sym w) (record {
-    units = u;
-    value = refl;
-    near = λ k l. subst (λ (x : ℕ). IsLog2 x f k u) e (h.near k l);
-    exact = λ j p. h.exact j (e ∙ ap unsigned_abs p) })
+  units = u;
+  value = refl;
+  near = λ k l. subst (λ (x : ℕ). IsLog2 x f k u) e (h.near k l);
+  exact = λ j p. h.exact j (e ∙ ap unsigned_abs p);
+})
 
 pub below_zero : (u b : ℕ) → u < b → pos u -ℤ pos b ≡ neg_ℤ (pos (b - u))
 below_zero u b h = omega (arith, ints)

@@ -1,5 +1,5 @@
 -- The root of a quotient, one binary digit a turn.
-use Rattle.std.proofs.Common.{◌≡◌, ◌+◌, ◌-◌, ◌*◌, ◌/◌, ◌%◌, ◌^◌, ◌<◌, ◌≤◌, ℕ, suc, refl, ap, sym, subst, ◌∙◌, arith, inl, inr}
+use Rattle.std.proofs.Common.{◌≡◌, ◌+◌, ◌-◌, ◌*◌, ◌/◌, ◌%◌, ◌^◌, ◌<◌, ◌≤◌, ℕ, suc, refl, ap, sym, ◌∙◌, arith}
 use Rattle.std.proofs.Math.Nat.{pow-suc, pow-zero, pow-le-pow_right, mul-le-mul_left}
 use Rattle.std.proofs.lemmas.Nat.{pow-add, div-add-mod'}
 use Rattle.fixed_elementary.specs.inside.RecipParts.{IsRecipRootOf, divided}
@@ -32,20 +32,22 @@ pub begun : (a b q r t : ℕ) → divided a q r t ≡ b → t < a → r ≤ 2 * 
 begun a b q r t e h l o =
     let p : 2 ^ (2 * 0) ≡ 1 = refl in
     record {
-        value = rw p (omega arith);
-        rest = h;
-        remainder = l;
-        root = omega (arith, pow-zero 2) }
+      value = rw p (omega arith);
+      rest = h;
+      remainder = l;
+      root = omega (arith, pow-zero 2);
+    }
 
 pub turned : (a b q r t i x y z : ℕ) → Found a b q r t i → divided a x y z ≡ 4 * divided a q r t → z < a → y ≤ 2 * x → x ≤ 2 * q + 1
     → Found a b x y z (i + 1)
 turned a b q r t i x y z f e h l o =
     let v = f.value in
     record {
-        value = e ∙ ap (λ (n : ℕ). 4 * n) v ∙ times b (2 ^ (2 * i)) ∙ ap (λ (n : ℕ). b * n) (sym (pow_two_more i));
-        rest = h;
-        remainder = l;
-        root = omega (arith, pow_more i, f.root) }
+      value = e ∙ ap (λ (n : ℕ). 4 * n) v ∙ times b (2 ^ (2 * i)) ∙ ap (λ (n : ℕ). b * n) (sym (pow_two_more i));
+      rest = h;
+      remainder = l;
+      root = omega (arith, pow_more i, f.root);
+    }
   where
     times : (b p : ℕ) → 4 * (b * p) ≡ b * (4 * p)
     times b p = omega arith

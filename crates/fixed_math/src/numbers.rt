@@ -5,9 +5,7 @@ ghost use Rattle.fixed_word.specs.Standing.{StandsFor};
 ghost use Rattle.fixed_word.specs.Policies.{checked, overflowing, saturating, wrapping};
 
 use fixed_num::Fixed;
-use fixed_word::{
-    Outcome, RawWord, Word, checked_of, overflowing_of, saturating_of, wrapping_of,
-};
+use fixed_word::{Outcome, RawWord, Word, checked_of, overflowing_of, saturating_of, wrapping_of};
 
 /// Whether the value of a word is above 0.
 pub(crate) fn is_above_zero<T: Word>(word: T) -> bool

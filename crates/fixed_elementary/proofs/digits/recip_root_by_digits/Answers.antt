@@ -1,4 +1,4 @@
-use Rattle.std.proofs.Common.{◌∙◌, ◌≡◌, ◌≤◌, ◌<◌, ◌/◌, ◌%◌, ◌^◌, arith, refl, rules}
+use Rattle.std.proofs.Common.{◌∙◌, ◌/◌, arith, refl, rules}
 use Rattle.fixed_elementary.proofs.Turns.{all_found, begun, room, turned}
 use Rattle.fixed_elementary.proofs.digits.recip_root_by_digits.Goals as goal
 

@@ -1,4 +1,4 @@
-use Rattle.std.proofs.Common.{◌*◌, ◌^◌, sym}
+use Rattle.std.proofs.Common.{sym}
 use Rattle.fixed_elementary.proofs.Reading.{log2_is}
 use Rattle.fixed_elementary.proofs.logarithms.log2_of.Goals as goal
 

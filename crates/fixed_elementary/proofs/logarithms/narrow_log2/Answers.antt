@@ -1,4 +1,4 @@
-use Rattle.std.proofs.Common.{◌≡◌, ◌+◌, ◌*◌, ◌^◌, ◌≤◌, ◌<◌, ℕ, arith, refl, rules}
+use Rattle.std.proofs.Common.{◌^◌, arith, refl, rules}
 use Rattle.fixed_elementary.proofs.Reading.{read_all, read_none, read_turn, room}
 use Rattle.fixed_elementary.proofs.logarithms.narrow_log2.Goals as goal
 

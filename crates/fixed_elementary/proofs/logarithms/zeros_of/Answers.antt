@@ -1,4 +1,4 @@
-use Rattle.std.proofs.Common.{◌≡◌, ◌+◌, ◌-◌, ◌*◌, ◌^◌, ◌≤◌, ◌<◌, ℕ, arith}
+use Rattle.std.proofs.Common.{◌-◌, arith}
 use Rattle.std.proofs.lemmas.Int.{ints}
 use Rattle.fixed_elementary.proofs.Reading.{normal}
 use Rattle.fixed_elementary.proofs.logarithms.zeros_of.Goals as goal

@@ -1,4 +1,4 @@
-use Rattle.std.proofs.Common.{◌≡◌, ◌/◌, ◌^◌, ◌<◌, ◌≤◌, subst}
+use Rattle.std.proofs.Common.{◌^◌, subst}
 use Rattle.fixed_root.specs.inside.Parts.{IsRootOf}
 use Rattle.fixed_elementary.proofs.Rows.{recip_root}
 use Rattle.fixed_elementary.proofs.reciprocals.recip_root.Goals as goal

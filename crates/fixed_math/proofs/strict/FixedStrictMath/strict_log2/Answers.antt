@@ -1,4 +1,3 @@
-use Rattle.std.proofs.Common.{sym}
 use Rattle.fixed_math.proofs.strict.FixedStrictMath.strict_log2.Goals as goal
 
 pub returns : goal.returns
