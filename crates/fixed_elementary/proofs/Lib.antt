@@ -3,4 +3,6 @@ mod Halves
 mod Squarings
 mod Reading
 mod LogLaws
+mod Powers
+mod TwoRoots
 pub mod Rows

@@ -1,3 +1,4 @@
+pub mod Exponential
 pub mod Logarithm
 pub mod RecipRoot
 pub mod Rows

@@ -6,11 +6,13 @@
 #![tactic(auto)]
 
 mod digits;
+mod exponentials;
 pub mod laws;
 mod lengths;
 mod logarithms;
 mod reciprocals;
 mod roots;
+mod roots_of_two;
 mod wide;
 
 pub use lengths::hypot_of;

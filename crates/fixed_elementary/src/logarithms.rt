@@ -157,7 +157,7 @@ fn units_of(bits: u32, a: u64, places: u32) -> u128
 }
 
 /// The number `places`, in units of `2^-places`.
-fn in_units(places: u32) -> u128
+pub(crate) fn in_units(places: u32) -> u128
     requires { places ≤ 64 }
     ensures { result ≡ places * 2 ^ places }
 {
