@@ -5,4 +5,5 @@ mod Reading
 mod LogLaws
 mod Powers
 mod TwoRoots
+mod Raised
 pub mod Rows

@@ -3,9 +3,10 @@
 ghost use Rattle.std.specs.Prelude.{◌≡◌, ◌≤◌, ◌<◌, ◌+◌, ◌-◌, ◌*◌, ◌/◌, ◌%◌, ◌^◌, ◌+ℤ◌, ℕ, ℤ, pos, min};
 ghost use Rattle.fixed_word.specs.Format.{with_sign};
 ghost use Rattle.fixed_elementary.specs.Exponential.{IsExp2Of, IsExp2Up, StandsUpTo, exp2_room};
-ghost use Rattle.fixed_elementary.specs.inside.Power.{IsFloored, IsPart};
+ghost use Rattle.fixed_elementary.specs.inside.Power.{IsExponent, IsFloored, IsPart};
 
 use crate::logarithms::in_units;
+use crate::reciprocals::power_of_two;
 use crate::roots_of_two::{broad_root, narrow_root};
 use crate::wide::product;
 use fixed_word::{Outcome, RawWord, Valued, Word, outcome_of};
@@ -100,4 +101,72 @@ fn broad_exp2(part: u64, places: u32) -> u128
         power = broad_turn(power, digit_of(part, places - 1 - i), i);
     }
     power
+}
+
+/// A mantissa of `unit` places times `2^whole`, rounded down, or `2^bits` where that has more bits.
+fn in_bits(mantissa: u128, unit: u32, whole: u128, bits: u32) -> u128
+    requires unit { unit ≤ 126 }
+    requires bits { bits ≤ unit }
+    requires least { 2 ^ unit ≤ mantissa }
+    requires most { mantissa < 2 * 2 ^ unit }
+    ensures { result ≡ min (mantissa * 2 ^ whole / 2 ^ unit) (2 ^ bits) }
+{
+    if whole < u128::from(bits) {
+        mantissa >> (unit - whole as u32)
+    } else {
+        power_of_two(bits)
+    }
+}
+
+/// The digits of an exponent behind its point.
+fn part_of(exponent: u128, places: u32) -> u64
+    requires { places ≤ 64 }
+    ensures { result ≡ exponent % 2 ^ places }
+{
+    (exponent % (1 << places)) as u64
+}
+
+/// `2^(exponent / 2^places)`, rounded down, or `2^bits` where that has more bits.
+fn power_of(exponent: u128, places: u32, bits: u32) -> u128
+    requires bits { bits ≤ 64 }
+    requires places { places ≤ bits }
+    ensures { (r : ℕ) × IsExp2Up (exp2_room bits) exponent places r × (result ≡ min r (2 ^ bits)) }
+{
+    let part = part_of(exponent, places);
+    let whole = exponent >> places;
+    if bits <= 32 {
+        in_bits(u128::from(narrow_exp2(part, places)), 62, whole, bits)
+    } else {
+        in_bits(broad_exp2(part, places), 126, whole, bits)
+    }
+}
+
+/// The exponent of a power in units of `2^-frac`, or None where it is below 0 and the power is less than a unit.
+fn exponent_of<T: RawWord>(a: T, frac: u32) -> Option<u128>
+    requires { frac ≤ 64 }
+    ensures { IsExponent (T.value a +ℤ pos (frac * 2 ^ frac)) result }
+{
+    let units = in_units(frac);
+    let magnitude = u128::from(a.magnitude());
+    if !a.is_below_zero() {
+        Some(units + magnitude)
+    } else if magnitude <= units {
+        Some(units - magnitude)
+    } else {
+        None
+    }
+}
+
+/// 2 to the power of `a 2^-frac`, in units of `2^-frac`, rounded down up to a factor of `2^(2^-k)` for each k up to 54
+/// on words of up to 32 bits, and up to 117 on words of 64 bits. That of a whole number is exact. The outcome has no
+/// bits of a number above the range: it then stands for another number above the range.
+pub fn exp2_of<T: Word>(a: T, frac: u32) -> Outcome<T>
+    requires { frac ≤ T.BITS }
+    ensures { (r : ℤ) × IsExp2Of (exp2_room T.BITS) (T.value a) frac r
+        × StandsUpTo T.value T.SIGNED T.BITS r result }
+{
+    match exponent_of(a, frac) {
+        Some(exponent) => outcome_of(false, power_of(exponent, frac, T::BITS)),
+        None => outcome_of(false, 0),
+    }
 }

@@ -15,6 +15,7 @@ mod roots;
 mod roots_of_two;
 mod wide;
 
+pub use exponentials::exp2_of;
 pub use lengths::hypot_of;
 pub use logarithms::log2_of;
 pub use reciprocals::recip_sqrt_of;

@@ -10,7 +10,7 @@ use crate::roots::root_of_whole;
 use fixed_word::{Outcome, RawWord, Word, outcome_of};
 
 /// A power of two.
-fn power(exponent: u32) -> u128
+pub(crate) fn power_of_two(exponent: u32) -> u128
     requires { exponent < 128 }
     ensures { result ≡ 2 ^ exponent }
 {
@@ -25,9 +25,9 @@ fn power_over(exponent: u32, a: u64) -> u128
     ensures { result ≡ 2 ^ exponent / a }
 {
     if exponent < 64 {
-        u128::from(power(exponent) as u64 / a)
+        u128::from(power_of_two(exponent) as u64 / a)
     } else {
-        power(exponent) / u128::from(a)
+        power_of_two(exponent) / u128::from(a)
     }
 }
 

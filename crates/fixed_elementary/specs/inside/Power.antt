@@ -1,5 +1,5 @@
 -- Powers of 2 with a fractional exponent, in units of 1/w.
-use Rattle.std.specs.Prelude.{◌≡◌, ◌+◌, ◌*◌, ◌^◌, ◌≤◌, ◌<◌, ℕ}
+use Rattle.std.specs.Prelude.{◌≡◌, ◌+◌, ◌*◌, ◌^◌, ◌≤◌, ◌<◌, ◌<ℤ◌, ℕ, ℤ, pos, Option, Some, None}
 
 -- p / w is at most 2 ^ (z / q), and less by a factor of (w / (w + 1)) ^ (i / q) at most
 pub record IsPower (w q z i p : ℕ) : Type 0 where
@@ -25,3 +25,8 @@ pub record IsPart (w b z p : ℕ) : Type 0 where
   pub most : p < 2 * w
   pub power : IsPower w (2 ^ b) z (3 * b * 2 ^ b) p
   pub unit : z ≡ 0 → p ≡ w
+
+-- the exponent x, which is below 0 where there is none
+abbrev pub IsExponent : ℤ → Option ℕ → Type 0
+IsExponent x (Some e) = x ≡ pos e
+IsExponent x None = x <ℤ pos 0
