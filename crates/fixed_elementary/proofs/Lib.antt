@@ -6,4 +6,5 @@ mod LogLaws
 mod Powers
 mod TwoRoots
 mod Raised
+mod ExpLaws
 pub mod Rows

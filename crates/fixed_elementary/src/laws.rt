@@ -4,6 +4,7 @@
 ghost use Rattle.std.specs.Prelude.{◌≡◌, ◌≤◌, ◌<◌, ◌-◌, ◌*◌, ◌^◌, ◌+ℤ◌, ◌-ℤ◌, ◌*ℤ◌, ◌≤ℤ◌, ◌<ℤ◌, ℕ, ℤ, true, pos, unsigned_abs};
 ghost use Rattle.fixed_word.specs.Format.{InRange};
 ghost use Rattle.fixed_root.specs.Root.{IsRoot};
+ghost use Rattle.fixed_elementary.specs.Exponential.{IsExp2Of};
 ghost use Rattle.fixed_elementary.specs.Logarithm.{IsLog2Of};
 ghost use Rattle.fixed_elementary.specs.RecipRoot.{IsRecipRoot};
 ghost use Rattle.fixed_elementary.specs.Rows.{exact_hypot, exact_recip_sqrt};
@@ -33,4 +34,17 @@ pub fn log2_law()
     ensures fits { (room n f : ℕ) (a r : ℤ) → f ≤ room → f < n → f * 2 ^ f ≤ 2 ^ (n - 1)
         → (n - 1 - f) * 2 ^ f < 2 ^ (n - 1) → InRange true n a → pos 0 <ℤ a
         → IsLog2Of room a f r → InRange true n r }
+{}
+
+/// 2 to the power of a whole number is exact: to the power of `j - f` it is `2^j` units. No power is below 0, and one
+/// whose exponent is below `m - f` is below `2^m` units. 2 to the power of the logarithm of a number is at most that
+/// number.
+pub fn exp2_law()
+    ensures exact { (room j f : ℕ) (a r : ℤ) → a +ℤ pos (f * 2 ^ f) ≡ pos (j * 2 ^ f)
+        → IsExp2Of room a f r → r ≡ pos (2 ^ j) }
+    ensures from_zero { (room f : ℕ) (a r : ℤ) → IsExp2Of room a f r → pos 0 ≤ℤ r }
+    ensures below { (room m f : ℕ) (a r : ℤ) → (a +ℤ pos (f * 2 ^ f)) <ℤ pos (m * 2 ^ f)
+        → IsExp2Of room a f r → r <ℤ pos (2 ^ m) }
+    ensures of_log2 { (log exp f : ℕ) (a r s : ℤ) → f ≤ log → pos 0 <ℤ a
+        → IsLog2Of log a f r → IsExp2Of exp r f s → s ≤ℤ a }
 {}

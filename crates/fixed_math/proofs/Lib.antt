@@ -1,1 +1,2 @@
 mod Positive
+mod UpTo

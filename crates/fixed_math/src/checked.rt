@@ -2,11 +2,12 @@
 
 ghost use Rattle.std.specs.Prelude.{◌≡◌, ◌≤◌, ◌≤ℤ◌, ◌<ℤ◌, ℤ, None, Some, option_map, pos};
 ghost use Rattle.fixed_word.specs.Policies.{checked};
+ghost use Rattle.fixed_elementary.specs.Exponential.{IsExp2Of, exp2_room};
 ghost use Rattle.fixed_elementary.specs.Logarithm.{IsLog2Of, log2_room};
 ghost use Rattle.fixed_elementary.specs.Rows.{by_positive, exact_hypot, exact_recip_sqrt};
 
 use crate::numbers::{checked_number, is_above_zero};
-use fixed_elementary::{hypot_of, log2_of, recip_sqrt_of};
+use fixed_elementary::{exp2_of, hypot_of, log2_of, recip_sqrt_of};
 use fixed_num::{Fixed, Held, Number};
 use fixed_word::{RawWord, Word};
 
@@ -37,6 +38,16 @@ pub trait CheckedMath: Number {
         ensures log2 { pos 0 <ℤ Self.number self
             → (r : ℤ) × IsLog2Of (log2_room Self.BITS) (Self.number self) Self.FRACTION r
             × (option_map Self.number result ≡ checked Self.SIGNED Self.BITS (Some r)) };
+
+    /// 2 to the power of the number, rounded down; None exactly if it does not fit.
+    ///
+    /// Where the power lies less than a factor of `2^(2^-k)` above a whole number of units, the result may be one unit
+    /// less than that number; k is 54 on words of up to 32 bits, and 117 on words of 64 bits. 2 to the power of a whole
+    /// number is exact.
+    fn checked_exp2(self) -> Option<Self>
+        requires { Self.FRACTION ≤ Self.BITS }
+        ensures { (r : ℤ) × IsExp2Of (exp2_room Self.BITS) (Self.number self) Self.FRACTION r
+            × (option_map Self.number result ≡ checked Self.SIGNED Self.BITS (Some r)) };
 }
 
 impl<T: Word, const F: u32> CheckedMath for Fixed<T, F> {
@@ -56,5 +67,9 @@ impl<T: Word, const F: u32> CheckedMath for Fixed<T, F> {
             return None;
         }
         checked_number(log2_of(self.bits, F))
+    }
+
+    fn checked_exp2(self) -> Option<Self> {
+        checked_number(exp2_of(self.bits, F))
     }
 }

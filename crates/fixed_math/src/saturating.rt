@@ -2,11 +2,12 @@
 
 ghost use Rattle.std.specs.Prelude.{◌≡◌, ◌≤◌, ◌<ℤ◌, ℤ, Some, pos};
 ghost use Rattle.fixed_word.specs.Policies.{saturating};
+ghost use Rattle.fixed_elementary.specs.Exponential.{IsExp2Of, exp2_room};
 ghost use Rattle.fixed_elementary.specs.Logarithm.{IsLog2Of, log2_room};
 ghost use Rattle.fixed_elementary.specs.Rows.{exact_hypot, exact_recip_sqrt};
 
 use crate::numbers::saturating_number;
-use fixed_elementary::{hypot_of, log2_of, recip_sqrt_of};
+use fixed_elementary::{exp2_of, hypot_of, log2_of, recip_sqrt_of};
 use fixed_num::{Fixed, Held, Number};
 use fixed_word::{RawWord, Word};
 
@@ -37,6 +38,16 @@ pub trait SaturatingMath: Number {
         requires positive { pos 0 <ℤ Self.number self }
         ensures { (r : ℤ) × IsLog2Of (log2_room Self.BITS) (Self.number self) Self.FRACTION r
             × (Some (Self.number result) ≡ saturating Self.SIGNED Self.BITS (Some r)) };
+
+    /// 2 to the power of the number, rounded down, or the greatest number where it lies beyond.
+    ///
+    /// Where the power lies less than a factor of `2^(2^-k)` above a whole number of units, the result may be one unit
+    /// less than that number; k is 54 on words of up to 32 bits, and 117 on words of 64 bits. 2 to the power of a whole
+    /// number is exact.
+    fn saturating_exp2(self) -> Self
+        requires { Self.FRACTION ≤ Self.BITS }
+        ensures { (r : ℤ) × IsExp2Of (exp2_room Self.BITS) (Self.number self) Self.FRACTION r
+            × (Some (Self.number result) ≡ saturating Self.SIGNED Self.BITS (Some r)) };
 }
 
 impl<T: Word, const F: u32> SaturatingMath for Fixed<T, F> {
@@ -50,5 +61,9 @@ impl<T: Word, const F: u32> SaturatingMath for Fixed<T, F> {
 
     fn saturating_log2(self) -> Self {
         saturating_number(log2_of(self.bits, F))
+    }
+
+    fn saturating_exp2(self) -> Self {
+        saturating_number(exp2_of(self.bits, F))
     }
 }

@@ -2,10 +2,11 @@
 
 ghost use Rattle.std.specs.Prelude.{◌≡◌, ◌≤◌, ◌<ℤ◌, ℤ, pos};
 ghost use Rattle.fixed_word.specs.Format.{InRange};
+ghost use Rattle.fixed_elementary.specs.Exponential.{IsExp2Of, exp2_room};
 ghost use Rattle.fixed_elementary.specs.Logarithm.{IsLog2Of, log2_room};
 ghost use Rattle.fixed_elementary.specs.Rows.{exact_hypot, exact_recip_sqrt};
 
-use fixed_elementary::{hypot_of, log2_of, recip_sqrt_of};
+use fixed_elementary::{exp2_of, hypot_of, log2_of, recip_sqrt_of};
 use fixed_num::{Fixed, Held, Number, exact_number};
 use fixed_word::{RawWord, Word};
 
@@ -37,6 +38,17 @@ pub trait StrictMath: Number {
         requires fits { (r : ℤ) → IsLog2Of (log2_room Self.BITS) (Self.number self) Self.FRACTION r
             → InRange Self.SIGNED Self.BITS r }
         ensures { IsLog2Of (log2_room Self.BITS) (Self.number self) Self.FRACTION (Self.number result) };
+
+    /// 2 to the power of the number, rounded down, which has to fit.
+    ///
+    /// Where the power lies less than a factor of `2^(2^-k)` above a whole number of units, the result may be one unit
+    /// less than that number; k is 54 on words of up to 32 bits, and 117 on words of 64 bits. 2 to the power of a whole
+    /// number is exact.
+    fn strict_exp2(self) -> Self
+        requires fraction { Self.FRACTION ≤ Self.BITS }
+        requires fits { (r : ℤ) → IsExp2Of (exp2_room Self.BITS) (Self.number self) Self.FRACTION r
+            → InRange Self.SIGNED Self.BITS r }
+        ensures { IsExp2Of (exp2_room Self.BITS) (Self.number self) Self.FRACTION (Self.number result) };
 }
 
 impl<T: Word, const F: u32> StrictMath for Fixed<T, F> {
@@ -50,5 +62,9 @@ impl<T: Word, const F: u32> StrictMath for Fixed<T, F> {
 
     fn strict_log2(self) -> Self {
         exact_number(log2_of(self.bits, F))
+    }
+
+    fn strict_exp2(self) -> Self {
+        exact_number(exp2_of(self.bits, F))
     }
 }

@@ -2,6 +2,7 @@
 
 ghost use Rattle.std.specs.Prelude.{◌≡◌, ◌≤◌, ◌<ℤ◌, ℤ, pos};
 ghost use Rattle.fixed_word.specs.Format.{InRange};
+ghost use Rattle.fixed_elementary.specs.Exponential.{IsExp2Of, exp2_room};
 ghost use Rattle.fixed_elementary.specs.Logarithm.{IsLog2Of, log2_room};
 ghost use Rattle.fixed_elementary.specs.Rows.{exact_hypot, exact_recip_sqrt};
 
@@ -37,6 +38,17 @@ pub trait UnwrappedMath: Number {
         requires fits { (r : ℤ) → IsLog2Of (log2_room Self.BITS) (Self.number self) Self.FRACTION r
             → InRange Self.SIGNED Self.BITS r }
         ensures { IsLog2Of (log2_room Self.BITS) (Self.number self) Self.FRACTION (Self.number result) };
+
+    /// 2 to the power of the number, rounded down, which has to fit.
+    ///
+    /// Where the power lies less than a factor of `2^(2^-k)` above a whole number of units, the result may be one unit
+    /// less than that number; k is 54 on words of up to 32 bits, and 117 on words of 64 bits. 2 to the power of a whole
+    /// number is exact.
+    fn unwrapped_exp2(self) -> Self
+        requires fraction { Self.FRACTION ≤ Self.BITS }
+        requires fits { (r : ℤ) → IsExp2Of (exp2_room Self.BITS) (Self.number self) Self.FRACTION r
+            → InRange Self.SIGNED Self.BITS r }
+        ensures { IsExp2Of (exp2_room Self.BITS) (Self.number self) Self.FRACTION (Self.number result) };
 }
 
 impl<T: Word, const F: u32> UnwrappedMath for Fixed<T, F> {
@@ -50,5 +62,9 @@ impl<T: Word, const F: u32> UnwrappedMath for Fixed<T, F> {
 
     fn unwrapped_log2(self) -> Self {
         self.strict_log2()
+    }
+
+    fn unwrapped_exp2(self) -> Self {
+        self.strict_exp2()
     }
 }
