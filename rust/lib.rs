@@ -187,6 +187,9 @@ pub use cast::{
 pub use enclosure::Enclosure;
 pub use float::Binary;
 pub use interval::{Interval, abs_in, add_in, div_in, mul_in, neg_in, sqrt_in, square_in, sub_in};
+pub use math::{
+    CheckedMath, OverflowingMath, SaturatingMath, StrictMath, UnwrappedMath, WrappingMath,
+};
 pub use num::{
     Constants, Fixed, FixedI8, FixedI16, FixedI32, FixedI64, FixedU8, FixedU16, FixedU32, FixedU64,
     Held, Number,
@@ -222,6 +225,9 @@ pub mod prelude {
     pub use crate::{Binary as _, Saturating as _, Wrapping as _};
     pub use crate::{
         Checked, CheckedMulAdd, CheckedProducts, CheckedRounded, CheckedSigned, CheckedUnsigned,
+    };
+    pub use crate::{
+        CheckedMath, OverflowingMath, SaturatingMath, StrictMath, UnwrappedMath, WrappingMath,
     };
     pub use crate::{
         Constants, Fixed, FixedI8, FixedI16, FixedI32, FixedI64, FixedU8, FixedU16, FixedU32,

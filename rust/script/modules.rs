@@ -15,13 +15,34 @@ use std::path::Path;
 use std::{env, fs};
 
 /// The crates of the library, lowest first, without the `fixed_` in front.
-pub const LIBRARY: [&str; 18] = [
-    "word", "bits", "root", "logs", "kernel", "convert", "text", "decimal", "num", "float", "cast",
-    "policy", "strict", "ops", "poly", "filter", "interval", "enclosure",
+pub const LIBRARY: [&str; 20] = [
+    "word",
+    "bits",
+    "root",
+    "logs",
+    "kernel",
+    "elementary",
+    "convert",
+    "text",
+    "decimal",
+    "num",
+    "float",
+    "cast",
+    "policy",
+    "strict",
+    "math",
+    "ops",
+    "poly",
+    "filter",
+    "interval",
+    "enclosure",
 ];
 
 /// The crates of the calculator, lowest first.
 pub const CALCULATOR: [&str; 4] = ["stream", "script", "machine", "calc"];
+
+/// The crates with strict forms, which stop in every build where a number does not fit.
+pub const STRICT: [&str; 2] = ["strict", "math"];
 
 /// The files that the library does not offer: their public calls are made by the proved code beside them alone.
 pub const INSIDE: [&str; 11] = [
@@ -226,8 +247,7 @@ impl Modules<'_> {
             source,
             file: name,
             known: is_offered.then_some(known),
-            // Strict forms stop in every build.
-            is_strict: krate == "strict",
+            is_strict: STRICT.contains(&krate),
             traits: &self.traits,
             pages: self.pages,
         };

@@ -2,6 +2,7 @@
 
 use crate::script::edits::{Edits, bytes};
 use crate::script::items::Source;
+use crate::script::modules::STRICT;
 use crate::script::tokens::{Kind, Token};
 
 /// How the names of crates are written in a crate.
@@ -33,7 +34,7 @@ impl Names<'_> {
     /// The name of a crate at the front of a path; other names stay.
     fn name(&self, name: &str) -> String {
         // The strict forms know the numbers by the module where each number has to fit.
-        let numbers = if self.krate == "strict" {
+        let numbers = if STRICT.contains(&self.krate) {
             "stopping"
         } else {
             "num"

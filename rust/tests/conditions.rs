@@ -7,7 +7,8 @@ use std::sync::Once;
 use zugyelmas::{Binary, Enclosure};
 use zugyelmas::prelude::*;
 use zugyelmas::{
-    bits, filter, float, interval, kernel, logs, num, ops, policy, poly, root, strict, word,
+    bits, elementary, filter, float, interval, kernel, logs, num, ops, policy, poly, root, strict,
+    word,
 };
 
 type Byte = FixedI8<4>;
@@ -162,6 +163,12 @@ stops! {
     unwrapped_overflow, "the number fits", Byte::MIN.unwrapped_neg();
     unwrapped_shift, "the shift is below the width", byte(1).unwrapped_shr(8);
     saturating_divisor, "the divisor is not 0", byte(1).saturating_next_multiple_of(byte(0));
+    elementary_root, "the number is above 0", elementary::recip_sqrt_of(0_i8, 4);
+    elementary_fraction, "the fraction frac is at most the width", elementary::log2_of(1_u8, 9);
+    math_root, "the number is above 0", byte(0).wrapping_recip_sqrt();
+    math_length, "the number fits", Byte::MIN.strict_hypot(byte(0));
+    math_logarithm, "the number is above 0", byte(-1).saturating_log2();
+    math_strict_logarithm, "the number fits", FixedI8::<7>::from_bits(1).strict_log2();
     ops_divisor, "the divisor is not 0", byte(0).recip();
     ops_root, "the number is not below 0", byte(-1).sqrt();
     ops_product_of_none, "the number 1 fits", ops::product::<i8, 7>(&[]);

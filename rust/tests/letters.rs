@@ -226,7 +226,7 @@ fn crate_name(krate: &str, name: &str) -> String {
     match name {
         "crate" => format!("crate::{krate}"),
         "std" => "core".to_string(),
-        "fixed_num" if krate == "strict" => "crate::stopping".to_string(),
+        "fixed_num" if matches!(krate, "strict" | "math") => "crate::stopping".to_string(),
         _ => name
             .strip_prefix("fixed_")
             .map_or(name.to_string(), |of| format!("crate::{of}")),

@@ -1,0 +1,5 @@
+use Rattle.fixed_elementary.proofs.ExpLaws.{exp2_below, exp2_exact, exp2_from_zero, exp2_of_log2}
+use Rattle.fixed_elementary.proofs.laws.exp2_law.Goals as goal
+
+pub returns : goal.returns
+returns c = record { exact = exp2_exact; from_zero = exp2_from_zero; below = exp2_below; of_log2 = exp2_of_log2 }

@@ -1,0 +1,8 @@
+-- One over the square root of a number with f fractional bits, rounded down.
+use Rattle.std.specs.Prelude.{◌*◌, ◌^◌, ◌≤ℤ◌, ◌<ℤ◌, ◌+ℤ◌, ◌*ℤ◌, ℕ, ℤ, pos}
+
+-- r is one over the root of a with f fractional bits
+pub record IsRecipRoot (a : ℤ) (f : ℕ) (r : ℤ) : Type 0 where
+  pub from_zero : pos 0 ≤ℤ r
+  pub below : ((r *ℤ r) *ℤ a) ≤ℤ pos (2 ^ (3 * f))
+  pub above : pos (2 ^ (3 * f)) <ℤ (((r +ℤ pos 1) *ℤ (r +ℤ pos 1)) *ℤ a)

@@ -1,0 +1,34 @@
+-- The digits of a logarithm, by squaring a mantissa whose unit is w.
+use Rattle.std.specs.Prelude.{◌≡◌, ◌+◌, ◌*◌, ◌^◌, ◌≤◌, ◌<◌, ℕ}
+use Rattle.fixed_elementary.specs.Logarithm.{IsLog2}
+
+-- n is the square of m, over 2^b, rounded down: the mantissa after the digit b
+pub record IsSquared (w m b n : ℕ) : Type 0 where
+  pub digit : b ≤ 1
+  pub least : w ≤ n
+  pub most : n < 2 * w
+  pub below : n * (w * 2 ^ b) ≤ m * m
+  pub above : m * m ≤ (n + 1) * (w * 2 ^ b)
+
+-- m is the mantissa of a, and d its whole logarithm
+pub record IsMantissa (w a d m : ℕ) : Type 0 where
+  pub least : w ≤ m
+  pub most : m < 2 * w
+  pub digits : d + 1 ≤ 64
+  pub value : 2 ^ d * m ≡ a * w
+
+-- i digits were read: of the power a^(2^i) the digits d and the mantissa m are left, in 2^i - 1 steps
+pub record IsRead (w a i d m : ℕ) : Type 0 where
+  pub turns : ℕ
+  pub turns_are : turns + 1 ≡ 2 ^ i
+  pub least : w ≤ m
+  pub most : m < 2 * w
+  pub below : 2 ^ d * m ≤ a ^ 2 ^ i * w
+  pub above : a ^ 2 ^ i * w * w ^ turns ≤ 2 ^ d * m * (w + 1) ^ turns
+  pub digits : d + 1 ≤ 64 * 2 ^ i
+  pub exact : (j : ℕ) → a ≡ 2 ^ j → (m ≡ w) × (d ≡ j * 2 ^ i)
+
+-- s is the logarithm of a in units of 2^-g, as near as a mantissa of that unit tells; exactly so of a power of two
+pub record IsFound (room a g s : ℕ) : Type 0 where
+  pub near : (k : ℕ) → g + k ≤ room → IsLog2 a g k s
+  pub exact : (j : ℕ) → a ≡ 2 ^ j → s ≡ j * 2 ^ g

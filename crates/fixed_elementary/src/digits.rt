@@ -1,0 +1,114 @@
+//! The root of a quotient of up to 193 bits, one binary digit a turn.
+
+ghost use Rattle.std.specs.Prelude.{◌≡◌, ◌≤◌, ◌<◌, ◌+◌, ◌*◌, ◌%◌, ◌^◌};
+ghost use Rattle.fixed_elementary.specs.inside.RecipParts.{IsRecipRootOf, divided};
+
+/// The digits of the root so far, what their square leaves of the quotient's digits so far, and what these
+/// leave of the dividend.
+#[derive(Clone, Copy)]
+struct Part {
+    root: u128,
+    remainder: u128,
+    rest: u128,
+}
+
+/// One more binary digit of a quotient, and what it leaves.
+#[derive(Clone, Copy)]
+struct Digit {
+    digit: u128,
+    rest: u128,
+}
+
+/// The highest digit of `2^exponent` to the base 4.
+fn highest_of(exponent: u32) -> u128
+    ensures value { result ≡ 2 ^ (exponent % 2) }
+    ensures small { result ≤ 2 }
+{
+    if exponent % 2 == 0 { 1 } else { 2 }
+}
+
+/// The quotient of 1 or 2, and its root.
+fn begin(a: u64, dividend: u128) -> Part
+    requires some { 0 < a }
+    requires dividend { dividend ≤ 2 }
+    ensures value { divided a result.root result.remainder result.rest ≡ dividend }
+    ensures rest { result.rest < a }
+    ensures remainder { result.remainder ≤ 2 * result.root }
+    ensures root { result.root ≤ 1 }
+{
+    let divisor = u128::from(a);
+    let quotient = dividend / divisor;
+    let root = if quotient == 0 { 0 } else { 1 };
+    Part {
+        root,
+        remainder: quotient - root,
+        rest: dividend % divisor,
+    }
+}
+
+/// Twice the rest, divided.
+#[inline]
+fn divide_twice(rest: u128, a: u64) -> Digit
+    requires { rest < a }
+    ensures value { result.digit * a + result.rest ≡ 2 * rest }
+    ensures rest { result.rest < a }
+    ensures digit { result.digit ≤ 1 }
+{
+    let divisor = u128::from(a);
+    let twice = 2 * rest;
+    if divisor <= twice {
+        Digit {
+            digit: 1,
+            rest: twice - divisor,
+        }
+    } else {
+        Digit {
+            digit: 0,
+            rest: twice,
+        }
+    }
+}
+
+/// Finds a digit of the root, of two more digits of the quotient.
+#[inline]
+fn find_digit(part: Part, a: u64) -> Part
+    requires rest { part.rest < a }
+    requires remainder { part.remainder ≤ 2 * part.root }
+    requires root { part.root < 2 ^ 100 }
+    ensures value { divided a result.root result.remainder result.rest
+        ≡ 4 * divided a part.root part.remainder part.rest }
+    ensures rest { result.rest < a }
+    ensures remainder { result.remainder ≤ 2 * result.root }
+    ensures root { result.root ≤ 2 * part.root + 1 }
+{
+    let first = divide_twice(part.rest, a);
+    let second = divide_twice(first.rest, a);
+    let whole = 4 * part.remainder + 2 * first.digit + second.digit;
+    let trial = 4 * part.root + 1;
+    if trial <= whole {
+        Part {
+            root: 2 * part.root + 1,
+            remainder: whole - trial,
+            rest: second.rest,
+        }
+    } else {
+        Part {
+            root: 2 * part.root,
+            remainder: whole,
+            rest: second.rest,
+        }
+    }
+}
+
+/// The root of `2^exponent / a`, rounded down.
+pub(crate) fn recip_root_by_digits(a: u64, exponent: u32) -> u128
+    requires exponent { exponent ≤ 192 }
+    requires some { 0 < a }
+    ensures { IsRecipRootOf (2 ^ exponent) a result }
+{
+    let mut part = begin(a, highest_of(exponent));
+    for i in 0..exponent / 2 {
+        part = find_digit(part, a);
+    }
+    part.root
+}

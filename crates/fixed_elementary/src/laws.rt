@@ -1,0 +1,50 @@
+//! Laws of the exact results: what each of them is, and where it is simple. These functions do nothing: each
+//! contract is the law.
+
+ghost use Rattle.std.specs.Prelude.{◌≡◌, ◌≤◌, ◌<◌, ◌-◌, ◌*◌, ◌^◌, ◌+ℤ◌, ◌-ℤ◌, ◌*ℤ◌, ◌≤ℤ◌, ◌<ℤ◌, ℕ, ℤ, true, pos, unsigned_abs};
+ghost use Rattle.fixed_word.specs.Format.{InRange};
+ghost use Rattle.fixed_root.specs.Root.{IsRoot};
+ghost use Rattle.fixed_elementary.specs.Exponential.{IsExp2Of};
+ghost use Rattle.fixed_elementary.specs.Logarithm.{IsLog2Of};
+ghost use Rattle.fixed_elementary.specs.RecipRoot.{IsRecipRoot};
+ghost use Rattle.fixed_elementary.specs.Rows.{exact_hypot, exact_recip_sqrt};
+
+/// The length is the root of the sum of both squares, rounded down; it is that of the exchanged pair, and on
+/// an axis it is the magnitude.
+pub fn hypot_law()
+    ensures is_root { (a b : ℤ) → IsRoot (a *ℤ a +ℤ b *ℤ b) 0 (exact_hypot a b) }
+    ensures exchanged { (a b : ℤ) → exact_hypot a b ≡ exact_hypot b a }
+    ensures on_axis { (a : ℤ) → exact_hypot a (pos 0) ≡ pos (unsigned_abs a) }
+{}
+
+/// The reciprocal root is the r with `r^2 a <= 2^(3f) < (r+1)^2 a`, and nothing else is.
+pub fn recip_sqrt_law()
+    ensures is_recip_root { (a : ℤ) (f : ℕ) → pos 0 <ℤ a → IsRecipRoot a f (exact_recip_sqrt a f) }
+    ensures unique { (a r s : ℤ) (f : ℕ) → IsRecipRoot a f r → IsRecipRoot a f s → r ≡ s }
+{}
+
+/// The logarithm of a power of two is exact: that of `2^j` units is `j - f`. Two numbers that are the logarithm of one
+/// number, each rounded down up to a part of a unit, differ by one unit at most. On signed words of n bits each
+/// logarithm fits where the range of the word reaches from `-f` to `n - 1 - f`.
+pub fn log2_law()
+    ensures exact { (room j f : ℕ) (r : ℤ) → IsLog2Of room (pos (2 ^ j)) f r
+        → r ≡ pos (j * 2 ^ f) -ℤ pos (f * 2 ^ f) }
+    ensures near { (room f : ℕ) (a r s : ℤ) → f ≤ room → IsLog2Of room a f r → IsLog2Of room a f s
+        → r ≤ℤ (s +ℤ pos 1) }
+    ensures fits { (room n f : ℕ) (a r : ℤ) → f ≤ room → f < n → f * 2 ^ f ≤ 2 ^ (n - 1)
+        → (n - 1 - f) * 2 ^ f < 2 ^ (n - 1) → InRange true n a → pos 0 <ℤ a
+        → IsLog2Of room a f r → InRange true n r }
+{}
+
+/// 2 to the power of a whole number is exact: to the power of `j - f` it is `2^j` units. No power is below 0, and one
+/// whose exponent is below `m - f` is below `2^m` units. 2 to the power of the logarithm of a number is at most that
+/// number.
+pub fn exp2_law()
+    ensures exact { (room j f : ℕ) (a r : ℤ) → a +ℤ pos (f * 2 ^ f) ≡ pos (j * 2 ^ f)
+        → IsExp2Of room a f r → r ≡ pos (2 ^ j) }
+    ensures from_zero { (room f : ℕ) (a r : ℤ) → IsExp2Of room a f r → pos 0 ≤ℤ r }
+    ensures below { (room m f : ℕ) (a r : ℤ) → (a +ℤ pos (f * 2 ^ f)) <ℤ pos (m * 2 ^ f)
+        → IsExp2Of room a f r → r <ℤ pos (2 ^ m) }
+    ensures of_log2 { (log exp f : ℕ) (a r s : ℤ) → f ≤ log → pos 0 <ℤ a
+        → IsLog2Of log a f r → IsExp2Of exp r f s → s ≤ℤ a }
+{}

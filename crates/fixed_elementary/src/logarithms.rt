@@ -1,0 +1,188 @@
+//! Logarithms to the base 2, one binary digit a turn, by squaring.
+
+ghost use Rattle.std.specs.Prelude.{◌≡◌, ◌≤◌, ◌<◌, ◌+◌, ◌*◌, ◌^◌, ◌<ℤ◌, ◌-ℤ◌, ℤ, pos};
+ghost use Rattle.fixed_word.specs.Format.{with_sign};
+ghost use Rattle.fixed_word.specs.Standing.{StandsFor};
+ghost use Rattle.fixed_elementary.specs.Logarithm.{IsLog2Of, log2_room};
+ghost use Rattle.fixed_elementary.specs.inside.Squaring.{IsFound, IsMantissa, IsSquared};
+
+use crate::wide::product;
+use fixed_word::{Digits, Outcome, RawWord, Silent, Steps, Valued, Word, outcome_of};
+
+/// Digits, and the mantissa that is left, in units of `2^-63`.
+#[derive(Clone, Copy)]
+struct Narrow {
+    digits: u64,
+    mantissa: u64,
+}
+
+/// Digits, and the mantissa that is left, in units of `2^-127`.
+#[derive(Clone, Copy)]
+struct Broad {
+    digits: u128,
+    mantissa: u128,
+}
+
+/// How many of the highest bits are 0.
+fn zeros_of(a: u64) -> u32
+    requires { 0 < a }
+    ensures few { result ≤ 63 }
+    ensures below { a * 2 ^ result < 2 ^ 64 }
+    ensures above { 2 ^ 63 ≤ a * 2 ^ result }
+{
+    let mut steps = Steps::new(Silent::new());
+    Digits::leading_zeros(a, &mut steps)
+}
+
+/// The product by a power of 2.
+fn raised(a: u64, by: u32) -> u64
+    requires by { by ≤ 63 }
+    requires fits { a * 2 ^ by < 2 ^ 64 }
+    ensures { result ≡ a * 2 ^ by }
+{
+    a << by
+}
+
+/// The whole logarithm, and the mantissa.
+fn whole(a: u64) -> Narrow
+    requires { 0 < a }
+    ensures { IsMantissa (2 ^ 63) a result.digits result.mantissa }
+{
+    let zeros = zeros_of(a);
+    Narrow {
+        digits: 63 - u64::from(zeros),
+        mantissa: raised(a, zeros),
+    }
+}
+
+/// The whole logarithm, and the mantissa in 128 bits.
+fn broad_whole(a: u64) -> Broad
+    requires { 0 < a }
+    ensures { IsMantissa (2 ^ 127) a result.digits result.mantissa }
+{
+    let start = whole(a);
+    Broad {
+        digits: u128::from(start.digits),
+        mantissa: u128::from(start.mantissa) * (1 << 64),
+    }
+}
+
+/// The digit of the mantissa's square, and what is left of it, rounded down.
+#[inline]
+fn squared(mantissa: u64) -> Narrow
+    requires { 2 ^ 63 ≤ mantissa }
+    ensures { IsSquared (2 ^ 63) mantissa result.digits result.mantissa }
+{
+    let square = u128::from(mantissa) * u128::from(mantissa);
+    let half = square >> 63;
+    if half <= u64::MAX as u128 {
+        Narrow {
+            digits: 0,
+            mantissa: half as u64,
+        }
+    } else {
+        Narrow {
+            digits: 1,
+            mantissa: (square >> 64) as u64,
+        }
+    }
+}
+
+/// The same in 128 bits.
+#[inline]
+fn broad_squared(mantissa: u128) -> Broad
+    requires { 2 ^ 127 ≤ mantissa }
+    ensures { IsSquared (2 ^ 127) mantissa result.digits result.mantissa }
+{
+    let square = product(mantissa, mantissa);
+    if square.high < 1 << 127 {
+        Broad {
+            digits: 0,
+            mantissa: 2 * square.high + square.low / (1 << 127),
+        }
+    } else {
+        Broad {
+            digits: 1,
+            mantissa: square.high,
+        }
+    }
+}
+
+/// The logarithm in units of `2^-places`, by a mantissa of 64 bits.
+fn narrow_log2(a: u64, places: u32) -> u64
+    requires some { 0 < a }
+    requires places { places ≤ 32 }
+    ensures { IsFound 62 a places result }
+{
+    let start = whole(a);
+    let mut digits = start.digits;
+    let mut mantissa = start.mantissa;
+    for i in 0..places {
+        let next = squared(mantissa);
+        digits = 2 * digits + next.digits;
+        mantissa = next.mantissa;
+    }
+    digits
+}
+
+/// The logarithm in units of `2^-places`, by a mantissa of 128 bits.
+fn broad_log2(a: u64, places: u32) -> u128
+    requires some { 0 < a }
+    requires places { places ≤ 64 }
+    ensures { IsFound 126 a places result }
+{
+    let start = broad_whole(a);
+    let mut digits = start.digits;
+    let mut mantissa = start.mantissa;
+    for i in 0..places {
+        let next = broad_squared(mantissa);
+        digits = 2 * digits + next.digits;
+        mantissa = next.mantissa;
+    }
+    digits
+}
+
+/// The logarithm in units of `2^-places`, by a mantissa of 64 bits, and on words of 64 bits by one of 128.
+fn units_of(bits: u32, a: u64, places: u32) -> u128
+    requires bits { bits ≤ 64 }
+    requires some { 0 < a }
+    requires places { places ≤ bits }
+    ensures { IsFound (log2_room bits) a places result }
+{
+    if bits <= 32 {
+        u128::from(narrow_log2(a, places))
+    } else {
+        broad_log2(a, places)
+    }
+}
+
+/// The number `places`, in units of `2^-places`.
+pub(crate) fn in_units(places: u32) -> u128
+    requires { places ≤ 64 }
+    ensures { result ≡ places * 2 ^ places }
+{
+    u128::from(places) << places
+}
+
+/// The outcome of a difference.
+fn outcome_of_difference<T: Word>(units: u128, less: u128) -> Outcome<T>
+    ensures { StandsFor T.value T.SIGNED T.BITS (pos units -ℤ pos less) result }
+{
+    if units < less {
+        outcome_of(true, less - units)
+    } else {
+        outcome_of(false, units - less)
+    }
+}
+
+/// The logarithm of `a 2^-frac` to the base 2, in units of `2^-frac`, rounded down up to `2^-k` of a unit for each
+/// k with `frac + k <= 62` on words of up to 32 bits, and with `frac + k <= 126` on words of 64 bits. That of a
+/// power of two is exact. Precondition: `a` is above 0.
+pub fn log2_of<T: Word>(a: T, frac: u32) -> Outcome<T>
+    requires frac { frac ≤ T.BITS }
+    requires sign { pos 0 <ℤ T.value a }
+    ensures { (r : ℤ) × IsLog2Of (log2_room T.BITS) (T.value a) frac r
+        × StandsFor T.value T.SIGNED T.BITS r result }
+{
+    outcome_of_difference(units_of(T::BITS, a.magnitude(), frac), in_units(frac))
+}

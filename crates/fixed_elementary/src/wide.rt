@@ -1,0 +1,58 @@
+//! Products of 256 bits.
+
+ghost use Rattle.std.specs.Prelude.{◌≡◌, ◌≤◌, ◌<◌, ◌+◌, ◌*◌, ◌^◌};
+
+/// A number of 256 bits, by its higher and its lower half.
+#[derive(Clone, Copy)]
+pub(crate) struct Double {
+    pub high: u128,
+    pub low: u128,
+}
+
+/// A number of 128 bits, by its halves.
+#[derive(Clone, Copy)]
+struct Halves {
+    high: u128,
+    low: u128,
+}
+
+/// The halves of a number.
+#[inline]
+fn split(number: u128) -> Halves
+    ensures value { result.high * 2 ^ 64 + result.low ≡ number }
+    ensures high { result.high < 2 ^ 64 }
+    ensures low { result.low < 2 ^ 64 }
+{
+    Halves {
+        high: number >> 64,
+        low: number % (1 << 64),
+    }
+}
+
+/// The product of two halves, and a half more.
+#[inline]
+fn half_product(a: u128, b: u128, more: u128) -> Halves
+    requires a { a < 2 ^ 64 }
+    requires b { b < 2 ^ 64 }
+    requires more { more < 2 ^ 64 }
+    ensures value { result.high * 2 ^ 64 + result.low ≡ a * b + more }
+    ensures high { result.high < 2 ^ 64 }
+    ensures low { result.low < 2 ^ 64 }
+{
+    split(a * b + more)
+}
+
+/// The product of two numbers of 128 bits.
+#[inline]
+pub(crate) fn product(a: u128, b: u128) -> Double
+    ensures { result.high * 2 ^ 128 + result.low ≡ a * b }
+{
+    let (a, b) = (split(a), split(b));
+    let lowest = half_product(a.low, b.low, 0);
+    let first = half_product(a.low, b.high, lowest.high);
+    let second = half_product(a.high, b.low, first.low);
+    Double {
+        high: a.high * b.high + first.high + second.high,
+        low: second.low * (1 << 64) + lowest.low,
+    }
+}

@@ -1,0 +1,2 @@
+mod Positive
+mod UpTo

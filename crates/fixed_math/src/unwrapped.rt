@@ -1,0 +1,70 @@
+//! The `unwrapped_` calls of elementary functions. They are this project's own.
+
+ghost use Rattle.std.specs.Prelude.{◌≡◌, ◌≤◌, ◌<ℤ◌, ℤ, pos};
+ghost use Rattle.fixed_word.specs.Format.{InRange};
+ghost use Rattle.fixed_elementary.specs.Exponential.{IsExp2Of, exp2_room};
+ghost use Rattle.fixed_elementary.specs.Logarithm.{IsLog2Of, log2_room};
+ghost use Rattle.fixed_elementary.specs.Rows.{exact_hypot, exact_recip_sqrt};
+
+use crate::strict::StrictMath;
+use fixed_num::{Fixed, Held, Number};
+use fixed_word::{RawWord, Word};
+
+/// The `unwrapped_` calls of elementary functions. Operands and results are bits, in units of `2^-F`. The fraction
+/// has to be at most the width.
+pub trait UnwrappedMath: Number {
+    /// The length of the pair of both numbers, rounded down, which has to fit.
+    fn unwrapped_hypot(self, other: Self) -> Self
+        requires { InRange Self.SIGNED Self.BITS
+            (exact_hypot (Self.number self) (Self.number other)) }
+        ensures { Self.number result ≡ exact_hypot (Self.number self) (Self.number other) };
+
+    /// One over the square root, rounded down, which has to fit. Precondition: the number is above 0.
+    fn unwrapped_recip_sqrt(self) -> Self
+        requires fraction { Self.FRACTION ≤ Self.BITS }
+        requires positive { pos 0 <ℤ Self.number self }
+        requires fits { InRange Self.SIGNED Self.BITS
+            (exact_recip_sqrt (Self.number self) Self.FRACTION) }
+        ensures { Self.number result ≡ exact_recip_sqrt (Self.number self) Self.FRACTION };
+
+    /// The logarithm to the base 2, rounded down, which has to fit. Precondition: the number is above 0.
+    ///
+    /// Where the logarithm lies less than `2^-k` units above a whole number of units, the result may be one unit less
+    /// than that number; F + k is 62 on words of up to 32 bits, and 126 on words of 64 bits. The logarithm of a power
+    /// of two is exact.
+    fn unwrapped_log2(self) -> Self
+        requires fraction { Self.FRACTION ≤ Self.BITS }
+        requires positive { pos 0 <ℤ Self.number self }
+        requires fits { (r : ℤ) → IsLog2Of (log2_room Self.BITS) (Self.number self) Self.FRACTION r
+            → InRange Self.SIGNED Self.BITS r }
+        ensures { IsLog2Of (log2_room Self.BITS) (Self.number self) Self.FRACTION (Self.number result) };
+
+    /// 2 to the power of the number, rounded down, which has to fit.
+    ///
+    /// Where the power lies less than a factor of `2^(2^-k)` above a whole number of units, the result may be one unit
+    /// less than that number; k is 54 on words of up to 32 bits, and 117 on words of 64 bits. 2 to the power of a whole
+    /// number is exact.
+    fn unwrapped_exp2(self) -> Self
+        requires fraction { Self.FRACTION ≤ Self.BITS }
+        requires fits { (r : ℤ) → IsExp2Of (exp2_room Self.BITS) (Self.number self) Self.FRACTION r
+            → InRange Self.SIGNED Self.BITS r }
+        ensures { IsExp2Of (exp2_room Self.BITS) (Self.number self) Self.FRACTION (Self.number result) };
+}
+
+impl<T: Word, const F: u32> UnwrappedMath for Fixed<T, F> {
+    fn unwrapped_hypot(self, other: Self) -> Self {
+        self.strict_hypot(other)
+    }
+
+    fn unwrapped_recip_sqrt(self) -> Self {
+        self.strict_recip_sqrt()
+    }
+
+    fn unwrapped_log2(self) -> Self {
+        self.strict_log2()
+    }
+
+    fn unwrapped_exp2(self) -> Self {
+        self.strict_exp2()
+    }
+}

@@ -1,0 +1,257 @@
+//! Elementary functions beside their definitions, by natural numbers of any size.
+
+use std::cmp::Ordering;
+use zugyelmas::elementary::{hypot_of, log2_of, recip_sqrt_of};
+use zugyelmas::prelude::*;
+use zugyelmas::word::{Outcome, Side};
+
+/// A natural number, by its digits to the base 2^32, the lowest first, with no 0 at the end.
+#[derive(Clone, PartialEq, Eq)]
+struct Natural(Vec<u32>);
+
+impl Natural {
+    fn of(number: u128) -> Natural {
+        let digits = (0..4).map(|place| (number >> (32 * place)) as u32);
+        Natural(digits.collect()).trimmed()
+    }
+
+    fn trimmed(mut self) -> Natural {
+        while self.0.last() == Some(&0) {
+            self.0.pop();
+        }
+        self
+    }
+
+    fn power_of_two(exponent: usize) -> Natural {
+        let mut digits = vec![0; exponent / 32];
+        digits.push(1 << (exponent % 32));
+        Natural(digits)
+    }
+
+    fn times(&self, other: &Natural) -> Natural {
+        let mut digits = vec![0; self.0.len() + other.0.len()];
+        for (place, a) in self.0.iter().enumerate() {
+            let mut carry = 0;
+            for (more, b) in other.0.iter().enumerate() {
+                let sum = u64::from(digits[place + more]) + u64::from(*a) * u64::from(*b) + carry;
+                digits[place + more] = sum as u32;
+                carry = sum >> 32;
+            }
+            digits[place + other.0.len()] = carry as u32;
+        }
+        Natural(digits).trimmed()
+    }
+
+    fn plus(&self, other: &Natural) -> Natural {
+        let mut carry = 0;
+        let places = self.0.len().max(other.0.len()) + 1;
+        let digit = |digits: &[u32], place: usize| u64::from(*digits.get(place).unwrap_or(&0));
+        let digits = (0..places).map(|place| {
+            let sum = digit(&self.0, place) + digit(&other.0, place) + carry;
+            carry = sum >> 32;
+            sum as u32
+        });
+        Natural(digits.collect()).trimmed()
+    }
+
+    fn squared(&self) -> Natural {
+        self.times(self)
+    }
+
+    /// How many bits it has.
+    fn bits(&self) -> usize {
+        let last = self
+            .0
+            .last()
+            .map_or(0, |digit| digit.leading_zeros() as usize);
+        32 * self.0.len() - last
+    }
+
+    /// The highest bits, as many as are asked for: a multiple of 32, and no more than it has.
+    fn highest(&self, bits: usize) -> Natural {
+        let moved = self.times(&Natural::power_of_two(32 * self.0.len() - self.bits()));
+        Natural(moved.0[moved.0.len() - bits / 32..].to_vec())
+    }
+}
+
+impl PartialOrd for Natural {
+    fn partial_cmp(&self, other: &Natural) -> Option<Ordering> {
+        Some(self.cmp(other))
+    }
+}
+
+impl Ord for Natural {
+    fn cmp(&self, other: &Natural) -> Ordering {
+        let by_length = self.0.len().cmp(&other.0.len());
+        by_length.then_with(|| self.0.iter().rev().cmp(other.0.iter().rev()))
+    }
+}
+
+/// The greatest number from `low` on and below `end` of which the test holds, which holds of `low`, and of no number
+/// above one of which it does not.
+fn greatest(low: u128, end: u128, holds: impl Fn(&Natural) -> bool) -> u128 {
+    let (mut low, mut high) = (low, end);
+    while high - low > 1 {
+        let middle = low + (high - low) / 2;
+        if holds(&Natural::of(middle)) {
+            low = middle;
+        } else {
+            high = middle;
+        }
+    }
+    low
+}
+
+/// The outcome that stands for a number, by its sign and magnitude.
+fn standing<T: Word>(below_zero: bool, magnitude: u128) -> Outcome<T> {
+    let end = if below_zero { T::MIN } else { T::MAX };
+    let side = match (magnitude <= u128::from(end.magnitude()), below_zero) {
+        (true, _) => Side::Fits,
+        (false, true) => Side::Below,
+        (false, false) => Side::Above,
+    };
+    let wrapped = T::residue(below_zero, magnitude);
+    Outcome { wrapped, side }
+}
+
+fn length(a: u64, b: u64) -> u128 {
+    let square = |number: u64| Natural::of(number.into()).squared();
+    let sum = square(a).plus(&square(b));
+    let (a, b) = (u128::from(a), u128::from(b));
+    greatest(a.max(b), a + b + 1, |root| root.squared() <= sum)
+}
+
+fn recip_root(a: u64, frac: u32) -> u128 {
+    let power = Natural::power_of_two(3 * frac as usize);
+    let end = 1 << (3 * frac / 2 + 2);
+    greatest(0, end, |root| {
+        root.squared().times(&Natural::of(a.into())) <= power
+    })
+}
+
+/// The logarithm of a whole number in units of `2^-places`, rounded down, by a mantissa of 320 bits.
+fn logarithm(a: u64, places: u32) -> u128 {
+    let mut units = u128::from(63 - a.leading_zeros());
+    let mut mantissa = Natural::of(a.into())
+        .times(&Natural::power_of_two(319))
+        .highest(320);
+    for _ in 0..places {
+        let square = mantissa.squared();
+        units = 2 * units + u128::from(square.bits() == 640);
+        mantissa = square.highest(320);
+    }
+    units
+}
+
+/// A word's every bit pattern of 8 bits, or else its ends and numbers of every length by a fixed rule.
+fn samples<T: Word>(many: u64) -> Vec<T> {
+    let word = |bits: u64| T::residue(false, u128::from(bits));
+    if T::BITS == 8 {
+        return (0..256).map(word).collect();
+    }
+    let ends = [T::MIN, T::MAX, T::ZERO, T::ONE, T::residue(true, 1)];
+    let mut state = 1_u64;
+    let drawn = (0..many).map(|turn| {
+        state = state
+            .wrapping_mul(6_364_136_223_846_793_005)
+            .wrapping_add(1_442_695_040_888_963_407);
+        word((state ^ (state >> 29)) >> (turn % 64))
+    });
+    ends.into_iter().chain(drawn).collect()
+}
+
+fn lengths_of<T: Word + std::fmt::Debug>() {
+    let words = samples::<T>(60);
+    for a in &words {
+        for b in &words {
+            let expected = standing(false, length(a.magnitude(), b.magnitude()));
+            assert_eq!(hypot_of(*a, *b), expected, "{a:?} {b:?}");
+        }
+    }
+}
+
+fn recip_roots_of<T: Word + std::fmt::Debug>() {
+    for a in samples::<T>(100).into_iter().filter(|a| *a > T::ZERO) {
+        for frac in 0..=T::BITS {
+            let expected = standing(false, recip_root(a.magnitude(), frac));
+            assert_eq!(recip_sqrt_of(a, frac), expected, "{a:?} {frac}");
+        }
+    }
+}
+
+fn logarithms_of<T: Word + std::fmt::Debug>() {
+    for a in samples::<T>(40).into_iter().filter(|a| *a > T::ZERO) {
+        for frac in 0..=T::BITS {
+            let units = logarithm(a.magnitude(), frac);
+            let less = u128::from(frac) << frac;
+            let expected = standing(units < less, units.abs_diff(less));
+            assert_eq!(log2_of(a, frac), expected, "{a:?} {frac}");
+        }
+    }
+}
+
+#[test]
+fn lengths() {
+    lengths_of::<i8>();
+    lengths_of::<u8>();
+    lengths_of::<i16>();
+    lengths_of::<u16>();
+    lengths_of::<i32>();
+    lengths_of::<u32>();
+    lengths_of::<i64>();
+    lengths_of::<u64>();
+}
+
+#[test]
+fn reciprocal_roots() {
+    recip_roots_of::<i8>();
+    recip_roots_of::<u8>();
+    recip_roots_of::<i16>();
+    recip_roots_of::<u16>();
+    recip_roots_of::<i32>();
+    recip_roots_of::<u32>();
+    recip_roots_of::<i64>();
+    recip_roots_of::<u64>();
+}
+
+#[test]
+fn logarithms() {
+    logarithms_of::<i8>();
+    logarithms_of::<u8>();
+    logarithms_of::<i16>();
+    logarithms_of::<u16>();
+    logarithms_of::<i32>();
+    logarithms_of::<u32>();
+    logarithms_of::<i64>();
+    logarithms_of::<u64>();
+}
+
+/// Beside the definition, `2^s <= a^(2^places) < 2^(s + 1)`: s is one less than the bits of that power.
+#[test]
+fn logarithms_by_powers() {
+    for places in 0..=8 {
+        for a in 1..=u8::MAX {
+            let power = (0..places).fold(Natural::of(a.into()), |power, _| power.squared());
+            assert_eq!(logarithm(a.into(), places), power.bits() as u128 - 1);
+        }
+    }
+}
+
+#[test]
+fn typed_calls() {
+    let length = FixedI32::<16>::from_num(3).checked_hypot(FixedI32::from_num(-4));
+    assert_eq!(length, Some(FixedI32::from_num(5)));
+    let number = FixedU64::<60>::from_bits(3);
+    let exact = recip_root(3, 60);
+    assert_eq!(number.checked_recip_sqrt(), None);
+    assert_eq!(number.saturating_recip_sqrt(), FixedU64::MAX);
+    let wrapped = FixedU64::from_bits(exact as u64);
+    assert_eq!(number.wrapping_recip_sqrt(), wrapped);
+    assert_eq!(number.overflowing_recip_sqrt(), (wrapped, true));
+    let eighth = FixedI32::<16>::from_num(0.125);
+    assert_eq!(eighth.strict_log2(), FixedI32::from_num(-3));
+    for below in [FixedI16::<8>::ZERO, FixedI16::from_num(-1)] {
+        assert_eq!(below.checked_recip_sqrt(), None);
+        assert_eq!(below.checked_log2(), None);
+    }
+}
