@@ -33,8 +33,8 @@ nearest a o =
     by_lt_z (pos 0) a.low
     (λ l. record { number = a.low; inside = low_one a o; is = magnitude_is a.low (magnitude_of a).low (omega (arith, ints, clamps)) (omega (arith, ints, clamps)) })
     (λ l. by_lt_z a.high (pos 0)
-      (λ k. record { number = a.high; inside = high_one a o; is = negative_is a.high (magnitude_of a).low (omega (arith, ints, clamps)) (omega (arith, ints, clamps)) })
-      (λ k. record { number = pos 0; inside = at_one (pos 0) a l k; is = omega (arith, ints, clamps) }))
+    (λ k. record { number = a.high; inside = high_one a o; is = negative_is a.high (magnitude_of a).low (omega (arith, ints, clamps)) (omega (arith, ints, clamps)) })
+    (λ k. record { number = pos 0; inside = at_one (pos 0) a l k; is = omega (arith, ints, clamps) }))
 
 farthest : (a : Ends) → a.low ≤ℤ a.high → HasMagnitude a (magnitude_of a).high
 farthest a o =
