@@ -220,13 +220,13 @@ lead_by true bytes end here e lt clear =
     let passes : (k : ℕ) → k < end → (is_ascii_digit (get_or bytes k 0) || is_point (get_or bytes k 0)) ≡ true = λ k less. elim (cases_lt k at) [
       | inl front ↦ by_digit (get_or bytes k 0) (prefix_len_passes is_ascii_digit bytes k 0 front)
       | inr later ↦ elim (cases_lt at k) [
-          | inl behind ↦
-              let e2 : at + 1 + (k - (at + 1)) ≡ k = omega arith in
-              by_digit (get_or bytes k 0) (ap (λ n. is_ascii_digit (get_or bytes n 0)) (sym e2) ∙ ap is_ascii_digit (sym (get_or-drop (at + 1) bytes (k - (at + 1)) 0)) ∙ prefix_len_passes is_ascii_digit back (k - (at + 1)) 0 (omega arith))
-          | inr same ↦
-              let e3 : k ≡ at = omega arith in
-              by_point (get_or bytes k 0) (ap (λ n. is_point (get_or bytes n 0)) e3 ∙ here)
-        ]
+        | inl behind ↦
+            let e2 : at + 1 + (k - (at + 1)) ≡ k = omega arith in
+            by_digit (get_or bytes k 0) (ap (λ n. is_ascii_digit (get_or bytes n 0)) (sym e2) ∙ ap is_ascii_digit (sym (get_or-drop (at + 1) bytes (k - (at + 1)) 0)) ∙ prefix_len_passes is_ascii_digit back (k - (at + 1)) 0 (omega arith))
+        | inr same ↦
+            let e3 : k ≡ at = omega arith in
+            by_point (get_or bytes k 0) (ap (λ n. is_point (get_or bytes n 0)) e3 ∙ here)
+      ]
     ] in
     prefix_len_is (λ c. is_ascii_digit c || is_point c) bytes end 0 (omega arith) passes
     (λ less. by_neither (get_or bytes end 0) (ap is_ascii_digit seen ∙ prefix_len_stops is_ascii_digit back 0 (omega arith)) clear)
