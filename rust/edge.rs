@@ -3,10 +3,25 @@
 
 use crate::filter::Reply;
 use crate::poly::PolyReply;
+use crate::radix::{Base, InBase};
 use crate::{Constants, Fixed, Word};
 use core::iter::{Product, Sum};
 
 include!(concat!(env!("OUT_DIR"), "/references.rs"));
+
+/// The number in a base, as `InBase` prints it: exactly, or with as many digits behind the point as the precision says.
+macro_rules! in_bases {
+    ($($base:ident)*) => {
+        $(impl<T: Word, const F: u32> core::fmt::$base for Fixed<T, F> {
+            fn fmt(&self, f: &mut core::fmt::Formatter<'_>) -> core::fmt::Result {
+                let number = InBase { number: *self, base: Base::$base };
+                core::fmt::Display::fmt(&number, f)
+            }
+        })*
+    };
+}
+
+in_bases! { Binary Octal LowerHex UpperHex }
 
 /// The sum of the numbers, from 0 on and in their order, by the operator `+`.
 impl<T: Word, const F: u32> Sum for Fixed<T, F> {

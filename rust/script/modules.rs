@@ -15,8 +15,8 @@ use std::path::Path;
 use std::{env, fs};
 
 /// The crates of the library, lowest first, without the `fixed_` in front.
-pub const LIBRARY: [&str; 17] = [
-    "word", "bits", "root", "logs", "kernel", "convert", "text", "decimal", "num", "float", "cast",
+pub const LIBRARY: [&str; 18] = [
+    "word", "bits", "root", "logs", "kernel", "convert", "text", "decimal", "num", "radix", "float", "cast",
     "policy", "strict", "ops", "poly", "filter", "interval",
 ];
 
