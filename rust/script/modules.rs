@@ -16,8 +16,8 @@ use std::{env, fs};
 
 /// The crates of the library, lowest first, without the `fixed_` in front.
 pub const LIBRARY: [&str; 18] = [
-    "word", "bits", "root", "logs", "kernel", "convert", "text", "decimal", "num", "radix", "float", "cast",
-    "policy", "strict", "ops", "poly", "filter", "interval",
+    "word", "bits", "root", "logs", "kernel", "convert", "text", "decimal", "num", "radix", "float",
+    "cast", "policy", "strict", "ops", "poly", "filter", "interval",
 ];
 
 /// The crates of the calculator, lowest first.
