@@ -22,6 +22,7 @@ TOP = Path(__file__).resolve().parent.parent
 Allowed = namedtuple("Allowed", "path form line count reason")
 
 DISPLAY = "crates/fixed_num/src/display.rt"
+IN_BASE = "crates/fixed_radix/src/display.rt"
 CAST = "crates/fixed_cast/src"
 OWN_BOUND = "the bound is a trait of that crate, which the same types meet in both languages"
 SIZED = "each implementation of the trait is `Copy`, and so has a size"
@@ -36,6 +37,9 @@ ALLOWED = [
             "its contract states the text, which goes to its formatter; rust/tests/decimals.rs prints by Rust"),
     Allowed(DISPLAY, "text", "impl<T: Word, const F: u32> fmt::Debug for Fixed<T, F> {", 1,
             "its contract states the text, which is that of `Display`"),
+    Allowed(IN_BASE, "text", "use std::{fmt, str};", 1, "for the trait that it implements, and its own `fmt::Error`"),
+    Allowed(IN_BASE, "text", "impl<T: Word, const F: u32> fmt::Display for InBase<T, F> {", 1,
+            "its contract states the text, which goes to its formatter; rust/tests/radices.rs prints by Rust"),
     Allowed("crates/fixed_decimal/src/layout.rt", "text", "use std::fmt::{self, Alignment, Write};", 1,
             "its contracts state the text, which goes to a formatter"),
     Allowed(f"{CAST}/floats.rt", "impl", "impl<N: Numeric> ToFloat for N {", 1, OWN_BOUND),

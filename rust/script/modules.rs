@@ -15,7 +15,7 @@ use std::path::Path;
 use std::{env, fs};
 
 /// The crates of the library, lowest first, without the `fixed_` in front.
-pub const LIBRARY: [&str; 20] = [
+pub const LIBRARY: [&str; 21] = [
     "word",
     "bits",
     "root",
@@ -26,6 +26,7 @@ pub const LIBRARY: [&str; 20] = [
     "text",
     "decimal",
     "num",
+    "radix",
     "float",
     "cast",
     "policy",

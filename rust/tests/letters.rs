@@ -191,6 +191,32 @@ fn expected(krate: &str, file: &str, out: &mut Vec<Sign>) {
     if text.contains(".cast_") {
         out.extend(signs(&path, CASTS));
     }
+    out.extend(signs(&path, &messages(&text)));
+}
+
+/// What the library has of an error beside its source: each variant's message, as `thiserror` writes it.
+fn messages(text: &str) -> String {
+    let Some((_, of_enum)) = text.split_once(", Error)]\npub enum ") else {
+        return String::new();
+    };
+    let (name, body) = of_enum.split_once(" {\n").expect("a body");
+    let (variants, _) = body.split_once("\n}").expect("its end");
+    let arms: String = variants.split("#[error(").skip(1).map(message).collect();
+    let display = "fn fmt(&self, f: &mut core::fmt::Formatter<'_>) -> core::fmt::Result";
+    format!(
+        "impl core::fmt::Display for {name} {{ {display} {{ match self {{ {arms} }} }} }}
+        impl core::error::Error for {name} {{}}"
+    )
+}
+
+/// The arm of a variant, from its message on.
+fn message(variant: &str) -> String {
+    let (message, rest) = variant.split_once(")]\n").expect("a message");
+    let name = rest.trim().split(['(', ',']).next().expect("a name");
+    match message.contains("{0}") {
+        true => format!("Self::{name} {{ 0: field, .. }} => write!(f, {message}, field),"),
+        false => format!("Self::{name} {{ .. }} => write!(f, {message}),"),
+    }
 }
 
 /// The module that comes first in a crate, if a file begins one that has such a module.

@@ -29,6 +29,7 @@ pub use fixed_policy::{
     OverflowingUnsigned, Wrapping, WrappingMulAdd, WrappingProducts, WrappingRounded,
     WrappingSigned, WrappingUnsigned,
 };
+pub use fixed_radix::{Base, InBase};
 pub use fixed_strict::{
     Saturating, SaturatingMulAdd, SaturatingProducts, SaturatingRounded, SaturatingSigned,
     SaturatingUnsigned, Strict, StrictMulAdd, StrictProducts, StrictRounded, StrictSigned,

@@ -45,47 +45,47 @@ zeros_text n = ap (λ (s : List ℕ). repeat n s) (encode_ascii 48 (omega arith)
 abbrev layout : List ℕ → List ℕ → List ℕ → List ℕ → List ℕ → List ℕ → List ℕ → List ℕ
 layout a s p z d y b = (a ++ s ++ p ++ z) ++ ((d ++ y) ++ b)
 
-regroup : (a s z d y b : List ℕ) → ((((a ++ s) ++ z) ++ d) ++ y) ++ b ≡ layout a s [] z d y b
-regroup a s z d y b =
-    let t = (a ++ s) ++ z in
+regroup : (a s p z d y b : List ℕ) → (((((a ++ s) ++ p) ++ z) ++ d) ++ y) ++ b ≡ layout a s p z d y b
+regroup a s p z d y b =
+    let t = ((a ++ s) ++ p) ++ z in
     ap (λ (l : List ℕ). l ++ b) (append_assoc t d y) ∙ append_assoc t (d ++ y) b
-    ∙ ap (λ (l : List ℕ). (l ++ z) ++ ((d ++ y) ++ b)) (sym (append-nil (a ++ s)))
 
 after_both : (z : Bool) (p q : ℕ) → p - (if z then 0 else q) - (if z then p else 0) ≡ (if z then 0 else p - q)
 after_both true p q = omega arith
 after_both false p q = omega arith
 
-same_either : {A : Type 0} (b : Bool) (x : A) → (if b then x else x) ≡ x
-same_either true x = refl
-same_either false x = refl
-
-none_counted : char_count [] ≡ 0
+pub none_counted : char_count [] ≡ 0
 unfolding char_count
 none_counted = refl
 
-width_left : (w d y n s p : ℕ) → n ≡ d + y → p ≡ 0 → w - d - y - s ≡ w - n - s - p
-width_left w d y n s p e z = omega arith
+-- as many letters as bytes
+shown_count : (t : Bool) (prefix : List ℕ) → char_count prefix ≡ length prefix → char_count (if t then prefix else []) ≡ length {A = ℕ} (if t then prefix else [])
+shown_count true prefix e = e
+shown_count false prefix e = none_counted
 
-pub laid_out : {W : Type 0} (took : W → List ℕ → W → Type 0) (f f1 f2 f3 f4 f5 g : Formatter W) (below : Bool) (sign digits : List ℕ) (zeros before inner after padding : ℕ)
+width_left : (w d y n s p q : ℕ) → n ≡ d + y → p ≡ q → w - d - y - s - q ≡ w - n - s - p
+width_left w d y n s p q e z = omega arith
+
+pub laid_out : {W : Type 0} (took : W → List ℕ → W → Type 0) (f f1 f2 fp f3 f4 f5 g : Formatter W) (below : Bool) (sign prefix base digits : List ℕ) (zeros before inner after padding : ℕ)
     → sign ≡ sign_text_with (formatter_spec f).plus below
-    → padding ≡ (formatter_spec f).width - length digits - zeros - length sign
+    → char_count prefix ≡ length prefix → base ≡ shown_prefix (formatter_spec f) prefix
+    → padding ≡ (formatter_spec f).width - length digits - zeros - length sign - length base
     → before ≡ (if (formatter_spec f).zero then 0 else padding_before (formatter_spec f) padding 3)
     → inner ≡ (if (formatter_spec f).zero then padding else 0)
     → after ≡ padding - before - inner
-    → HasWrittenStyled took f (repeat before (encode_utf8 (formatter_spec f).fill)) f1 → HasWrittenStyled took f1 sign f2
-    → HasWrittenStyled took f2 (repeat inner (encode_utf8 48)) f3 → HasWrittenStyled took f3 digits f4
+    → HasWrittenStyled took f (repeat before (encode_utf8 (formatter_spec f).fill)) f1 → HasWrittenStyled took f1 sign f2 → HasWrittenStyled took f2 base fp
+    → HasWrittenStyled took fp (repeat inner (encode_utf8 48)) f3 → HasWrittenStyled took f3 digits f4
     → HasWrittenStyled took f4 (repeat zeros (encode_utf8 48)) f5 → HasWrittenStyled took f5 (repeat after (encode_utf8 (formatter_spec f).fill)) g
-    → HasWrittenStyled took f (padded_integral (formatter_spec f) below [] (digits ++ replicate zeros 48)) g
+    → HasWrittenStyled took f (padded_integral (formatter_spec f) below prefix (digits ++ replicate zeros 48)) g
 unfolding padded_integral
-laid_out took f f1 f2 f3 f4 f5 g below sign digits zeros before inner after padding esign epadding ebefore einner eafter w1 w2 w3 w4 w5 w6 =
+laid_out took f f1 f2 fp f3 f4 f5 g below sign prefix base digits zeros before inner after padding esign ascii ebase epadding ebefore einner eafter w1 w2 wp w3 w4 w5 w6 =
     let s = formatter_spec f in
     let fill = encode_utf8 s.fill in
     let numeral = digits ++ replicate zeros 48 in
     let long : length numeral ≡ length digits + zeros = length-append digits (replicate zeros 48) ∙ ap (λ n. length digits + n) (length-replicate zeros 48) in
-    let prefix : shown_prefix s [] ≡ [] = same_either s.alternate [] in
-    let counted : char_count (shown_prefix s []) ≡ 0 = ap char_count prefix ∙ none_counted in
-    let p : padding ≡ number_padding s below [] (length numeral) =
-    epadding ∙ ap (λ (l : List ℕ). s.width - length digits - zeros - length l) esign ∙ width_left s.width (length digits) zeros (length numeral) (length (sign_text_with s.plus below)) (char_count (shown_prefix s [])) long counted in
+    let counted : char_count (shown_prefix s prefix) ≡ length base = shown_count s.alternate prefix ascii ∙ ap length (sym ebase) in
+    let p : padding ≡ number_padding s below prefix (length numeral) =
+    epadding ∙ ap (λ (l : List ℕ). s.width - length digits - zeros - length l - length base) esign ∙ width_left s.width (length digits) zeros (length numeral) (length (sign_text_with s.plus below)) (char_count (shown_prefix s prefix)) (length base) long counted in
     let front = ebefore ∙ ap (λ n. if s.zero then 0 else padding_before s n 3) p in
     let mid = einner ∙ ap (λ n. if s.zero then n else 0) p in
     let back = eafter ∙ ap (λ n. padding - n - inner) ebefore ∙ ap (λ n. padding - (if s.zero then 0 else padding_before s padding 3) - n) einner ∙ after_both s.zero padding (padding_before s padding 3) ∙ ap (λ n. if s.zero then 0 else n - padding_before s n 3) p in
@@ -93,10 +93,10 @@ laid_out took f f1 f2 f3 f4 f5 g below sign digits zeros before inner after padd
     let e3 = zeros_text inner ∙ ap (λ n. replicate n 48) mid in
     let e5 = zeros_text zeros in
     let e6 = ap (λ n. repeat n fill) back in
-    let whole = then_written took f _ f5 _ g (then_written took f _ f4 _ f5 (then_written took f _ f3 _ f4 (then_written took f _ f2 _ f3 (then_written took f _ f1 _ f2 w1 w2) w3) w4) w5) w6 in
+    let whole = then_written took f _ f5 _ g (then_written took f _ f4 _ f5 (then_written took f _ f3 _ f4 (then_written took f _ fp _ f3 (then_written took f _ f2 _ fp (then_written took f _ f1 _ f2 w1 w2) wp) w3) w4) w5) w6 in
     subst (λ (l : List ℕ). HasWrittenStyled took f l g)
-    (regroup (repeat before fill) sign (repeat inner (encode_utf8 48)) digits (repeat zeros (encode_utf8 48)) (repeat after fill)
-    ∙ (λ i. layout (e1 i) (esign i) (sym prefix i) (e3 i) digits (e5 i) (e6 i)))
+    (regroup (repeat before fill) sign base (repeat inner (encode_utf8 48)) digits (repeat zeros (encode_utf8 48)) (repeat after fill)
+    ∙ (λ i. layout (e1 i) (esign i) (ebase i) (e3 i) digits (e5 i) (e6 i)))
     whole
 
 pub chosen_first : (r z : Bool) (x y : ℕ) → r ≡ z → r ≡ true → x ≡ (if z then x else y)

@@ -9,8 +9,8 @@ use Rattle.fixed_kernel.specs.inside.Alike.{Alike}
 use Rattle.fixed_decimal.specs.declared.error.DecimalError.{DecimalError}
 use Rattle.fixed_decimal.specs.declared.error.DecimalError.TheVariants.{Overflow}
 use Rattle.fixed_decimal.specs.Decimal.{decimal_row}
-use Rattle.fixed_decimal.specs.Rows.{checked_decimal, literal, within}
-use Rattle.fixed_decimal.specs.inside.Reading.{IsReadAs}
+use Rattle.fixed_decimal.specs.Rows.{checked_decimal, literal}
+use Rattle.fixed_decimal.specs.inside.Reading.{IsReadAs, within}
 
 too_great : (s : Bool) (n : ℕ) (x : ℤ) → IsWidth n → pos (2 ^ 64) ≤ℤ x → fits s n x ≡ false
 too_great true n x (inl e) le = rw e (grind (arith, ints))

@@ -33,10 +33,6 @@ wrapping_decimal signed n row = result_map (wrap signed n) row
 abbrev pub overflowing_decimal : Bool → ℕ → Result ℤ DecimalError → Result (ℤ × Bool) DecimalError
 overflowing_decimal signed n row = result_map (λ x. (wrap signed n x, not (fits signed n x))) row
 
--- a number, if it fits
-abbrev pub within : Bool → ℕ → ℤ → Option ℤ
-within signed n x = if fits signed n x then Some x else None
-
 -- the number of a constant's text to the nearest unit, if the fraction is at most the width and it fits
 abbrev pub literal : Bool → ℕ → ℕ → List ℕ → Option ℤ
 literal signed n f text = if nat_le f n then result_ok (checked_decimal signed n (decimal_row text f Even)) else None

@@ -1,29 +1,33 @@
 //! A number between its fill, as long as its width asks.
 
-ghost use Rattle.std.specs.Prelude.{◌≡◌, ◌≤◌, ◌++◌, [], replicate};
+ghost use Rattle.std.specs.Prelude.{◌≡◌, ◌≤◌, ◌++◌, [], length, replicate, if◌then◌else◌};
 ghost use Rattle.std.specs.List.{repeat};
 ghost use Rattle.std.specs.Char.{encode_utf8};
-ghost use Rattle.std.specs.Fmt.{WritesStyledOnOk, formatter_spec, padded_integral, padding_before, sign_text_with};
+ghost use Rattle.std.specs.Fmt.{WritesStyledOnOk, char_count, formatter_spec, padded_integral, padding_before, sign_text_with};
 
 use std::fmt::{self, Alignment, Write};
 
-/// Writes a number as `pad_integral` does, with so many zeros at the end of its digits.
+/// Writes a number as `pad_integral` does, with so many zeros at the end of its digits. The prefix is written if the
+/// formatter is alternate. Precondition: each byte of the prefix is a letter.
 pub fn pad_number<W: fmt::Write>(
     f: &mut fmt::Formatter<W>,
     below_zero: bool,
+    prefix: &str,
     digits: &str,
     zeros: usize,
 ) -> fmt::Result
+    requires { char_count prefix.now ≡ length prefix.now }
     ensures { WritesStyledOnOk W.write_str_gives f.old result
-        (padded_integral (formatter_spec f.old) below_zero [] (digits.now ++ replicate zeros 48)) f.new }
+        (padded_integral (formatter_spec f.old) below_zero prefix.now (digits.now ++ replicate zeros 48)) f.new }
 {
     if zeros == 0 {
-        return f.pad_integral(!below_zero, "", digits);
+        return f.pad_integral(!below_zero, prefix, digits);
     }
     let sign = sign_shown(f.sign_plus(), below_zero);
+    let base = prefix_shown(f.alternate(), prefix);
     let width = f.width().unwrap_or(0);
     let room = width.saturating_sub(digits.len()).saturating_sub(zeros);
-    let padding = room.saturating_sub(sign.len());
+    let padding = room.saturating_sub(sign.len()).saturating_sub(base.len());
     let is_zero_padded = f.sign_aware_zero_pad();
     let inner = if is_zero_padded { padding } else { 0 };
     let before = if is_zero_padded {
@@ -34,6 +38,7 @@ pub fn pad_number<W: fmt::Write>(
     let fill = f.fill();
     write_repeated(f, fill, before)?;
     f.write_str(sign)?;
+    f.write_str(base)?;
     write_repeated(f, '0', inner)?;
     f.write_str(digits)?;
     write_repeated(f, '0', zeros)?;
@@ -52,6 +57,14 @@ fn sign_shown(plus: bool, below_zero: bool) -> &'static str
     } else {
         ""
     }
+}
+
+/// The prefix that a number shows.
+#[inline]
+fn prefix_shown(alternate: bool, prefix: &str) -> &str
+    ensures { result.now ≡ (if alternate then prefix.now else []) }
+{
+    if alternate { prefix } else { "" }
 }
 
 /// How much of the padding stands before a number.

@@ -3,7 +3,8 @@
 ghost use Rattle.std.specs.Prelude.{◌≡◌, pos, IsSome, Some, false, true};
 ghost use Rattle.std.specs.Option.{option_map};
 ghost use Rattle.fixed_word.specs.Format.{InRange, IsWidth, with_sign};
-ghost use Rattle.fixed_decimal.specs.Rows.{literal, within};
+ghost use Rattle.fixed_decimal.specs.Rows.{literal};
+ghost use Rattle.fixed_decimal.specs.inside.Reading.{within};
 
 use crate::reading::magnitude_of;
 use fixed_word::Rounding;

@@ -31,7 +31,7 @@ impl<T: Word, const F: u32> fmt::Display for Fixed<T, F> {
         let from = start + usize::from(below_zero);
         match str::from_utf8(&buffer[from..]) {
             // Digits past the 64th behind the point are zeros.
-            Ok(digits) => pad_number(f, below_zero, digits, shown - places),
+            Ok(digits) => pad_number(f, below_zero, "", digits, shown - places),
             Err(_) => Err(fmt::Error),
         }
     }

@@ -1,8 +1,8 @@
 -- What the reader's steps answer.
-use Rattle.std.specs.Prelude.{◌≡◌, ◌<◌, ◌≤◌, ◌+◌, ◌%◌, ◌^◌, ◌==◌, ℕ, ℤ, Bool, true, nat_lt, List, drop, slice_index, Some, None, Result, Ok, Err, if◌then◌else◌}
+use Rattle.std.specs.Prelude.{◌≡◌, ◌<◌, ◌≤◌, ◌+◌, ◌%◌, ◌^◌, ◌==◌, ℕ, ℤ, Bool, true, nat_lt, List, drop, slice_index, Option, Some, None, Result, Ok, Err, if◌then◌else◌}
 use Rattle.std.specs.Char.{is_ascii_digit}
 use Rattle.std.specs.List.{list_all, position_or_len, prefix_len}
-use Rattle.fixed_word.specs.Format.{with_sign}
+use Rattle.fixed_word.specs.Format.{fits, with_sign}
 use Rattle.fixed_kernel.specs.inside.Alike.{Alike}
 use Rattle.fixed_decimal.specs.declared.error.DecimalError.{DecimalError}
 use Rattle.std.specs.Str.Parse.{digits_value}
@@ -34,6 +34,10 @@ pub record IsShort (bytes : List ℕ) (value places : ℕ) : Type 0 where
   pub behind : places ≡ places_in bytes
   pub small : value < 2 ^ 60
   pub few : places ≤ 18
+
+-- a number, if it fits
+abbrev pub within : Bool → ℕ → ℤ → Option ℤ
+within signed n x = if fits signed n x then Some x else None
 
 -- the row's number, or another that each word of at most 64 bits keeps alike; or the row's error
 abbrev pub IsReadAs : Result ℤ DecimalError → Result (Bool × ℕ) DecimalError → Type 0

@@ -2,6 +2,7 @@ use Rattle.std.proofs.Common.{◌+◌, ◌-◌, ◌++◌, List, [], ℕ, Option,
 use Rattle.std.specs.Fmt.{DisplaysOnOk, DisplaysStyledOnOk, HasWritten, WritesStyledOnOk, formatter_spec, padded_integral, spec_precision}
 use Rattle.fixed_word.specs.declared.rounding.Rounding.TheVariants.{Even}
 use Rattle.fixed_kernel.proofs.Alikes.{width_at_most}
+use Rattle.fixed_decimal.proofs.Laid.{none_counted}
 use Rattle.fixed_decimal.specs.Text.{after_sign, magnitude_text, to_places}
 use Rattle.fixed_num.specs.Shown.{places_of}
 use Rattle.fixed_num.proofs.Prints.{all_shown, below_is, no_precision, plain_is, plain_written, styled_is}
@@ -39,3 +40,6 @@ returns-in-Ok-clause-writes g c =
     (ap (after_sign a) (all ∙ ap (λ k. magnitude_text (nat_abs (to_places a f k Even)) k) (c.places_for-shown.ensures ∙ no_precision c.precision.result a f (c.precision.ensures.plain plain))))
     (plain_written g.W.Write.write_str_gives c.args.f.now c.pad_number.new.f c.pad_number.result a digits
     (subst (λ (b : Bool). WritesStyledOnOk g.W.Write.write_str_gives c.args.f.now c.pad_number.result (padded_integral (formatter_spec c.args.f.now) b [] digits) c.pad_number.new.f) below c.pad_number.ensures) plain done))
+
+pub pad_number-requires : goal.pad_number-requires
+pad_number-requires g c = none_counted

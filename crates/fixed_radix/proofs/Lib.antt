@@ -1,0 +1,4 @@
+pub mod Powers
+pub mod Shown
+pub mod Units
+pub mod Prints

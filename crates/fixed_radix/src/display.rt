@@ -1,0 +1,56 @@
+//! A number in a base, as text.
+
+ghost use Rattle.std.specs.Prelude.{◌≡◌, ◌≤◌, nat_abs};
+ghost use Rattle.std.specs.Fmt.{padded_integral, spec_precision};
+ghost use Rattle.fixed_radix.specs.Bases.{plain_in, shown_places, styled_in};
+
+use crate::bases::{Base, digit_bits, is_upper, prefix_of};
+use crate::digits::put_number;
+use crate::places::{exact_places, in_units};
+use fixed_decimal::pad_number;
+use fixed_num::Fixed;
+use fixed_word::{RawWord, Word};
+use std::{fmt, str};
+
+/// A number that is printed in a base: exactly, or with as many digits behind the point as the precision says, to the
+/// nearest and to the even one of two. Sign, prefix, width and fill are those of integers. A fraction past the width is
+/// an error.
+#[derive(Clone, Copy)]
+pub struct InBase<T: RawWord, const F: u32> {
+    /// The number.
+    pub number: Fixed<T, F>,
+    /// The base.
+    pub base: Base,
+}
+
+impl<T: Word, const F: u32> fmt::Display for InBase<T, F> {
+    ghost output = { λ x. plain_in x.base (T.value x.number.bits) F T.BITS };
+
+    ghost styled_output = { λ x s. styled_in (padded_integral s) (spec_precision s) x.base (T.value x.number.bits) F T.BITS };
+
+    fn fmt<W: fmt::Write>(&self, f: &mut fmt::Formatter<W>) -> fmt::Result {
+        if F > T::BITS {
+            return Err(fmt::Error);
+        }
+        let number = self.number.bits;
+        let bits = digit_bits(self.base);
+        let size = number.magnitude();
+        let exact = exact_places(size, F, bits) as usize;
+        let shown = f.precision().unwrap_or(exact);
+        let places = shown.min(exact.max(1));
+        let units = in_units(size, F, bits * places as u32);
+        let mut buffer = [0; 130];
+        let start = put_number(units, bits, is_upper(self.base), places, &mut buffer);
+        match str::from_utf8(&buffer[start..]) {
+            // Digits past the exact ones are zeros.
+            Ok(digits) => pad_number(
+                f,
+                number.is_below_zero(),
+                prefix_of(self.base),
+                digits,
+                shown - places,
+            ),
+            Err(_) => Err(fmt::Error),
+        }
+    }
+}

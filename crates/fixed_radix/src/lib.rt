@@ -1,0 +1,10 @@
+//! Numbers in the bases 2, 8 and 16, with a point: `InBase` prints one under every option of a formatter.
+#![tactic(auto)]
+
+mod bases;
+mod digits;
+mod display;
+mod places;
+
+pub use bases::Base;
+pub use display::InBase;
