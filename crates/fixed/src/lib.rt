@@ -16,6 +16,9 @@ pub use fixed_bits::BitWord;
 pub use fixed_cast::{Castable, FromNum, Numeric, Order, Source, ToFloat, ToNum, ToWhole};
 pub use fixed_decimal::DecimalError;
 pub use fixed_float::Binary;
+pub use fixed_math::{
+    CheckedMath, OverflowingMath, SaturatingMath, StrictMath, UnwrappedMath, WrappingMath,
+};
 pub use fixed_num::{
     Constants, Fixed, FixedI8, FixedI16, FixedI32, FixedI64, FixedU8, FixedU16, FixedU32, FixedU64,
     FromDecimal, Held, Number,

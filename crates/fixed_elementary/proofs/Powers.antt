@@ -1,10 +1,9 @@
 -- Powers of 2 with a fractional exponent: their roots, squares and products, rounded down.
-use Rattle.std.proofs.Common.{◌≡◌, ◌+◌, ◌-◌, ◌*◌, ◌/◌, ◌%◌, ◌^◌, ◌<◌, ◌≤◌, ℕ, zero, suc, refl, ap, sym, subst, ◌∙◌, inl, inr, arith}
-use Rattle.std.proofs.Math.Nat.{le_of_mul-le-mul_right, mul-le-mul_right, mul-le-mul_left, pow-le-pow_left, pow-le-pow_right, pow-lt-pow_left, one-le-pow, pow-suc, pow-zero, div-div-eq-div-mul}
+use Rattle.std.proofs.Common.{◌≡◌, ◌+◌, ◌-◌, ◌*◌, ◌/◌, ◌%◌, ◌^◌, ◌<◌, ◌≤◌, ℕ, suc, refl, ap, sym, subst, ◌∙◌, inl, inr, arith}
+use Rattle.std.proofs.Math.Nat.{le_of_mul-le-mul_right, mul-le-mul_right, mul-le-mul_left, pow-le-pow_left, pow-le-pow_right, one-le-pow, pow-suc, pow-zero, div-div-eq-div-mul}
 use Rattle.std.proofs.lemmas.Nat.{mul-le, mul-pow, pow-add, pow_pos, div-add-mod', mod_below, div_below}
 use Rattle.std.proofs.lemmas.Bool.{cases_lt}
 use Rattle.fixed_elementary.specs.inside.Power.{IsFloored, IsPart, IsPower, IsRootOfTwo}
-use Rattle.fixed_elementary.proofs.Reading.{pow_times}
 
 twice_suc : (b : ℕ) → 2 ^ suc b ≡ 2 ^ b + 2 ^ b
 twice_suc b = omega (arith, pow-suc 2 b)
@@ -63,11 +62,13 @@ next_root w b p c o h low high =
     let e = twice_suc b in
     let i : 2 * 2 ^ suc b ≡ 2 * 2 ^ b + (2 ^ b + 2 ^ b) = omega arith in
     record {
-        least = least;
-        most = most;
-        power = rw (i, e) (record {
-            below = half_below w (2 ^ b) 1 p c low h.power.below;
-            above = half_above w (2 ^ b) 1 p c (2 * 2 ^ b) least (omega arith) h.power.above }) }
+      least = least;
+      most = most;
+      power = rw (i, e) (record {
+        below = half_below w (2 ^ b) 1 p c low h.power.below;
+        above = half_above w (2 ^ b) 1 p c (2 * 2 ^ b) least (omega arith) h.power.above;
+      });
+    }
 
 pub first_root : (w c : ℕ) → c ≡ 2 * w → IsRootOfTwo w 0 c
 first_root w c e =
@@ -79,9 +80,10 @@ first_root w c e =
     let s : w ^ 2 ≤ (w + 1) ^ 2 = pow-le-pow_left near 2 in
     let t = mul-le-mul_left (2 * w) s in
     rw e (record {
-        least = omega arith;
-        most = omega arith;
-        power = record { below = rw (x, y, a, b) (omega arith); above = rw (x, y, a, b) (omega arith) } })
+      least = omega arith;
+      most = omega arith;
+      power = record { below = rw (x, y, a, b) (omega arith); above = rw (x, y, a, b) (omega arith) };
+    })
 
 -- ---- squares and products
 
@@ -135,8 +137,9 @@ product_above w q y z m n p i j l f g h =
 
 product_is : (w q y z m n p i j : ℕ) → 0 < w → IsFloored w m n p → IsPower w q y i m → IsPower w q z j n → IsPower w q (y + z) (i + j + q) p
 product_is w q y z m n p i j o f a b = record {
-    below = product_below w q y z m n p o f.below a.below b.below;
-    above = product_above w q y z m n p i j f.least f.above a.above b.above }
+  below = product_below w q y z m n p o f.below a.below b.below;
+  above = product_above w q y z m n p i j f.least f.above a.above b.above;
+}
 
 -- a power of less than one is less than two
 less_than_two : (w q z i p : ℕ) → 0 < w → z < q → IsPower w q z i p → p < 2 * w
@@ -170,11 +173,12 @@ part_none w b z p d none h =
     let g = twice_suc b in
     let l : 3 * b * 2 ^ suc b ≤ 3 * suc b * 2 ^ suc b = mul-le-mul_right (2 ^ suc b) (omega arith) in
     rw (e, f) (record {
-        digits = omega (arith, h.digits);
-        least = h.least;
-        most = h.most;
-        power = weaker w (2 ^ suc b) (2 * z) (3 * b * 2 ^ suc b) (3 * suc b * 2 ^ suc b) p l (doubled_part w b z p h);
-        unit = λ k. h.unit (omega arith) })
+      digits = omega (arith, h.digits);
+      least = h.least;
+      most = h.most;
+      power = weaker w (2 ^ suc b) (2 * z) (3 * b * 2 ^ suc b) (3 * suc b * 2 ^ suc b) p l (doubled_part w b z p h);
+      unit = λ k. h.unit (omega arith);
+    })
 
 pub part_one : (w b z p c n d : ℕ) → 0 < w → d ≡ 1 → IsPart w b z p → IsRootOfTwo w (b + 1) c → IsFloored w p c n → IsPart w (b + 1) (2 * z + d) n
 part_one w b z p c n d o one h r f =
@@ -187,11 +191,12 @@ part_one w b z p c n d o one h r f =
     let power = subst (λ k. IsPower w (2 ^ suc b) (2 * z + 1) k n) i all in
     let digits : 2 * z + 1 < 2 ^ suc b = omega (arith, h.digits) in
     rw (e, g) (record {
-        digits = digits;
-        least = f.least;
-        most = less_than_two w (2 ^ suc b) (2 * z + 1) (3 * suc b * 2 ^ suc b) n o digits power;
-        power = power;
-        unit = λ k. absurd (omega arith) })
+      digits = digits;
+      least = f.least;
+      most = less_than_two w (2 ^ suc b) (2 * z + 1) (3 * suc b * 2 ^ suc b) n o digits power;
+      power = power;
+      unit = λ k. absurd (omega arith);
+    })
   where
     errors : (b q : ℕ) → 3 * b * q + 2 * q + q ≡ 3 * suc b * q
     errors b q = omega arith
@@ -207,11 +212,12 @@ part_begun w x f o h =
     let c = pow-zero (w + 1) in
     let n : 3 * 0 * 2 ^ 0 ≡ 0 = refl in
     rw (e, z) (record {
-        digits = omega arith;
-        least = omega arith;
-        most = omega arith;
-        power = record { below = omega arith; above = rw (n, b, c) (omega arith) };
-        unit = λ k. refl })
+      digits = omega arith;
+      least = omega arith;
+      most = omega arith;
+      power = record { below = omega arith; above = rw (n, b, c) (omega arith) };
+      unit = λ k. refl;
+    })
 
 -- the digits so far, and the next
 pub digits_on : (x f i : ℕ) → i < f → 2 * (x / 2 ^ (f - i)) + x / 2 ^ (f - 1 - i) % 2 ≡ x / 2 ^ (f - (i + 1))

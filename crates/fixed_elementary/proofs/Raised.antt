@@ -1,15 +1,15 @@
 -- Powers of 2 with a whole exponent more, rounded down to units.
-use Rattle.std.proofs.Common.{◌≡◌, ◌⊎◌, ◌+◌, ◌-◌, ◌*◌, ◌/◌, ◌%◌, ◌^◌, ◌<◌, ◌≤◌, ◌≤ℤ◌, ◌<ℤ◌, ◌+ℤ◌, ℕ, ℤ, Bool, true, false, pos, negsuc, zero, suc, refl, ap, sym, subst, ◌∙◌, inl, inr, arith}
+use Rattle.std.proofs.Common.{◌≡◌, ◌+◌, ◌-◌, ◌*◌, ◌/◌, ◌%◌, ◌^◌, ◌<◌, ◌≤◌, ◌<ℤ◌, ℕ, ℤ, Bool, true, false, pos, negsuc, refl, ap, sym, subst, ◌∙◌, inl, inr, arith}
 use Rattle.std.specs.Prelude.{min}
 use Rattle.std.proofs.lemmas.Int.{ints}
 use Rattle.std.proofs.Math.Nat.{le_of_mul-le-mul_right, lt_of_mul-lt-mul_right, mul-le-mul_right, mul-le-mul_left, pow-le-pow_left, pow-le-pow_right, pow-lt-pow_left, one-le-pow, mul-div_left}
 use Rattle.std.proofs.lemmas.Nat.{mul-le, mul-pow, pow-add, pow_pos, div-add-mod', mod_below, div_below, le-div}
 use Rattle.std.proofs.lemmas.Bool.{cases_lt}
-use Rattle.fixed_word.specs.Format.{IsWidth, highest, wrap}
+use Rattle.fixed_word.specs.Format.{highest}
 use Rattle.fixed_word.specs.Standing.{StandsFor}
 use Rattle.fixed_word.specs.declared.outcome.Outcome.{Outcome}
-use Rattle.fixed_elementary.specs.Exponential.{IsExp2, IsExp2At, IsExp2Up, StandsUpTo, exp2_room}
-use Rattle.fixed_elementary.specs.inside.Power.{IsPart, IsPower}
+use Rattle.fixed_elementary.specs.Exp2.{IsExp2, IsExp2At, IsExp2Up, StandsUpTo, exp2_room}
+use Rattle.fixed_elementary.specs.inside.Power.{IsPart}
 use Rattle.fixed_elementary.proofs.Reading.{pow_times}
 use Rattle.fixed_elementary.proofs.Squarings.{growth_within}
 
@@ -97,6 +97,7 @@ whole_exponent q n z j h e =
         let below = div_below (n * q + z) q (n + 1) (omega arith) (omega arith) in
         let above = le-div n (n * q + z) q (omega arith) (omega arith) in
         omega arith
+
     less : (n j q z : ℕ) → n ≡ j → n * q + z ≡ j * q → z ≡ 0
     less n j q z t e = let u = ap (λ k. k * q) t in omega arith
 
@@ -121,8 +122,9 @@ power_is f e b c p h part =
     let d = div-add-mod' e (2 ^ f) in
     let s : e / 2 ^ f * 2 ^ f + e % 2 ^ f ≡ e = omega arith in
     record {
-        near = λ k l. subst (λ x. IsExp2 x f k (p * 2 ^ (e / 2 ^ f) / w)) s (power_near w f (e % 2 ^ f) (e / 2 ^ f) p k (pow_pos (c + b)) (enough f k b c h l) part);
-        exact = λ j g. power_exact w f (e % 2 ^ f) (e / 2 ^ f) p j (pow_pos (c + b)) part (s ∙ g) }
+      near = λ k l. subst (λ x. IsExp2 x f k (p * 2 ^ (e / 2 ^ f) / w)) s (power_near w f (e % 2 ^ f) (e / 2 ^ f) p k (pow_pos (c + b)) (enough f k b c h l) part);
+      exact = λ j g. power_exact w f (e % 2 ^ f) (e / 2 ^ f) p j (pow_pos (c + b)) part (s ∙ g);
+    }
 
 -- ---- in a word
 
@@ -152,6 +154,7 @@ in_word m n u b l h f =
         let above = div_below (m * p) (d * p) (k + 1) z (omega arith) in
         let below = le-div k (m * p) (d * p) z low in
         omega arith
+
     least_is : (x y b : ℕ) → y ≡ x → x < b → x ≡ min y b
     least_is x y b e h = rw e (grind arith)
 
@@ -179,12 +182,13 @@ above_all false n x o h = omega (arith, ints, pow_pos n)
 
 pub stands_up_to : {T : Type 0} (value : T → ℤ) (s : Bool) (n r m : ℕ) (o : Outcome T) → 1 ≤ n → m ≡ min r (2 ^ n) → StandsFor value s n (pos m) o → StandsUpTo value s n (pos r) o
 stands_up_to value s n r m o one e h = record {
-    other = pos m;
-    alike = elim (cases_lt r (2 ^ n)) [
-      | inl less ↦ let t : m ≡ r = e ∙ grind arith in inl (ap pos t)
-      | inr fine ↦ let t : m ≡ 2 ^ n = e ∙ grind arith in inr (above_all s n m one (omega arith), above_all s n r one fine)
-    ];
-    stands = h }
+  other = pos m;
+  alike = elim (cases_lt r (2 ^ n)) [
+    | inl less ↦ let t : m ≡ r = e ∙ grind arith in inl (ap pos t)
+    | inr fine ↦ let t : m ≡ 2 ^ n = e ∙ grind arith in inr (above_all s n m one (omega arith), above_all s n r one fine)
+  ];
+  stands = h;
+}
 
 pub room_narrow : (n : ℕ) → n ≤ 32 → 54 ≡ exp2_room n
 room_narrow n h = grind arith

@@ -1,6 +1,6 @@
-use Rattle.std.proofs.Common.{◌≡◌, ◌≤◌, ◌<◌, ◌*◌, ◌/◌, ◌^◌, ◌∙◌, ap, subst, arith, rules}
+use Rattle.std.proofs.Common.{◌*◌, ◌/◌, ◌^◌, ◌∙◌, ap, subst, arith, rules}
 use Rattle.std.specs.Prelude.{min}
-use Rattle.fixed_elementary.specs.Exponential.{IsExp2Up}
+use Rattle.fixed_elementary.specs.Exp2.{IsExp2Up}
 use Rattle.fixed_elementary.specs.inside.Power.{IsPart}
 use Rattle.fixed_elementary.proofs.Raised.{power_is, room_broad, room_narrow}
 use Rattle.fixed_elementary.proofs.exponentials.power_of.Goals as goal
@@ -23,4 +23,4 @@ returns-else-bits-le32 c =
     let part = subst (λ z. IsPart (2 ^ 126) f z p) c.part_of-part.ensures c.broad_exp2.ensures in
     let up = power_is f e 117 9 p (omega (arith, c.requires.places, c.requires.bits)) part in
     let room = room_broad c.args.bits (search rules) in
-    (p * 2 ^ (e / 2 ^ f) / 2 ^ 126, subst (λ k. IsExp2Up k e f (p * 2 ^ (e / 2 ^ f) / 2 ^ 126)) room up, c.in_bits-else-bits-le32.ensures )
+    (p * 2 ^ (e / 2 ^ f) / 2 ^ 126, subst (λ k. IsExp2Up k e f (p * 2 ^ (e / 2 ^ f) / 2 ^ 126)) room up, c.in_bits-else-bits-le32.ensures)
