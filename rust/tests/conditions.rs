@@ -168,6 +168,7 @@ stops! {
     math_root, "the number is above 0", byte(0).wrapping_recip_sqrt();
     math_length, "the number fits", Byte::MIN.strict_hypot(byte(0));
     math_logarithm, "the number is above 0", byte(-1).saturating_log2();
+    math_power, "the number fits", byte(48).unwrapped_exp2();
     math_strict_logarithm, "the number fits", FixedI8::<7>::from_bits(1).strict_log2();
     ops_divisor, "the divisor is not 0", byte(0).recip();
     ops_root, "the number is not below 0", byte(-1).sqrt();

@@ -1,7 +1,8 @@
 //! Elementary functions beside their definitions, by natural numbers of any size.
 
 use std::cmp::Ordering;
-use zugyelmas::elementary::{hypot_of, log2_of, recip_sqrt_of};
+use std::iter::successors;
+use zugyelmas::elementary::{exp2_of, hypot_of, log2_of, recip_sqrt_of};
 use zugyelmas::prelude::*;
 use zugyelmas::word::{Outcome, Side};
 
@@ -74,6 +75,24 @@ impl Natural {
     }
 }
 
+/// The root, rounded down.
+fn root(number: &Natural) -> Natural {
+    let places = (0..=number.bits() / 2).rev();
+    places.fold(Natural(vec![]), |found, place| {
+        let next = found.plus(&Natural::power_of_two(place));
+        if next.squared() <= *number {
+            next
+        } else {
+            found
+        }
+    })
+}
+
+/// The number over `2^320`, rounded down.
+fn over_unit(number: &Natural) -> Natural {
+    Natural(number.0.get(10..).unwrap_or_default().to_vec())
+}
+
 impl PartialOrd for Natural {
     fn partial_cmp(&self, other: &Natural) -> Option<Ordering> {
         Some(self.cmp(other))
@@ -143,6 +162,46 @@ fn logarithm(a: u64, places: u32) -> u128 {
     units
 }
 
+/// The roots `2^(2^-place)` in units of `2^-320`.
+fn roots_of_two() -> Vec<Natural> {
+    let unit = Natural::power_of_two(320);
+    let roots = successors(Some(Natural::power_of_two(321)), |last| {
+        Some(root(&last.times(&unit)))
+    });
+    roots.take(65).collect()
+}
+
+/// The exponent of the power in units of `2^-frac`, unless that is below 0.
+fn exponent<T: Word>(a: T, frac: u32) -> Option<u128> {
+    let units = u128::from(frac) << frac;
+    let magnitude = u128::from(a.magnitude());
+    if a.is_below_zero() {
+        units.checked_sub(magnitude)
+    } else {
+        Some(units + magnitude)
+    }
+}
+
+/// `2^(exponent / 2^places)`, rounded down, by mantissas of 320 bits; nothing where that has more than 64 bits.
+fn power(exponent: u128, places: u32, roots: &[Natural]) -> Option<u128> {
+    let whole = exponent >> places;
+    if whole >= 64 {
+        return None;
+    }
+    let digits = (0..places).filter(|place| exponent >> (places - 1 - place) & 1 == 1);
+    let mantissa = digits.fold(Natural::power_of_two(320), |product, place| {
+        over_unit(&product.times(&roots[place as usize + 1]))
+    });
+    let units = over_unit(&mantissa.times(&Natural::power_of_two(whole as usize)));
+    Some(
+        units
+            .0
+            .iter()
+            .rev()
+            .fold(0, |sum, digit| (sum << 32) + u128::from(*digit)),
+    )
+}
+
 /// A word's every bit pattern of 8 bits, or else its ends and numbers of every length by a fixed rule.
 fn samples<T: Word>(many: u64) -> Vec<T> {
     let word = |bits: u64| T::residue(false, u128::from(bits));
@@ -186,6 +245,20 @@ fn logarithms_of<T: Word + std::fmt::Debug>() {
             let less = u128::from(frac) << frac;
             let expected = standing(units < less, units.abs_diff(less));
             assert_eq!(log2_of(a, frac), expected, "{a:?} {frac}");
+        }
+    }
+}
+
+fn powers_of<T: Word + std::fmt::Debug>(roots: &[Natural]) {
+    for a in samples::<T>(40) {
+        for frac in 0..=T::BITS {
+            let units = exponent(a, frac).map_or(Some(0), |exponent| power(exponent, frac, roots));
+            let expected = standing::<T>(false, units.unwrap_or(1 << 64));
+            let found = exp2_of(a, frac);
+            assert_eq!(found.side, expected.side, "{a:?} {frac}");
+            if found.side == Side::Fits {
+                assert_eq!(found.wrapped, expected.wrapped, "{a:?} {frac}");
+            }
         }
     }
 }
@@ -238,6 +311,43 @@ fn logarithms_by_powers() {
 }
 
 #[test]
+fn powers() {
+    let roots = roots_of_two();
+    powers_of::<i8>(&roots);
+    powers_of::<u8>(&roots);
+    powers_of::<i16>(&roots);
+    powers_of::<u16>(&roots);
+    powers_of::<i32>(&roots);
+    powers_of::<u32>(&roots);
+    powers_of::<i64>(&roots);
+    powers_of::<u64>(&roots);
+}
+
+/// Beside the definition, `r^(2^frac) <= 2^exponent < (r + 1)^(2^frac)`, for each byte.
+#[test]
+fn powers_by_powers() {
+    for frac in 0..=8 {
+        for a in i8::MIN..=i8::MAX {
+            let Some(exponent) = exponent(a, frac) else {
+                continue;
+            };
+            let found = exp2_of(a, frac);
+            let raised = |units: i8| {
+                let units = Natural::of(u128::from(units.unsigned_abs()));
+                (0..frac).fold(units, |power, _| power.squared())
+            };
+            let exact = Natural::power_of_two(exponent as usize);
+            if found.side == Side::Fits {
+                assert!(raised(found.wrapped) <= exact);
+                assert!(found.wrapped == i8::MAX || exact < raised(found.wrapped + 1));
+            } else {
+                assert!(raised(i8::MIN) <= exact);
+            }
+        }
+    }
+}
+
+#[test]
 fn typed_calls() {
     let length = FixedI32::<16>::from_num(3).checked_hypot(FixedI32::from_num(-4));
     assert_eq!(length, Some(FixedI32::from_num(5)));
@@ -250,6 +360,9 @@ fn typed_calls() {
     assert_eq!(number.overflowing_recip_sqrt(), (wrapped, true));
     let eighth = FixedI32::<16>::from_num(0.125);
     assert_eq!(eighth.strict_log2(), FixedI32::from_num(-3));
+    assert_eq!(eighth.strict_log2().strict_exp2(), eighth);
+    assert_eq!(FixedI16::<8>::from_num(7).checked_exp2(), None);
+    assert_eq!(FixedI16::<8>::MAX.saturating_exp2(), FixedI16::MAX);
     for below in [FixedI16::<8>::ZERO, FixedI16::from_num(-1)] {
         assert_eq!(below.checked_recip_sqrt(), None);
         assert_eq!(below.checked_log2(), None);

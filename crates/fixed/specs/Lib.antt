@@ -12,6 +12,10 @@ pub use Rattle.fixed_kernel.specs.Rows
 pub use Rattle.fixed_kernel.specs.Rounded
 pub use Rattle.fixed_kernel.specs.RoundedRows
 pub use Rattle.fixed_kernel.specs.RowLaws
+pub use Rattle.fixed_elementary.specs.ElementaryRows
+pub use Rattle.fixed_elementary.specs.RecipRoot
+pub use Rattle.fixed_elementary.specs.Log2
+pub use Rattle.fixed_elementary.specs.Exp2
 pub use Rattle.fixed_convert.specs.Convert
 pub use Rattle.fixed_convert.specs.WholeNumber
 pub use Rattle.fixed_decimal.specs.Decimal

@@ -1,5 +1,6 @@
 //! The operations on bits, with the fraction at run time, and what each policy makes of their outcome.
 
+pub use fixed_elementary::{exp2_of, hypot_of, log2_of, recip_sqrt_of};
 pub use fixed_kernel::{
     abs_of, add_of, add_prod_of, add_prod_round_of, dist_of, div_euclid_int_of, div_euclid_of,
     div_int_of, div_int_round_of, div_of, div_round_of, mixed_add_of, mixed_sub_of, mul_add_of,

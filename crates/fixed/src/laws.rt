@@ -1,6 +1,7 @@
 //! Laws of the definitions: each is a function that does nothing, whose contract is the law.
 
 pub use fixed_bits::laws::{list_law, read_back_law};
+pub use fixed_elementary::laws::{exp2_law, hypot_law, log2_law, recip_sqrt_law};
 pub use fixed_kernel::laws::{
     default_law, integer_law, multiple_law, power_law, remainder_law, rounded_law, row_law,
     signed_law, unsigned_law,

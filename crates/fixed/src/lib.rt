@@ -18,6 +18,9 @@ pub use fixed_cast::{
 };
 pub use fixed_decimal::DecimalError;
 pub use fixed_float::Binary;
+pub use fixed_math::{
+    CheckedMath, OverflowingMath, SaturatingMath, StrictMath, UnwrappedMath, WrappingMath,
+};
 pub use fixed_num::{
     Constants, Fixed, FixedI8, FixedI16, FixedI32, FixedI64, FixedU8, FixedU16, FixedU32, FixedU64,
     FromDecimal, Held, Number,

@@ -1,12 +1,12 @@
 -- Laws of powers of 2 that are rounded down up to a part of themselves.
-use Rattle.std.proofs.Common.{◌≡◌, ◌+◌, ◌*◌, ◌^◌, ◌<◌, ◌≤◌, ◌≤ℤ◌, ◌<ℤ◌, ◌+ℤ◌, ◌-ℤ◌, ℕ, ℤ, pos, negsuc, suc, refl, ap, sym, subst, ◌∙◌, arith, inl, inr}
+use Rattle.std.proofs.Common.{◌≡◌, ◌+◌, ◌*◌, ◌^◌, ◌<◌, ◌≤◌, ◌≤ℤ◌, ◌<ℤ◌, ◌+ℤ◌, ℕ, ℤ, pos, negsuc, suc, refl, ap, subst, ◌∙◌, arith, inl, inr}
 use Rattle.std.specs.Prelude.{unsigned_abs}
 use Rattle.std.proofs.lemmas.Int.{ints}
 use Rattle.std.proofs.lemmas.Bool.{cases_lt}
 use Rattle.std.proofs.lemmas.Nat.{pow_pos}
 use Rattle.std.proofs.Math.Nat.{pow-le-pow_left, pow-lt-pow_left, pow-suc}
-use Rattle.fixed_elementary.specs.Logarithm.{IsLog2Of}
-use Rattle.fixed_elementary.specs.Exponential.{IsExp2At, IsExp2Of}
+use Rattle.fixed_elementary.specs.Log2.{IsLog2Of}
+use Rattle.fixed_elementary.specs.Exp2.{IsExp2At, IsExp2Of}
 use Rattle.fixed_elementary.proofs.Reading.{pow_times}
 use Rattle.fixed_elementary.proofs.LogLaws.{exponent_less}
 

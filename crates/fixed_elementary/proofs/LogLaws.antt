@@ -6,7 +6,7 @@ use Rattle.std.proofs.lemmas.Bool.{cases_lt}
 use Rattle.std.proofs.Math.Nat.{pow-le-pow_right, pow-le-pow_left, pow-suc}
 use Rattle.std.proofs.lemmas.Nat.{pow_pos}
 use Rattle.fixed_word.specs.Format.{InRange}
-use Rattle.fixed_elementary.specs.Logarithm.{IsLog2Of}
+use Rattle.fixed_elementary.specs.Log2.{IsLog2Of}
 use Rattle.fixed_elementary.proofs.Reading.{pow_times}
 
 -- exponents are in the order of the powers of two

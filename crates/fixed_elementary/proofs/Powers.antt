@@ -1,10 +1,9 @@
 -- Powers of 2 with a fractional exponent: their roots, squares and products, rounded down.
-use Rattle.std.proofs.Common.{◌≡◌, ◌+◌, ◌-◌, ◌*◌, ◌/◌, ◌%◌, ◌^◌, ◌<◌, ◌≤◌, ℕ, zero, suc, refl, ap, sym, subst, ◌∙◌, inl, inr, arith}
-use Rattle.std.proofs.Math.Nat.{le_of_mul-le-mul_right, mul-le-mul_right, mul-le-mul_left, pow-le-pow_left, pow-le-pow_right, pow-lt-pow_left, one-le-pow, pow-suc, pow-zero, div-div-eq-div-mul}
+use Rattle.std.proofs.Common.{◌≡◌, ◌+◌, ◌-◌, ◌*◌, ◌/◌, ◌%◌, ◌^◌, ◌<◌, ◌≤◌, ℕ, suc, refl, ap, sym, subst, ◌∙◌, inl, inr, arith}
+use Rattle.std.proofs.Math.Nat.{le_of_mul-le-mul_right, mul-le-mul_right, mul-le-mul_left, pow-le-pow_left, pow-le-pow_right, one-le-pow, pow-suc, pow-zero, div-div-eq-div-mul}
 use Rattle.std.proofs.lemmas.Nat.{mul-le, mul-pow, pow-add, pow_pos, div-add-mod', mod_below, div_below}
 use Rattle.std.proofs.lemmas.Bool.{cases_lt}
 use Rattle.fixed_elementary.specs.inside.Power.{IsFloored, IsPart, IsPower, IsRootOfTwo}
-use Rattle.fixed_elementary.proofs.Reading.{pow_times}
 
 twice_suc : (b : ℕ) → 2 ^ suc b ≡ 2 ^ b + 2 ^ b
 twice_suc b = omega (arith, pow-suc 2 b)

@@ -1,15 +1,15 @@
 -- Powers of 2 with a whole exponent more, rounded down to units.
-use Rattle.std.proofs.Common.{◌≡◌, ◌⊎◌, ◌+◌, ◌-◌, ◌*◌, ◌/◌, ◌%◌, ◌^◌, ◌<◌, ◌≤◌, ◌≤ℤ◌, ◌<ℤ◌, ◌+ℤ◌, ℕ, ℤ, Bool, true, false, pos, negsuc, zero, suc, refl, ap, sym, subst, ◌∙◌, inl, inr, arith}
+use Rattle.std.proofs.Common.{◌≡◌, ◌+◌, ◌-◌, ◌*◌, ◌/◌, ◌%◌, ◌^◌, ◌<◌, ◌≤◌, ◌<ℤ◌, ℕ, ℤ, Bool, true, false, pos, negsuc, refl, ap, sym, subst, ◌∙◌, inl, inr, arith}
 use Rattle.std.specs.Prelude.{min}
 use Rattle.std.proofs.lemmas.Int.{ints}
 use Rattle.std.proofs.Math.Nat.{le_of_mul-le-mul_right, lt_of_mul-lt-mul_right, mul-le-mul_right, mul-le-mul_left, pow-le-pow_left, pow-le-pow_right, pow-lt-pow_left, one-le-pow, mul-div_left}
 use Rattle.std.proofs.lemmas.Nat.{mul-le, mul-pow, pow-add, pow_pos, div-add-mod', mod_below, div_below, le-div}
 use Rattle.std.proofs.lemmas.Bool.{cases_lt}
-use Rattle.fixed_word.specs.Format.{IsWidth, highest, wrap}
+use Rattle.fixed_word.specs.Format.{highest}
 use Rattle.fixed_word.specs.Standing.{StandsFor}
 use Rattle.fixed_word.specs.declared.outcome.Outcome.{Outcome}
-use Rattle.fixed_elementary.specs.Exponential.{IsExp2, IsExp2At, IsExp2Up, StandsUpTo, exp2_room}
-use Rattle.fixed_elementary.specs.inside.Power.{IsPart, IsPower}
+use Rattle.fixed_elementary.specs.Exp2.{IsExp2, IsExp2At, IsExp2Up, StandsUpTo, exp2_room}
+use Rattle.fixed_elementary.specs.inside.Power.{IsPart}
 use Rattle.fixed_elementary.proofs.Reading.{pow_times}
 use Rattle.fixed_elementary.proofs.Squarings.{growth_within}
 

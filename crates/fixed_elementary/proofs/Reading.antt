@@ -5,7 +5,7 @@ use Rattle.std.proofs.lemmas.Nat.{mul-le, mul-pow, pow-add, pow_pos}
 use Rattle.std.specs.Prelude.{neg_ℤ, unsigned_abs}
 use Rattle.std.proofs.lemmas.Int.{ints}
 use Rattle.std.proofs.lemmas.Bool.{cases_lt}
-use Rattle.fixed_elementary.specs.Logarithm.{IsLog2, IsLog2Of, log2_room}
+use Rattle.fixed_elementary.specs.Log2.{IsLog2, IsLog2Of, log2_room}
 use Rattle.fixed_elementary.specs.inside.Squaring.{IsFound, IsMantissa, IsRead, IsSquared}
 use Rattle.fixed_elementary.proofs.Squarings.{growth_within, lower, upper}
 

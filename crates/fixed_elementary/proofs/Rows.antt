@@ -10,7 +10,7 @@ use Rattle.fixed_root.specs.inside.Parts.{IsRootOf}
 use Rattle.fixed_root.proofs.RootLaws.{root_of_is, root_is}
 use Rattle.fixed_elementary.specs.inside.RecipParts.{IsRecipRootOf}
 use Rattle.fixed_elementary.specs.RecipRoot.{IsRecipRoot}
-use Rattle.fixed_elementary.specs.Rows.{exact_hypot, exact_recip_sqrt}
+use Rattle.fixed_elementary.specs.ElementaryRows.{exact_hypot, exact_recip_sqrt}
 
 whole_root : (x q : ℕ) → IsRootOf x q → IsRoot (pos x) 0 (pos q)
 whole_root x q h =

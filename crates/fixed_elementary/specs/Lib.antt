@@ -1,6 +1,6 @@
-pub mod Exponential
-pub mod Logarithm
+pub mod ElementaryRows
+pub mod Exp2
+pub mod Log2
 pub mod RecipRoot
-pub mod Rows
 pub mod inside
 pub use Rattle.fixed_root.specs.Root

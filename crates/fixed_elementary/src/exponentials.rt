@@ -2,7 +2,7 @@
 
 ghost use Rattle.std.specs.Prelude.{◌≡◌, ◌≤◌, ◌<◌, ◌+◌, ◌-◌, ◌*◌, ◌/◌, ◌%◌, ◌^◌, ◌+ℤ◌, ℕ, ℤ, pos, min};
 ghost use Rattle.fixed_word.specs.Format.{with_sign};
-ghost use Rattle.fixed_elementary.specs.Exponential.{IsExp2Of, IsExp2Up, StandsUpTo, exp2_room};
+ghost use Rattle.fixed_elementary.specs.Exp2.{IsExp2Of, IsExp2Up, StandsUpTo, exp2_room};
 ghost use Rattle.fixed_elementary.specs.inside.Power.{IsExponent, IsFloored, IsPart};
 
 use crate::logarithms::in_units;

@@ -4,10 +4,10 @@
 ghost use Rattle.std.specs.Prelude.{◌≡◌, ◌≤◌, ◌<◌, ◌-◌, ◌*◌, ◌^◌, ◌+ℤ◌, ◌-ℤ◌, ◌*ℤ◌, ◌≤ℤ◌, ◌<ℤ◌, ℕ, ℤ, true, pos, unsigned_abs};
 ghost use Rattle.fixed_word.specs.Format.{InRange};
 ghost use Rattle.fixed_root.specs.Root.{IsRoot};
-ghost use Rattle.fixed_elementary.specs.Exponential.{IsExp2Of};
-ghost use Rattle.fixed_elementary.specs.Logarithm.{IsLog2Of};
+ghost use Rattle.fixed_elementary.specs.Exp2.{IsExp2Of};
+ghost use Rattle.fixed_elementary.specs.Log2.{IsLog2Of};
 ghost use Rattle.fixed_elementary.specs.RecipRoot.{IsRecipRoot};
-ghost use Rattle.fixed_elementary.specs.Rows.{exact_hypot, exact_recip_sqrt};
+ghost use Rattle.fixed_elementary.specs.ElementaryRows.{exact_hypot, exact_recip_sqrt};
 
 /// The length is the root of the sum of both squares, rounded down; it is that of the exchanged pair, and on
 /// an axis it is the magnitude.

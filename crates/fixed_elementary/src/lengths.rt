@@ -3,7 +3,7 @@
 ghost use Rattle.std.specs.Prelude.{◌≡◌, ◌≤◌, ◌<◌, ◌+◌, ◌*◌, ◌^◌};
 ghost use Rattle.fixed_word.specs.Standing.{StandsFor};
 ghost use Rattle.fixed_root.specs.inside.Parts.{IsRootOf};
-ghost use Rattle.fixed_elementary.specs.Rows.{exact_hypot};
+ghost use Rattle.fixed_elementary.specs.ElementaryRows.{exact_hypot};
 
 use crate::roots::{root_of_whole, root_past};
 use fixed_word::{Outcome, RawWord, Word, outcome_of};

@@ -2,7 +2,7 @@
 
 ghost use Rattle.std.specs.Prelude.{◌≡◌, ◌≤◌, ◌<◌, ◌+◌, ◌*◌, ◌/◌, ◌^◌, ◌<ℤ◌, pos};
 ghost use Rattle.fixed_word.specs.Standing.{StandsFor};
-ghost use Rattle.fixed_elementary.specs.Rows.{exact_recip_sqrt};
+ghost use Rattle.fixed_elementary.specs.ElementaryRows.{exact_recip_sqrt};
 ghost use Rattle.fixed_elementary.specs.inside.RecipParts.{IsRecipRootOf};
 
 use crate::digits::recip_root_by_digits;

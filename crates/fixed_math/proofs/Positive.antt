@@ -2,7 +2,7 @@
 use Rattle.std.proofs.Common.{◌≡◌, ◌<ℤ◌, ℕ, ℤ, zero, suc, pos, negsuc, Bool, Option, Some, None, refl, arith}
 use Rattle.std.proofs.lemmas.Int.{ints}
 use Rattle.fixed_word.specs.Policies.{checked}
-use Rattle.fixed_elementary.specs.Rows.{by_positive}
+use Rattle.fixed_elementary.specs.ElementaryRows.{by_positive}
 
 pub some_above : (s : Bool) (n : ℕ) (a x : ℤ) (kept : Option ℤ) → pos 0 <ℤ a → kept ≡ checked s n (Some x) → kept ≡ checked s n (by_positive a x)
 some_above s n (pos zero) x kept above e = absurd (omega (arith, ints))

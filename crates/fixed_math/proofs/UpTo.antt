@@ -1,5 +1,5 @@
 -- What the policies make of two numbers that are equal or lie above the range.
-use Rattle.std.proofs.Common.{◌≡◌, ◌⊎◌, ◌<ℤ◌, ◌≤ℤ◌, ℕ, ℤ, pos, Bool, true, false, Some, None, refl, ap, sym, ◌∙◌, inl, inr, arith}
+use Rattle.std.proofs.Common.{◌≡◌, ◌⊎◌, ◌<ℤ◌, ℕ, ℤ, Bool, Some, None, ap, sym, ◌∙◌, inl, inr, arith}
 use Rattle.std.proofs.lemmas.Int.{ints}
 use Rattle.fixed_word.specs.Format.{InRange, clamp, highest}
 use Rattle.fixed_word.specs.Policies.{checked, saturating}

@@ -2,9 +2,9 @@
 
 ghost use Rattle.std.specs.Prelude.{◌≡◌, ◌≤◌, ◌≤ℤ◌, ◌<ℤ◌, ℤ, None, Some, option_map, pos};
 ghost use Rattle.fixed_word.specs.Policies.{checked};
-ghost use Rattle.fixed_elementary.specs.Exponential.{IsExp2Of, exp2_room};
-ghost use Rattle.fixed_elementary.specs.Logarithm.{IsLog2Of, log2_room};
-ghost use Rattle.fixed_elementary.specs.Rows.{by_positive, exact_hypot, exact_recip_sqrt};
+ghost use Rattle.fixed_elementary.specs.Exp2.{IsExp2Of, exp2_room};
+ghost use Rattle.fixed_elementary.specs.Log2.{IsLog2Of, log2_room};
+ghost use Rattle.fixed_elementary.specs.ElementaryRows.{by_positive, exact_hypot, exact_recip_sqrt};
 
 use crate::numbers::{checked_number, is_above_zero};
 use fixed_elementary::{exp2_of, hypot_of, log2_of, recip_sqrt_of};

@@ -2,8 +2,8 @@
 
 ghost use Rattle.std.specs.Prelude.{◌≡◌, ◌≤◌, ◌<ℤ◌, ℤ, Some, pos};
 ghost use Rattle.fixed_word.specs.Policies.{wrapping};
-ghost use Rattle.fixed_elementary.specs.Logarithm.{IsLog2Of, log2_room};
-ghost use Rattle.fixed_elementary.specs.Rows.{exact_hypot, exact_recip_sqrt};
+ghost use Rattle.fixed_elementary.specs.Log2.{IsLog2Of, log2_room};
+ghost use Rattle.fixed_elementary.specs.ElementaryRows.{exact_hypot, exact_recip_sqrt};
 
 use crate::numbers::wrapping_number;
 use fixed_elementary::{hypot_of, log2_of, recip_sqrt_of};

@@ -1,7 +1,7 @@
-//! Known lengths, reciprocal roots and logarithms.
+//! Known lengths, reciprocal roots, logarithms and powers.
 
 use crate::fitting::log2_with_16;
-use fixed_elementary::{hypot_of, log2_of, recip_sqrt_of};
+use fixed_elementary::{exp2_of, hypot_of, log2_of, recip_sqrt_of};
 use fixed_math::{CheckedMath, OverflowingMath, SaturatingMath, WrappingMath};
 use fixed_num::{Fixed, FixedI32};
 use fixed_word::{Outcome, Side, Word};
@@ -60,6 +60,26 @@ fn logarithms(rt: HostRuntime) {
     );
 }
 
+#[test]
+fn powers(rt: HostRuntime) {
+    for (a, frac, wrapped) in [
+        (16_i32, 4, 32),
+        (8, 4, 22),
+        (-80, 4, 0),
+        (655360, 16, 67108864),
+        (32768, 16, 92681),
+        (-1048576, 16, 1),
+        (-1048577, 16, 0),
+    ] {
+        if frac <= 32 {
+            assert_eq!(rt; exp2_of(a, frac), outcome(wrapped, Side::Fits));
+        }
+    }
+    let half = exp2_of(1_u64 << 62, 63);
+    assert_eq!(rt; half, outcome(13043817825332782212, Side::Fits));
+    assert_eq!(rt; exp2_of(64_u64, 0).side, Side::Above);
+}
+
 /// The calls of each policy at one number.
 fn calls<N: CheckedMath + OverflowingMath + SaturatingMath + WrappingMath>(
     number: N,
@@ -87,5 +107,7 @@ fn typed_calls(rt: HostRuntime) {
     assert_eq!(rt; ten.checked_log2(), Some(logarithm));
     assert_eq!(rt; ten.wrapping_recip_sqrt(), FixedI32::<16> { bits: 20724 });
     let none = FixedI32::<16> { bits: 0 };
+    assert_eq!(rt; ten.checked_exp2(), Some(FixedI32::<16> { bits: 67108864 }));
+    assert_eq!(rt; most.saturating_exp2(), most);
     assert_eq!(rt; none.checked_recip_sqrt(), None);
 }

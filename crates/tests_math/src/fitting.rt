@@ -1,7 +1,7 @@
 //! A caller that knows that each logarithm fits.
 
 ghost use Rattle.std.specs.Prelude.{◌≡◌, ◌<ℤ◌, pos};
-ghost use Rattle.fixed_elementary.specs.Logarithm.{IsLog2Of};
+ghost use Rattle.fixed_elementary.specs.Log2.{IsLog2Of};
 
 use fixed_elementary::laws::log2_law;
 use fixed_math::StrictMath;

@@ -1,6 +1,6 @@
 -- The digits of a logarithm, by squaring a mantissa whose unit is w.
 use Rattle.std.specs.Prelude.{◌≡◌, ◌+◌, ◌*◌, ◌^◌, ◌≤◌, ◌<◌, ℕ}
-use Rattle.fixed_elementary.specs.Logarithm.{IsLog2}
+use Rattle.fixed_elementary.specs.Log2.{IsLog2}
 
 -- n is the square of m, over 2^b, rounded down: the mantissa after the digit b
 pub record IsSquared (w m b n : ℕ) : Type 0 where

@@ -1,4 +1,4 @@
-use Rattle.std.proofs.Common.{◌≡◌, ◌+◌, ◌-◌, ◌*◌, ◌/◌, ◌^◌, ◌<◌, ℕ, ap, subst, ◌∙◌, arith, rules}
+use Rattle.std.proofs.Common.{◌+◌, ◌-◌, ◌*◌, ◌/◌, ◌^◌, ◌<◌, ℕ, ap, subst, ◌∙◌, arith, rules}
 use Rattle.fixed_elementary.specs.inside.Power.{IsPart}
 use Rattle.fixed_elementary.proofs.Powers.{digits_on, part_all, part_begun}
 use Rattle.fixed_elementary.proofs.exponentials.broad_exp2.Goals as goal

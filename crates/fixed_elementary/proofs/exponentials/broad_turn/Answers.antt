@@ -1,4 +1,4 @@
-use Rattle.std.proofs.Common.{◌≡◌, ◌<◌, ◌^◌, ℕ, arith, rules}
+use Rattle.std.proofs.Common.{◌≡◌, ◌^◌, arith, rules}
 use Rattle.fixed_elementary.proofs.Powers.{part_none, part_one}
 use Rattle.fixed_elementary.proofs.exponentials.broad_turn.Goals as goal
 

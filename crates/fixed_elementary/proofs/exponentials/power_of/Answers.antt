@@ -1,6 +1,6 @@
-use Rattle.std.proofs.Common.{◌≡◌, ◌≤◌, ◌<◌, ◌*◌, ◌/◌, ◌^◌, ◌∙◌, ap, subst, arith, rules}
+use Rattle.std.proofs.Common.{◌*◌, ◌/◌, ◌^◌, ◌∙◌, ap, subst, arith, rules}
 use Rattle.std.specs.Prelude.{min}
-use Rattle.fixed_elementary.specs.Exponential.{IsExp2Up}
+use Rattle.fixed_elementary.specs.Exp2.{IsExp2Up}
 use Rattle.fixed_elementary.specs.inside.Power.{IsPart}
 use Rattle.fixed_elementary.proofs.Raised.{power_is, room_broad, room_narrow}
 use Rattle.fixed_elementary.proofs.exponentials.power_of.Goals as goal
