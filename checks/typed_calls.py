@@ -68,7 +68,7 @@ def written_numbers():
     text = source("fixed_num")
     inherent = "\n".join(blocks(text, r"impl<[^\n]*> Fixed<"))
     traits = "\n".join(blocks(text, "pub trait (?:Constants|Held)") + blocks(text, r"impl<[^\n]*> Default for Fixed<"))
-    return set(re.findall(r"^    pub fn (\w+)", inherent, re.M)) | set(
+    return set(re.findall(r"^    pub (?:const )?fn (\w+)", inherent, re.M)) | set(
         re.findall(r"^    (?:fn|const) (\w+)", traits, re.M))
 
 

@@ -8,8 +8,8 @@ use zugyelmas::{Castable, ConversionError};
 /// Each number of a word of 8 bits, or some of a wider one, its ends and those beside 0 among them.
 fn numbers<T: Castable>() -> Vec<T> {
     let (least, most) = (T::MIN.to_wide(), T::MAX.to_wide());
-    let step = ((most - least) / 255).max(1) as usize;
-    let some = (least..=most).step_by(step);
+    let step = ((most - least) / 255).max(1);
+    let some = (0..=255).map(|i| least + i * step);
     let beside = [least, most, -2, -1, 0, 1, 2].into_iter();
     let numbers = some.chain(beside.filter(|number| (least..=most).contains(number)));
     numbers.map(T::from_wide).collect()

@@ -298,7 +298,8 @@ fn infinities_are_held_at_their_ends() {
 
 #[test]
 fn floats_out_are_those_of_the_language() {
-    for bits in (i64::MIN..=i64::MAX).step_by((1 << 44) + 12345) {
+    let step = |bits: &i64| bits.checked_add((1 << 44) + 12345);
+    for bits in std::iter::successors(Some(i64::MIN), step) {
         let number = FixedI64::<20>::from_bits(bits);
         assert_eq!(number.to_float::<f64>(), bits as f64 / 1048576.0);
         assert_eq!(number.to_float::<f32>(), bits as f32 / 1048576.0);
