@@ -4,12 +4,13 @@
 
 use zugyelmas::prelude::*;
 
+const GAIN: FixedI32<16> = FixedI32::lit("1.5"); // 98304 units of 1/65536
+
 fn main() {
-    let gain = FixedI32::<16>::from_num(1.5); // 98304 units of 1/65536
     let level = FixedI32::<16>::from_num(2);
-    println!("{:?}", gain.checked_mul(level)); // the exact result fits
+    println!("{:?}", GAIN.checked_mul(level)); // the exact result fits
     println!("{}", level.saturating_mul_int(1_000_000)); // the largest number
     let tenth: FixedI32<16> = "0.1".parse().expect("a decimal"); // 6554 units, the nearest
     println!("{tenth} {tenth:.6}");
-    println!("{}", gain * level + 2 * level);
+    println!("{}", GAIN * level + 2 * level);
 }
