@@ -1,13 +1,14 @@
 /* Every pair of operands of 8 bits, for each operation of the face for C at three fractions, against a plain
- * computation in 64 bits; bad fractions, zero divisors and negative roots by their codes. Intervals over samples of
- * ends, and polynomials and filters over arrays that are drawn, against plain loops; each code. By every word, null
+ * computation in 64 bits, with each rounding; bad fractions, zero divisors and negative roots by their codes. Numbers of
+ * other formats and doubles into 8 bits, and numbers of every word as doubles. Intervals over samples of ends, and polynomials and filters over arrays that are drawn, against plain loops; each code. By every word, null
  * pointers to arrays whose count is 0. From the top:
  *
- *     cc -O2 -Wall -Wextra -Iinclude -o /tmp/face checks/face.c LIBRARY && /tmp/face
+ *     cc -O2 -Wall -Wextra -Iinclude -o /tmp/face checks/face.c LIBRARY -lm && /tmp/face
  *
  * LIBRARY is crates/fixed_c/out/libfixed_c.a, which `rt lib` in crates/fixed_c makes, or target/release/libfixed_c.a
  * of the Cargo package in rust/c. */
 #include "fixed.h"
+#include <math.h>
 #include <stdio.h>
 
 static long compared;
@@ -91,9 +92,22 @@ static struct exact sum_of_product(int64_t c, int64_t a, int64_t b, int32_t plac
 /* The fractions that are tried: three, and one past the width. */
 static const uint32_t fractions[] = {0, 5, 8, 9};
 
+/* The roundings, and a number that none has. */
+static const uint32_t roundings[] = {FIXED_DOWN, FIXED_TOWARD_ZERO, FIXED_NEAREST_EVEN, 3};
+
+/* x over d, rounded, for d not 0. */
+static int64_t rounded(int64_t x, int64_t d, uint32_t rounding) {
+  const int64_t above = d < 0 ? -d : d, number = d < 0 ? -x : x;
+  const int64_t down = floor_of(number, above), twice = 2 * (number - down * above);
+  if (rounding == FIXED_DOWN) return down;
+  if (rounding == FIXED_TOWARD_ZERO) return x / d;
+  return down + (twice > above || (twice == above && down % 2 != 0));
+}
+
 #define PAST(f) ((f) > 8)
 #define AT(f, exact) (PAST(f) ? code(FIXED_FRACTION_PAST_WIDTH) : (exact))
 #define BY(d, exact) ((d) == 0 ? code(FIXED_ZERO_DIVISOR) : number(exact))
+#define WITH(r, exact) ((r) == 3 ? code(FIXED_NO_ROUNDING) : (exact))
 
 /* One call, whose result is filled with other numbers before. */
 #define CALL(name, operation, exact, ...)                                                                          \
@@ -117,6 +131,10 @@ static const uint32_t fractions[] = {0, 5, 8, 9};
         const uint32_t f = fractions[i];                                                                           \
         CALL(name, recip, AT(f, BY(x, power(2 * f) / x)), a, f);                                                   \
         CALL(name, sqrt, AT(f, root(x, f)), a, f);                                                                 \
+        for (int k = 0; k < 4; k++) {                                                                              \
+          const uint32_t r = roundings[k];                                                                         \
+          CALL(name, recip_round, AT(f, WITH(r, BY(x, rounded(power(2 * f), x, r)))), a, f, r);                    \
+        }                                                                                                          \
       }                                                                                                            \
       ONE_SIGN                                                                                                     \
       for (int64_t y = least; y <= greatest; y++) {                                                                \
@@ -129,6 +147,21 @@ static const uint32_t fractions[] = {0, 5, 8, 9};
         CALL(name, rem, BY(y, x % y), a, b);                                                                       \
         CALL(name, rem_euclid, BY(y, least_rest(x, y)), a, b);                                                     \
         CALL(name, next_multiple_of, y == 0 ? code(FIXED_ZERO_DIVISOR) : multiple(x, y), a, b);                    \
+        for (int i = 0; i < 16; i++) {                                                                             \
+          const uint32_t f = fractions[i / 4], r = roundings[i % 4];                                               \
+          CALL(name, mul_round, AT(f, WITH(r, number(rounded(x * y, power(f), r)))), a, b, f, r);                  \
+          CALL(name, mul_add_round, AT(f, WITH(r, number(rounded(x * y, power(f), r) + 7))), a, b, 7, f, r);       \
+          CALL(name, div_round, AT(f, WITH(r, BY(y, rounded(x * power(f), y, r)))), a, b, f, r);                   \
+          CALL(name, div_int_round, WITH(r, BY(y, rounded(x, y, r))), a, b, r);                                    \
+          for (int k = 0; k < 4; k++) {                                                                            \
+            const uint32_t g = fractions[k];                                                                       \
+            const int32_t by = (int32_t)(g + 5) - (int32_t)f;                                                      \
+            const int64_t moved = by < 0 ? x * y * power((uint32_t)-by) : rounded(x * y, power((uint32_t)by), r);  \
+            CALL(name, add_prod_round,                                                                             \
+                 PAST(f) || PAST(g) ? code(FIXED_FRACTION_PAST_WIDTH) : WITH(r, number(moved + 9)), 9, a, b, f, g, \
+                 5, r);                                                                                            \
+          }                                                                                                        \
+        }                                                                                                          \
         for (int i = 0; i < 4; i++) {                                                                              \
           const uint32_t f = fractions[i];                                                                         \
           CALL(name, mul, AT(f, number(floor_of(x * y, power(f)))), a, b, f);                                      \
@@ -184,6 +217,73 @@ CHECK(fixed_i8, int8_t, INT8_MIN, INT8_MAX,
         CALL(fixed_i8, signum, AT(f, number(x < 0 ? -power(f) : x > 0 ? power(f) : 0)), a, f);
       })
 CHECK(fixed_u8, uint8_t, 0, UINT8_MAX, CALL(fixed_u8, next_power_of_two, power_of_two(x), a);)
+
+/* Draws, the same in each run. */
+static uint64_t state = 88172645463325252u;
+
+static int64_t draw(int64_t from, int64_t to) {
+  state ^= state << 13, state ^= state >> 7, state ^= state << 17;
+  return from + (int64_t)(state % (uint64_t)(to - from + 1));
+}
+
+/* Numbers of other formats and doubles, into words of 8 bits. */
+#define CHECK_CONVERSIONS(name, word, from_end, to_end)                                                            \
+  static void check_conversions_##name(void) {                                                                     \
+    const int64_t least = from_end, greatest = to_end;                                                             \
+    const uint32_t froms[] = {0, 3, 8, 20, 40, 64, 65};                                                            \
+    for (int i = 0; i < 4; i++) {                                                                                  \
+      const uint32_t f = fractions[i];                                                                             \
+      for (int k = 0; k < 4; k++) {                                                                                \
+        const uint32_t r = roundings[k];                                                                           \
+        for (int64_t x = -70000; x <= 70000; x++) {                                                                \
+          const double d = (double)x / 512;                                                                        \
+          CALL(name, from_double, AT(f, WITH(r, number(rounded(x * power(f), 512, r)))), d, f, r);                 \
+          for (int g = 0; g < 7; g++) {                                                                            \
+            const uint32_t p = froms[g];                                                                           \
+            const int64_t want = p >= 64 ? (r == FIXED_DOWN && x < 0 ? -1 : 0) : rounded(x * power(f), power(p), r); \
+            CALL(name, convert, p > 64 ? code(FIXED_FRACTION_PAST_WIDTH) : AT(f, WITH(r, number(want))), x, p, f, r); \
+            if (x < 0) continue;                                                                                   \
+            CALL(name, convert_unsigned, p > 64 ? code(FIXED_FRACTION_PAST_WIDTH) : AT(f, WITH(r, number(want))),  \
+                 (uint64_t)x, p, f, r);                                                                            \
+          }                                                                                                        \
+        }                                                                                                          \
+        CALL(name, from_double, AT(f, WITH(r, code(FIXED_NOT_FINITE))), HUGE_VAL, f, r);                           \
+        CALL(name, from_double, AT(f, WITH(r, code(FIXED_NOT_FINITE))), -HUGE_VAL, f, r);                          \
+        CALL(name, from_double, AT(f, WITH(r, code(FIXED_NOT_FINITE))), NAN, f, r);                                \
+        CALL(name, from_double, AT(f, WITH(r, number(r == FIXED_DOWN ? -1 : 0))), -5e-324, f, r);                  \
+        CALL(name, from_double, AT(f, WITH(r, number(INT64_C(1) << 61))), 1e300, f, r);                            \
+      }                                                                                                            \
+    }                                                                                                              \
+  }
+
+CHECK_CONVERSIONS(fixed_i8, int8_t, INT8_MIN, INT8_MAX)
+CHECK_CONVERSIONS(fixed_u8, uint8_t, 0, UINT8_MAX)
+
+/* Numbers of every word as doubles: C converts an integer to the nearest double, and a power of two divides exactly. */
+#define CHECK_DOUBLES(name, word, width)                                                                           \
+  static void check_doubles_##name(void) {                                                                         \
+    for (int tried = 0; tried < 200000; tried++) {                                                                 \
+      const word a = (word)((uint64_t)draw(INT64_MIN / 4, INT64_MAX / 4) * 7 >> (tried % 64));                     \
+      const uint32_t f = (uint32_t)draw(0, width + 1);                                                             \
+      const int32_t want = f > width ? FIXED_FRACTION_PAST_WIDTH : FIXED_OK;                                       \
+      double value = 77;                                                                                           \
+      const int32_t got = name##_to_double(a, f, &value);                                                          \
+      compared++;                                                                                                  \
+      if (got != want || value != (want == FIXED_OK ? ldexp((double)a, -(int)f) : 77)) {                           \
+        printf(#name "_to_double: code %d, %a\n", (int)got, value);                                                \
+        exit(1);                                                                                                   \
+      }                                                                                                            \
+    }                                                                                                              \
+  }
+
+CHECK_DOUBLES(fixed_i8, int8_t, 8)
+CHECK_DOUBLES(fixed_i16, int16_t, 16)
+CHECK_DOUBLES(fixed_i32, int32_t, 32)
+CHECK_DOUBLES(fixed_i64, int64_t, 64)
+CHECK_DOUBLES(fixed_u8, uint8_t, 8)
+CHECK_DOUBLES(fixed_u16, uint16_t, 16)
+CHECK_DOUBLES(fixed_u32, uint32_t, 32)
+CHECK_DOUBLES(fixed_u64, uint64_t, 64)
 
 /* Ends without a bound, or a code. */
 struct exact_ends {
@@ -241,14 +341,6 @@ static void compare_ends(const char *call, int exchanged, int32_t undefined, str
 static struct exact_ends plain_ends(int64_t low, int64_t high) {
   struct exact_ends e = {FIXED_OK, low, high};
   return e;
-}
-
-/* Draws, the same in each run. */
-static uint64_t state = 88172645463325252u;
-
-static int64_t draw(int64_t from, int64_t to) {
-  state ^= state << 13, state ^= state >> 7, state ^= state << 17;
-  return from + (int64_t)(state % (uint64_t)(to - from + 1));
 }
 
 #define MOST 6
@@ -392,6 +484,9 @@ int main(void) {
   check_null_fixed_u8(), check_null_fixed_u16(), check_null_fixed_u32(), check_null_fixed_u64();
   check_fixed_i8();
   check_fixed_u8();
+  check_conversions_fixed_i8(), check_conversions_fixed_u8();
+  check_doubles_fixed_i8(), check_doubles_fixed_i16(), check_doubles_fixed_i32(), check_doubles_fixed_i64();
+  check_doubles_fixed_u8(), check_doubles_fixed_u16(), check_doubles_fixed_u32(), check_doubles_fixed_u64();
   check_ends_fixed_i8(), check_ends_fixed_u8();
   check_horner_fixed_i8(), check_horner_fixed_u8();
   check_filter_fixed_i8(), check_filter_fixed_u8();

@@ -45,7 +45,16 @@ enum {
   FIXED_ENDS_EXCHANGED = 4,      /* the low end of an interval is above its high one */
   FIXED_OUT_OF_RANGE = 5,        /* an end, the value of a step or a partial sum does not fit the word */
   FIXED_NO_ELEMENT = 6,          /* there is no coefficient, or no tap */
-  FIXED_COUNTS_DIFFER = 7        /* there are not as many past samples as taps */
+  FIXED_COUNTS_DIFFER = 7,       /* there are not as many past samples as taps */
+  FIXED_NO_ROUNDING = 8,         /* no rounding has the number */
+  FIXED_NOT_FINITE = 9           /* the double is a NaN or an infinity */
+};
+
+/* How a number between two units is rounded, where a call takes a rounding. */
+enum {
+  FIXED_DOWN = 0,        /* to the unit below */
+  FIXED_TOWARD_ZERO = 1, /* to the unit nearer to 0 */
+  FIXED_NEAREST_EVEN = 2 /* to the nearest unit, and to the even one if two are as near */
 };
 
 /* Where the exact number lies beside the range of the word. */
@@ -103,6 +112,33 @@ enum {
   int32_t name##_next_multiple_of(word a, word b, name *result);                                                   \
   /* the root of a 2^frac, rounded down; FIXED_NEGATIVE_ROOT where a is below 0 */                                 \
   int32_t name##_sqrt(word a, uint32_t frac, name *result);
+
+/* The operations that round, with a rounding of the caller's choice. A fraction that is too large returns
+ * FIXED_FRACTION_PAST_WIDTH, then a number that no rounding has FIXED_NO_ROUNDING, and then a divisor of 0
+ * FIXED_ZERO_DIVISOR. */
+#define FIXED_ROUNDED_CALLS(name, word)                                                                            \
+  /* a b / 2^frac, rounded; a mul / 2^mul_frac, rounded, plus add */                                               \
+  int32_t name##_mul_round(word a, word b, uint32_t frac, uint32_t rounding, name *result);                        \
+  int32_t name##_mul_add_round(word a, word mul, word add, uint32_t mul_frac, uint32_t rounding, name *result);    \
+  /* c plus the product of a and b, which is brought to the fraction of c and rounded */                           \
+  int32_t name##_add_prod_round(word c, word a, word b, uint32_t c_frac, uint32_t a_frac, uint32_t b_frac,         \
+                                uint32_t rounding, name *result);                                                  \
+  /* a 2^frac / b, rounded; a / k, rounded; 2^(2 frac) / a, rounded */                                             \
+  int32_t name##_div_round(word a, word b, uint32_t frac, uint32_t rounding, name *result);                        \
+  int32_t name##_div_int_round(word a, word k, uint32_t rounding, name *result);                                   \
+  int32_t name##_recip_round(word a, uint32_t frac, uint32_t rounding, name *result);
+
+/* Numbers in and out. A fraction that is too large returns FIXED_FRACTION_PAST_WIDTH, and then a number that no rounding
+ * has FIXED_NO_ROUNDING. */
+#define FIXED_CONVERSIONS(name, word)                                                                              \
+  /* number / 2^from in units of 2^-to, rounded. The number is that of any signed word, or of any unsigned one;    \
+   * `from` is at most 64, and an integer has `from` 0 */                                                          \
+  int32_t name##_convert(int64_t number, uint32_t from, uint32_t to, uint32_t rounding, name *result);             \
+  int32_t name##_convert_unsigned(uint64_t number, uint32_t from, uint32_t to, uint32_t rounding, name *result);   \
+  /* the double in units of 2^-frac, rounded; FIXED_NOT_FINITE for a NaN and the infinities */                     \
+  int32_t name##_from_double(double number, uint32_t frac, uint32_t rounding, name *result);                       \
+  /* the double nearest to a / 2^frac, and of two as near the one whose last bit is 0, is left in *value */        \
+  int32_t name##_to_double(word a, uint32_t frac, double *value);
 
 /* The intervals of every word: what an operation makes of any number in `a` and any in `b` lies in the result, whose
  * ends are rounded outward and as near as the word allows. Ends are units of 2^-frac. A fraction past the width returns
@@ -174,6 +210,8 @@ enum {
   FIXED_RESULT(name, word)                        \
   FIXED_INTERVAL(name, word)                      \
   FIXED_CALLS(name, word)                         \
+  FIXED_ROUNDED_CALLS(name, word)                 \
+  FIXED_CONVERSIONS(name, word)                   \
   FIXED_INTERVAL_CALLS(name, word)                \
   FIXED_ARRAY_CALLS(name, word)                   \
   FIXED_SIGNED_CALLS(name, word)                  \
@@ -183,6 +221,8 @@ enum {
   FIXED_RESULT(name, word)                   \
   FIXED_INTERVAL(name, word)                 \
   FIXED_CALLS(name, word)                    \
+  FIXED_ROUNDED_CALLS(name, word)            \
+  FIXED_CONVERSIONS(name, word)              \
   FIXED_INTERVAL_CALLS(name, word)           \
   FIXED_ARRAY_CALLS(name, word)              \
   FIXED_UNSIGNED_CALLS(name, word)           \

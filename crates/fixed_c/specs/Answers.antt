@@ -5,7 +5,7 @@ use Rattle.fixed_word.specs.declared.outcome.Side.TheVariants.{Fits, Above, Belo
 use Rattle.fixed_word.specs.Format.{wrap}
 use Rattle.fixed_word.specs.Standing.{side_of}
 use Rattle.fixed_c.specs.declared.answer.Code.{Code}
-use Rattle.fixed_c.specs.declared.answer.Code.TheVariants.{FractionPastWidth, ZeroDivisor, NegativeRoot, EndsExchanged, OutOfRange, NoElement, CountsDiffer}
+use Rattle.fixed_c.specs.declared.answer.Code.TheVariants.{FractionPastWidth, ZeroDivisor, NegativeRoot, EndsExchanged, OutOfRange, NoElement, CountsDiffer, NoRounding, NotFinite}
 
 -- the numbers of codes and of sides
 abbrev pub code_number : Code → ℤ
@@ -16,6 +16,8 @@ code_number EndsExchanged = pos 4
 code_number OutOfRange = pos 5
 code_number NoElement = pos 6
 code_number CountsDiffer = pos 7
+code_number NoRounding = pos 8
+code_number NotFinite = pos 9
 
 abbrev pub side_number : Side → ℤ
 side_number Fits = pos 0
@@ -39,3 +41,8 @@ Left T = T × ℤ
 unfoldable pub CallAnswers : {T : Type 0} (value : T → ℤ) (signed : Bool) (n : ℕ) → Result ℤ Code → Left T → Left T → ℤ → Type 0
 CallAnswers value signed n (Ok x) old new code = (code ≡ pos 0) × (value new.0 ≡ wrap signed n x) × (new.1 ≡ side_number (side_of signed n x))
 CallAnswers value signed n (Err refusal) old new code = (code ≡ code_number refusal) × (new ≡ old)
+
+-- the call returns 0 and leaves the value, or returns the code and leaves the value as it was
+unfoldable pub ValueAnswers : {V : Type 0} → Result V Code → V → V → ℤ → Type 0
+ValueAnswers (Ok v) old new code = (code ≡ pos 0) × (new ≡ v)
+ValueAnswers (Err refusal) old new code = (code ≡ code_number refusal) × (new ≡ old)

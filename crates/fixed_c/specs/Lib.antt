@@ -4,3 +4,5 @@ pub mod Places
 pub mod Polynomials
 pub mod Filters
 pub mod Words
+pub mod Roundings
+pub mod inside

@@ -12,16 +12,19 @@
 
 mod answer;
 mod arrays;
+mod calls;
+mod conversions;
 mod intervals;
-mod powers;
+mod one_sign;
 mod products;
 mod quotients;
 mod remainders;
+mod roots;
+mod rounded;
 mod signed_16;
 mod signed_32;
 mod signed_64;
 mod signed_8;
-mod sums;
 mod unsigned_16;
 mod unsigned_32;
 mod unsigned_64;

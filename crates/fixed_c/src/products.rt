@@ -1,55 +1,38 @@
 //! Products, rounded down.
-#![tactic(auto, unfolding(crate::specs::Answers::CallAnswers, crate::specs::Answers::at_fraction))]
+#![tactic(auto, unfolding(crate::specs::inside::Calls::IsResultOf, crate::specs::Answers::at_fraction))]
 
-ghost use Rattle.std.specs.Prelude.{◌≡◌, ◌≤◌, Ok, ◌*ℤ◌};
+ghost use Rattle.std.specs.Prelude.{◌≡◌, ◌≤◌, Ok};
 ghost use Rattle.fixed_word.specs.Standing.{StandsFor};
 ghost use Rattle.fixed_kernel.specs.Rows.{exact_add_prod, exact_mul, exact_mul_add};
-ghost use Rattle.fixed_c.specs.Answers.{CallAnswers, at_fraction};
+ghost use Rattle.fixed_c.specs.Answers.{at_fraction};
+ghost use Rattle.fixed_c.specs.inside.Calls.{IsResultOf};
 
-use crate::answer::{Code, leave};
-use fixed_kernel::{add_prod_of, mul_add_of, mul_int_of, mul_of};
+use crate::answer::Code;
+use fixed_kernel::{add_prod_of, mul_add_of, mul_of};
 use fixed_word::{Outcome, Word};
 
 /// `a b / 2^frac`, rounded down.
 #[inline]
-pub(crate) fn mul<T: Word>(a: T, b: T, frac: u32, bits: &mut T, side: &mut i32) -> i32
-    ensures { CallAnswers T.value T.SIGNED T.BITS
-        (at_fraction T.BITS frac (Ok (exact_mul (T.value a) (T.value b) frac)))
-        (bits.old, side.old) (bits.new, side.new) result }
+pub(crate) fn mul<T: Word>(a: T, b: T, frac: u32) -> Result<Outcome<T>, Code>
+    ensures { IsResultOf T.value T.SIGNED T.BITS
+        (at_fraction T.BITS frac (Ok (exact_mul (T.value a) (T.value b) frac))) result }
 {
     if frac > T::BITS {
-        return Code::FractionPastWidth.number();
+        return Err(Code::FractionPastWidth);
     }
-    leave(mul_of(a, b, frac), bits, side)
-}
-
-/// `a k`, for an integer `k`.
-#[inline]
-pub(crate) fn mul_int<T: Word>(a: T, k: T, bits: &mut T, side: &mut i32) -> i32
-    ensures { CallAnswers T.value T.SIGNED T.BITS
-        (Ok (T.value a *ℤ T.value k)) (bits.old, side.old) (bits.new, side.new) result }
-{
-    leave(mul_int_of(a, k), bits, side)
+    Ok(mul_of(a, b, frac))
 }
 
 /// `a mul / 2^mul_frac`, rounded down, plus `add`.
 #[inline]
-pub(crate) fn mul_add<T: Word>(
-    a: T,
-    mul: T,
-    add: T,
-    mul_frac: u32,
-    bits: &mut T,
-    side: &mut i32,
-) -> i32
-    ensures { CallAnswers T.value T.SIGNED T.BITS
-        (at_fraction T.BITS mul_frac (Ok (exact_mul_add (T.value a) (T.value mul) (T.value add) mul_frac)))
-        (bits.old, side.old) (bits.new, side.new) result }
+pub(crate) fn mul_add<T: Word>(a: T, mul: T, add: T, mul_frac: u32) -> Result<Outcome<T>, Code>
+    ensures { IsResultOf T.value T.SIGNED T.BITS
+        (at_fraction T.BITS mul_frac (Ok (exact_mul_add (T.value a) (T.value mul) (T.value add) mul_frac))) result }
 {
     if mul_frac > T::BITS {
-        return Code::FractionPastWidth.number();
+        return Err(Code::FractionPastWidth);
     }
-    leave(mul_add_of(a, mul, add, mul_frac), bits, side)
+    Ok(mul_add_of(a, mul, add, mul_frac))
 }
 
 /// `c` plus the product of `a` and `b`, each of a fraction of its own; the product is brought to that of `c` and
@@ -62,19 +45,16 @@ pub(crate) fn add_prod<T: Word>(
     c_frac: u32,
     a_frac: u32,
     b_frac: u32,
-    bits: &mut T,
-    side: &mut i32,
-) -> i32
-    ensures { CallAnswers T.value T.SIGNED T.BITS
+) -> Result<Outcome<T>, Code>
+    ensures { IsResultOf T.value T.SIGNED T.BITS
         (at_fraction T.BITS c_frac (at_fraction T.BITS a_frac (at_fraction T.BITS b_frac
-        (Ok (exact_add_prod (T.value c) (T.value a) (T.value b) c_frac a_frac b_frac)))))
-        (bits.old, side.old) (bits.new, side.new) result }
+        (Ok (exact_add_prod (T.value c) (T.value a) (T.value b) c_frac a_frac b_frac))))) result }
 {
     if c_frac > T::BITS || a_frac > T::BITS || b_frac > T::BITS {
-        return Code::FractionPastWidth.number();
+        return Err(Code::FractionPastWidth);
     }
     let outcome = sum_of_product(c, a, b, c_frac, a_frac, b_frac);
-    leave(outcome, bits, side)
+    Ok(outcome)
 }
 
 /// The outcome of a sum of a product. Products that move down by at most the width, as they mostly do, move in one

@@ -1,84 +1,80 @@
 //! Remainders and multiples.
-#![tactic(auto, unfolding(crate::specs::Answers::CallAnswers, crate::specs::Answers::at_fraction, crate::specs::Answers::row_or))]
+#![tactic(auto, unfolding(crate::specs::inside::Calls::IsResultOf, crate::specs::Answers::at_fraction, crate::specs::Answers::row_or))]
 
 ghost use Rattle.std.specs.Prelude.{◌≡◌};
 ghost use Rattle.fixed_word.specs.Quotient.{euclidean_remainder};
 ghost use Rattle.fixed_kernel.specs.Rows.{by_divisor, exact_next_multiple_of, exact_rem, units};
 ghost use Rattle.fixed_c.specs.declared.answer.Code.TheVariants.{ZeroDivisor};
-ghost use Rattle.fixed_c.specs.Answers.{CallAnswers, at_fraction, row_or};
+ghost use Rattle.fixed_c.specs.Answers.{at_fraction, row_or};
+ghost use Rattle.fixed_c.specs.inside.Calls.{IsResultOf};
 
-use crate::answer::{Code, leave};
+use crate::answer::Code;
 use fixed_kernel::{next_multiple_of_of, rem_euclid_int_of, rem_euclid_of, rem_int_of, rem_of};
-use fixed_word::Word;
+use fixed_word::{Outcome, Word};
 
 /// `a - b q`, with the quotient q of `a` and `b` rounded toward zero.
 #[inline]
-pub(crate) fn rem<T: Word>(a: T, b: T, bits: &mut T, side: &mut i32) -> i32
-    ensures { CallAnswers T.value T.SIGNED T.BITS
-        (row_or ZeroDivisor (by_divisor (T.value b) (exact_rem (T.value a) (T.value b))))
-        (bits.old, side.old) (bits.new, side.new) result }
+pub(crate) fn rem<T: Word>(a: T, b: T) -> Result<Outcome<T>, Code>
+    ensures { IsResultOf T.value T.SIGNED T.BITS
+        (row_or ZeroDivisor (by_divisor (T.value b) (exact_rem (T.value a) (T.value b)))) result }
 {
     if b == T::ZERO {
-        return Code::ZeroDivisor.number();
+        return Err(Code::ZeroDivisor);
     }
-    leave(rem_of(a, b), bits, side)
+    Ok(rem_of(a, b))
 }
 
 /// `a - d q` for `d = k 2^frac`, with the quotient q of `a` and d rounded toward zero.
 #[inline]
-pub(crate) fn rem_int<T: Word>(a: T, k: T, frac: u32, bits: &mut T, side: &mut i32) -> i32
-    ensures { CallAnswers T.value T.SIGNED T.BITS
-        (at_fraction T.BITS frac (row_or ZeroDivisor (by_divisor (T.value k) (exact_rem (T.value a) (units (T.value k) frac)))))
-        (bits.old, side.old) (bits.new, side.new) result }
+pub(crate) fn rem_int<T: Word>(a: T, k: T, frac: u32) -> Result<Outcome<T>, Code>
+    ensures { IsResultOf T.value T.SIGNED T.BITS
+        (at_fraction T.BITS frac (row_or ZeroDivisor (by_divisor (T.value k) (exact_rem (T.value a) (units (T.value k) frac))))) result }
 {
     if frac > T::BITS {
-        return Code::FractionPastWidth.number();
+        return Err(Code::FractionPastWidth);
     }
     if k == T::ZERO {
-        return Code::ZeroDivisor.number();
+        return Err(Code::ZeroDivisor);
     }
-    leave(rem_int_of(a, k, frac), bits, side)
+    Ok(rem_int_of(a, k, frac))
 }
 
 /// The remainder of the Euclidean pair of `a` and `b`.
 #[inline]
-pub(crate) fn rem_euclid<T: Word>(a: T, b: T, bits: &mut T, side: &mut i32) -> i32
-    ensures { CallAnswers T.value T.SIGNED T.BITS
-        (row_or ZeroDivisor (by_divisor (T.value b) (euclidean_remainder (T.value a) (T.value b))))
-        (bits.old, side.old) (bits.new, side.new) result }
+pub(crate) fn rem_euclid<T: Word>(a: T, b: T) -> Result<Outcome<T>, Code>
+    ensures { IsResultOf T.value T.SIGNED T.BITS
+        (row_or ZeroDivisor (by_divisor (T.value b) (euclidean_remainder (T.value a) (T.value b)))) result }
 {
     if b == T::ZERO {
-        return Code::ZeroDivisor.number();
+        return Err(Code::ZeroDivisor);
     }
-    leave(rem_euclid_of(a, b), bits, side)
+    Ok(rem_euclid_of(a, b))
 }
 
 /// The remainder of the Euclidean pair of `a` and `k 2^frac`.
 #[inline]
-pub(crate) fn rem_euclid_int<T: Word>(a: T, k: T, frac: u32, bits: &mut T, side: &mut i32) -> i32
-    ensures { CallAnswers T.value T.SIGNED T.BITS
-        (at_fraction T.BITS frac (row_or ZeroDivisor (by_divisor (T.value k) (euclidean_remainder (T.value a) (units (T.value k) frac)))))
-        (bits.old, side.old) (bits.new, side.new) result }
+pub(crate) fn rem_euclid_int<T: Word>(a: T, k: T, frac: u32) -> Result<Outcome<T>, Code>
+    ensures { IsResultOf T.value T.SIGNED T.BITS
+        (at_fraction T.BITS frac (row_or ZeroDivisor (by_divisor (T.value k) (euclidean_remainder (T.value a) (units (T.value k) frac))))) result }
 {
     if frac > T::BITS {
-        return Code::FractionPastWidth.number();
+        return Err(Code::FractionPastWidth);
     }
     if k == T::ZERO {
-        return Code::ZeroDivisor.number();
+        return Err(Code::ZeroDivisor);
     }
-    leave(rem_euclid_int_of(a, k, frac), bits, side)
+    Ok(rem_euclid_int_of(a, k, frac))
 }
 
 /// The least multiple of `b` that is at least `a` where `b` is above 0, and the greatest that is at most `a`
 /// where `b` is below 0.
 #[inline]
-pub(crate) fn next_multiple_of<T: Word>(a: T, b: T, bits: &mut T, side: &mut i32) -> i32
-    ensures { CallAnswers T.value T.SIGNED T.BITS
-        (row_or ZeroDivisor (by_divisor (T.value b) (exact_next_multiple_of (T.value a) (T.value b))))
-        (bits.old, side.old) (bits.new, side.new) result }
+pub(crate) fn next_multiple_of<T: Word>(a: T, b: T) -> Result<Outcome<T>, Code>
+    ensures { IsResultOf T.value T.SIGNED T.BITS
+        (row_or ZeroDivisor (by_divisor (T.value b) (exact_next_multiple_of (T.value a) (T.value b)))) result }
 {
     if b == T::ZERO {
-        return Code::ZeroDivisor.number();
+        return Err(Code::ZeroDivisor);
     }
-    leave(next_multiple_of_of(a, b), bits, side)
+    Ok(next_multiple_of_of(a, b))
 }

@@ -1,28 +1,83 @@
 //! The calls of `i32`.
 
-ghost use Rattle.std.specs.Prelude.{◌≡◌, Ok, true, neg_ℤ, ◌*ℤ◌, ◌+ℤ◌, ◌-ℤ◌};
+ghost use Rattle.std.specs.Prelude.{◌≡◌, ℤ, Result, Ok, true, pos, neg_ℤ, ◌*ℤ◌, ◌+ℤ◌, ◌-ℤ◌};
+ghost use Rattle.std.specs.Float.{binary64};
 ghost use Rattle.fixed_word.specs.Quotient.{euclidean_remainder, truncated_quotient};
 ghost use Rattle.fixed_kernel.specs.Root.{root_of};
+ghost use Rattle.fixed_kernel.specs.Rounded.{rounded};
+ghost use Rattle.fixed_kernel.specs.RoundedRows.{rounded_add_prod, rounded_div, rounded_mul, rounded_mul_add, rounded_recip};
 ghost use Rattle.fixed_kernel.specs.Rows.{by_divisor, by_sign, exact_abs, exact_add_prod, exact_div, exact_div_euclid, exact_mul, exact_mul_add, exact_next_multiple_of, exact_recip, exact_rem, exact_signum, units};
-ghost use Rattle.fixed_c.specs.declared.answer.Code.TheVariants.{ZeroDivisor, NegativeRoot};
-ghost use Rattle.fixed_c.specs.Answers.{at_fraction, row_or};
+ghost use Rattle.fixed_convert.specs.Convert.{rounded_convert};
+ghost use Rattle.fixed_float.specs.Rows.{nearest_float, units_of_float};
+ghost use Rattle.fixed_c.specs.declared.answer.Code.{Code};
+ghost use Rattle.fixed_c.specs.declared.answer.Code.TheVariants.{ZeroDivisor, NegativeRoot, NotFinite};
+ghost use Rattle.fixed_c.specs.Answers.{ValueAnswers, at_fraction, row_or};
+ghost use Rattle.fixed_c.specs.inside.Calls.{IsResultOf, given};
 ghost use Rattle.fixed_c.specs.Filters.{filter_of, fractions, output_in, past_after};
 ghost use Rattle.fixed_c.specs.Intervals.{difference_in, from_to, product_in, quotient_in, root_in, sum_in};
 ghost use Rattle.fixed_c.specs.Places.{PlaceAnswers};
 ghost use Rattle.fixed_c.specs.Polynomials.{horner_in};
+ghost use Rattle.fixed_c.specs.Roundings.{at_rounding};
 ghost use Rattle.fixed_c.specs.Words.{AnswersI32, EndsI32Answers};
 
-use crate::answer::AnswerI32;
-use crate::intervals::EndsI32;
-use crate::{arrays, intervals, powers, products, quotients, remainders, sums};
+use crate::answer::{Code, side_of};
+use crate::calls::{Call, result_of};
+use crate::{arrays, conversions, intervals, one_sign};
 use fixed_filter::Shape;
+use fixed_word::Outcome;
+
+/// What a call leaves where its code is 0.
+#[repr(C)]
+#[derive(Clone, Copy)]
+pub struct AnswerI32 {
+    /// What is left of the number in the word.
+    pub bits: i32,
+    /// Where the number lies: 0 where it fits, 1 above the greatest value, -1 below the least.
+    pub side: i32,
+}
+
+/// What a call over intervals leaves where its code is 0.
+#[repr(C)]
+#[derive(Clone, Copy)]
+pub struct EndsI32 {
+    /// The least number.
+    pub low: i32,
+    /// The greatest number.
+    pub high: i32,
+}
+
+impl AnswerI32 {
+    /// Leaves the outcome, and returns 0; or returns the number of the code.
+    #[inline]
+    #[tactic(auto, unfolding(crate::specs::Answers::CallAnswers, crate::specs::inside::Calls::IsResultOf))]
+    fn leave(&mut self, answer: Result<Outcome<i32>, Code>) -> i32
+        ensures { (given : Result ℤ Code) → IsResultOf (λ x. x) true 32 given answer → AnswersI32 given self.old self.new result }
+    {
+        match answer {
+            Ok(outcome) => {
+                self.bits = outcome.wrapped;
+                self.side = side_of(outcome.side);
+                0
+            }
+            Err(code) => code.number(),
+        }
+    }
+
+    /// Takes a call, and leaves its outcome likewise.
+    #[inline(always)]
+    fn take(&mut self, call: Call<i32>) -> i32
+        ensures { AnswersI32 (given (λ x. x) 32 call) self.old self.new result }
+    {
+        self.leave(result_of(call))
+    }
+}
 
 /// `-a`
 #[unsafe(no_mangle)]
 pub extern "C" fn fixed_i32_neg(a: i32, answer: &mut AnswerI32) -> i32
     ensures { AnswersI32 (Ok (neg_ℤ a)) answer.old answer.new result }
 {
-    sums::neg(a, &mut answer.bits, &mut answer.side)
+    answer.take(Call::Neg(a))
 }
 
 /// `a + b`
@@ -30,7 +85,7 @@ pub extern "C" fn fixed_i32_neg(a: i32, answer: &mut AnswerI32) -> i32
 pub extern "C" fn fixed_i32_add(a: i32, b: i32, answer: &mut AnswerI32) -> i32
     ensures { AnswersI32 (Ok (a +ℤ b)) answer.old answer.new result }
 {
-    sums::add(a, b, &mut answer.bits, &mut answer.side)
+    answer.take(Call::Add(a, b))
 }
 
 /// `a - b`
@@ -38,7 +93,7 @@ pub extern "C" fn fixed_i32_add(a: i32, b: i32, answer: &mut AnswerI32) -> i32
 pub extern "C" fn fixed_i32_sub(a: i32, b: i32, answer: &mut AnswerI32) -> i32
     ensures { AnswersI32 (Ok (a -ℤ b)) answer.old answer.new result }
 {
-    sums::sub(a, b, &mut answer.bits, &mut answer.side)
+    answer.take(Call::Sub(a, b))
 }
 
 /// The magnitude of `a - b`.
@@ -46,7 +101,7 @@ pub extern "C" fn fixed_i32_sub(a: i32, b: i32, answer: &mut AnswerI32) -> i32
 pub extern "C" fn fixed_i32_dist(a: i32, b: i32, answer: &mut AnswerI32) -> i32
     ensures { AnswersI32 (Ok (exact_abs (a -ℤ b))) answer.old answer.new result }
 {
-    sums::dist(a, b, &mut answer.bits, &mut answer.side)
+    answer.take(Call::Dist(a, b))
 }
 
 /// The magnitude of `a`.
@@ -54,7 +109,7 @@ pub extern "C" fn fixed_i32_dist(a: i32, b: i32, answer: &mut AnswerI32) -> i32
 pub extern "C" fn fixed_i32_abs(a: i32, answer: &mut AnswerI32) -> i32
     ensures { AnswersI32 (Ok (exact_abs a)) answer.old answer.new result }
 {
-    sums::abs(a, &mut answer.bits, &mut answer.side)
+    answer.leave(one_sign::abs(a))
 }
 
 /// One by the sign of `a`: `2^frac`, 0 or `-2^frac`.
@@ -62,7 +117,7 @@ pub extern "C" fn fixed_i32_abs(a: i32, answer: &mut AnswerI32) -> i32
 pub extern "C" fn fixed_i32_signum(a: i32, frac: u32, answer: &mut AnswerI32) -> i32
     ensures { AnswersI32 (at_fraction 32 frac (Ok (exact_signum a frac))) answer.old answer.new result }
 {
-    sums::signum(a, frac, &mut answer.bits, &mut answer.side)
+    answer.leave(one_sign::signum(a, frac))
 }
 
 /// `a b / 2^frac`, rounded down.
@@ -70,7 +125,7 @@ pub extern "C" fn fixed_i32_signum(a: i32, frac: u32, answer: &mut AnswerI32) ->
 pub extern "C" fn fixed_i32_mul(a: i32, b: i32, frac: u32, answer: &mut AnswerI32) -> i32
     ensures { AnswersI32 (at_fraction 32 frac (Ok (exact_mul a b frac))) answer.old answer.new result }
 {
-    products::mul(a, b, frac, &mut answer.bits, &mut answer.side)
+    answer.take(Call::Mul(a, b, frac))
 }
 
 /// `a k`, for an integer `k`.
@@ -78,7 +133,7 @@ pub extern "C" fn fixed_i32_mul(a: i32, b: i32, frac: u32, answer: &mut AnswerI3
 pub extern "C" fn fixed_i32_mul_int(a: i32, k: i32, answer: &mut AnswerI32) -> i32
     ensures { AnswersI32 (Ok (a *ℤ k)) answer.old answer.new result }
 {
-    products::mul_int(a, k, &mut answer.bits, &mut answer.side)
+    answer.take(Call::MulInt(a, k))
 }
 
 /// `a mul / 2^mul_frac`, rounded down, plus `add`.
@@ -94,7 +149,7 @@ pub extern "C" fn fixed_i32_mul_add(
         (at_fraction 32 mul_frac (Ok (exact_mul_add a mul add mul_frac)))
         answer.old answer.new result }
 {
-    products::mul_add(a, mul, add, mul_frac, &mut answer.bits, &mut answer.side)
+    answer.take(Call::MulAdd(a, mul, add, mul_frac))
 }
 
 /// `c` plus the product of `a` and `b`, each of a fraction of its own; the product is brought to that of `c` and
@@ -114,16 +169,7 @@ pub extern "C" fn fixed_i32_add_prod(
         (Ok (exact_add_prod c a b c_frac a_frac b_frac)))))
         answer.old answer.new result }
 {
-    products::add_prod(
-        c,
-        a,
-        b,
-        c_frac,
-        a_frac,
-        b_frac,
-        &mut answer.bits,
-        &mut answer.side,
-    )
+    answer.take(Call::AddProd(c, a, b, c_frac, a_frac, b_frac))
 }
 
 /// `a 2^frac / b`, rounded toward zero.
@@ -133,7 +179,7 @@ pub extern "C" fn fixed_i32_div(a: i32, b: i32, frac: u32, answer: &mut AnswerI3
         (at_fraction 32 frac (row_or ZeroDivisor (by_divisor b (exact_div a b frac))))
         answer.old answer.new result }
 {
-    quotients::div(a, b, frac, &mut answer.bits, &mut answer.side)
+    answer.take(Call::Div(a, b, frac))
 }
 
 /// `a / k`, rounded toward zero, for an integer `k`.
@@ -141,7 +187,7 @@ pub extern "C" fn fixed_i32_div(a: i32, b: i32, frac: u32, answer: &mut AnswerI3
 pub extern "C" fn fixed_i32_div_int(a: i32, k: i32, answer: &mut AnswerI32) -> i32
     ensures { AnswersI32 (row_or ZeroDivisor (by_divisor k (truncated_quotient a k))) answer.old answer.new result }
 {
-    quotients::div_int(a, k, &mut answer.bits, &mut answer.side)
+    answer.take(Call::DivInt(a, k))
 }
 
 /// `2^(2 frac) / a`, rounded toward zero.
@@ -151,7 +197,7 @@ pub extern "C" fn fixed_i32_recip(a: i32, frac: u32, answer: &mut AnswerI32) -> 
         (at_fraction 32 frac (row_or ZeroDivisor (by_divisor a (exact_recip a frac))))
         answer.old answer.new result }
 {
-    quotients::recip(a, frac, &mut answer.bits, &mut answer.side)
+    answer.take(Call::Recip(a, frac))
 }
 
 /// The quotient of the Euclidean pair of `a` and `b`, a whole number, times `2^frac`.
@@ -161,7 +207,7 @@ pub extern "C" fn fixed_i32_div_euclid(a: i32, b: i32, frac: u32, answer: &mut A
         (at_fraction 32 frac (row_or ZeroDivisor (by_divisor b (exact_div_euclid a b frac))))
         answer.old answer.new result }
 {
-    quotients::div_euclid(a, b, frac, &mut answer.bits, &mut answer.side)
+    answer.take(Call::DivEuclid(a, b, frac))
 }
 
 /// The quotient of the Euclidean pair of `a` and `k 2^frac`, a whole number, times `2^frac`.
@@ -171,7 +217,7 @@ pub extern "C" fn fixed_i32_div_euclid_int(a: i32, k: i32, frac: u32, answer: &m
         (at_fraction 32 frac (row_or ZeroDivisor (by_divisor k (exact_div_euclid a (units k frac) frac))))
         answer.old answer.new result }
 {
-    quotients::div_euclid_int(a, k, frac, &mut answer.bits, &mut answer.side)
+    answer.take(Call::DivEuclidInt(a, k, frac))
 }
 
 /// `a - b q`, with the quotient q of `a` and `b` rounded toward zero.
@@ -179,7 +225,7 @@ pub extern "C" fn fixed_i32_div_euclid_int(a: i32, k: i32, frac: u32, answer: &m
 pub extern "C" fn fixed_i32_rem(a: i32, b: i32, answer: &mut AnswerI32) -> i32
     ensures { AnswersI32 (row_or ZeroDivisor (by_divisor b (exact_rem a b))) answer.old answer.new result }
 {
-    remainders::rem(a, b, &mut answer.bits, &mut answer.side)
+    answer.take(Call::Rem(a, b))
 }
 
 /// `a - d q` for `d = k 2^frac`, with the quotient q of `a` and d rounded toward zero.
@@ -189,7 +235,7 @@ pub extern "C" fn fixed_i32_rem_int(a: i32, k: i32, frac: u32, answer: &mut Answ
         (at_fraction 32 frac (row_or ZeroDivisor (by_divisor k (exact_rem a (units k frac)))))
         answer.old answer.new result }
 {
-    remainders::rem_int(a, k, frac, &mut answer.bits, &mut answer.side)
+    answer.take(Call::RemInt(a, k, frac))
 }
 
 /// The remainder of the Euclidean pair of `a` and `b`.
@@ -199,7 +245,7 @@ pub extern "C" fn fixed_i32_rem_euclid(a: i32, b: i32, answer: &mut AnswerI32) -
         (row_or ZeroDivisor (by_divisor b (euclidean_remainder a b)))
         answer.old answer.new result }
 {
-    remainders::rem_euclid(a, b, &mut answer.bits, &mut answer.side)
+    answer.take(Call::RemEuclid(a, b))
 }
 
 /// The remainder of the Euclidean pair of `a` and `k 2^frac`.
@@ -209,7 +255,7 @@ pub extern "C" fn fixed_i32_rem_euclid_int(a: i32, k: i32, frac: u32, answer: &m
         (at_fraction 32 frac (row_or ZeroDivisor (by_divisor k (euclidean_remainder a (units k frac)))))
         answer.old answer.new result }
 {
-    remainders::rem_euclid_int(a, k, frac, &mut answer.bits, &mut answer.side)
+    answer.take(Call::RemEuclidInt(a, k, frac))
 }
 
 /// The least multiple of `b` that is at least `a` where `b` is above 0, and the greatest that is at most `a`
@@ -220,7 +266,7 @@ pub extern "C" fn fixed_i32_next_multiple_of(a: i32, b: i32, answer: &mut Answer
         (row_or ZeroDivisor (by_divisor b (exact_next_multiple_of a b)))
         answer.old answer.new result }
 {
-    remainders::next_multiple_of(a, b, &mut answer.bits, &mut answer.side)
+    answer.take(Call::NextMultipleOf(a, b))
 }
 
 /// The root of `a 2^frac`, rounded down.
@@ -230,7 +276,168 @@ pub extern "C" fn fixed_i32_sqrt(a: i32, frac: u32, answer: &mut AnswerI32) -> i
         (at_fraction 32 frac (row_or NegativeRoot (by_sign a (root_of a frac))))
         answer.old answer.new result }
 {
-    powers::sqrt(a, frac, &mut answer.bits, &mut answer.side)
+    answer.take(Call::Sqrt(a, frac))
+}
+
+/// `a b / 2^frac`, rounded.
+#[unsafe(no_mangle)]
+pub extern "C" fn fixed_i32_mul_round(
+    a: i32,
+    b: i32,
+    frac: u32,
+    rounding: u32,
+    answer: &mut AnswerI32,
+) -> i32
+    ensures { AnswersI32
+        (at_fraction 32 frac (at_rounding rounding (λ r. Ok (rounded_mul a b frac r))))
+        answer.old answer.new result }
+{
+    answer.take(Call::MulRound(a, b, frac, rounding))
+}
+
+/// `a mul / 2^mul_frac`, rounded, plus `add`.
+#[unsafe(no_mangle)]
+pub extern "C" fn fixed_i32_mul_add_round(
+    a: i32,
+    mul: i32,
+    add: i32,
+    mul_frac: u32,
+    rounding: u32,
+    answer: &mut AnswerI32,
+) -> i32
+    ensures { AnswersI32
+        (at_fraction 32 mul_frac (at_rounding rounding (λ r. Ok (rounded_mul_add a mul add mul_frac r))))
+        answer.old answer.new result }
+{
+    answer.take(Call::MulAddRound(a, mul, add, mul_frac, rounding))
+}
+
+/// `c` plus the product of `a` and `b`, each of a fraction of its own; the product is brought to that of `c` and
+/// rounded.
+#[unsafe(no_mangle)]
+pub extern "C" fn fixed_i32_add_prod_round(
+    c: i32,
+    a: i32,
+    b: i32,
+    c_frac: u32,
+    a_frac: u32,
+    b_frac: u32,
+    rounding: u32,
+    answer: &mut AnswerI32,
+) -> i32
+    ensures { AnswersI32
+        (at_fraction 32 c_frac (at_fraction 32 a_frac (at_fraction 32 b_frac (at_rounding rounding
+        (λ r. Ok (rounded_add_prod c a b c_frac a_frac b_frac r))))))
+        answer.old answer.new result }
+{
+    answer.take(Call::AddProdRound(c, a, b, c_frac, a_frac, b_frac, rounding))
+}
+
+/// `a 2^frac / b`, rounded.
+#[unsafe(no_mangle)]
+pub extern "C" fn fixed_i32_div_round(
+    a: i32,
+    b: i32,
+    frac: u32,
+    rounding: u32,
+    answer: &mut AnswerI32,
+) -> i32
+    ensures { AnswersI32
+        (at_fraction 32 frac (at_rounding rounding
+        (λ r. row_or ZeroDivisor (by_divisor b (rounded_div a b frac r)))))
+        answer.old answer.new result }
+{
+    answer.take(Call::DivRound(a, b, frac, rounding))
+}
+
+/// `a / divisor`, rounded, for an integer.
+#[unsafe(no_mangle)]
+pub extern "C" fn fixed_i32_div_int_round(
+    a: i32,
+    divisor: i32,
+    rounding: u32,
+    answer: &mut AnswerI32,
+) -> i32
+    ensures { AnswersI32
+        (at_rounding rounding
+        (λ r. row_or ZeroDivisor (by_divisor divisor (rounded a divisor r))))
+        answer.old answer.new result }
+{
+    answer.take(Call::DivIntRound(a, divisor, rounding))
+}
+
+/// `2^(2 frac) / a`, rounded.
+#[unsafe(no_mangle)]
+pub extern "C" fn fixed_i32_recip_round(
+    a: i32,
+    frac: u32,
+    rounding: u32,
+    answer: &mut AnswerI32,
+) -> i32
+    ensures { AnswersI32
+        (at_fraction 32 frac (at_rounding rounding
+        (λ r. row_or ZeroDivisor (by_divisor a (rounded_recip a frac r)))))
+        answer.old answer.new result }
+{
+    answer.take(Call::RecipRound(a, frac, rounding))
+}
+
+/// `number / 2^from` in units of `2^-to`, rounded, for a number of any signed word.
+#[unsafe(no_mangle)]
+pub extern "C" fn fixed_i32_convert(
+    number: i64,
+    from: u32,
+    to: u32,
+    rounding: u32,
+    answer: &mut AnswerI32,
+) -> i32
+    ensures { AnswersI32
+        (at_fraction 64 from (at_fraction 32 to (at_rounding rounding (λ r. Ok (rounded_convert number from to r)))))
+        answer.old answer.new result }
+{
+    answer.take(Call::Convert(number, from, to, rounding))
+}
+
+/// `number / 2^from` in units of `2^-to`, rounded, for a number of any unsigned word.
+#[unsafe(no_mangle)]
+pub extern "C" fn fixed_i32_convert_unsigned(
+    number: u64,
+    from: u32,
+    to: u32,
+    rounding: u32,
+    answer: &mut AnswerI32,
+) -> i32
+    ensures { AnswersI32
+        (at_fraction 64 from (at_fraction 32 to (at_rounding rounding
+        (λ r. Ok (rounded_convert (pos number) from to r)))))
+        answer.old answer.new result }
+{
+    answer.take(Call::ConvertUnsigned(number, from, to, rounding))
+}
+
+/// The float in units of `2^-frac`, rounded.
+#[unsafe(no_mangle)]
+pub extern "C" fn fixed_i32_from_double(
+    number: f64,
+    frac: u32,
+    rounding: u32,
+    answer: &mut AnswerI32,
+) -> i32
+    ensures { AnswersI32
+        (at_fraction 32 frac (at_rounding rounding (λ r. row_or NotFinite (units_of_float number frac r))))
+        answer.old answer.new result }
+{
+    answer.take(Call::FromDouble(number, frac, rounding))
+}
+
+/// The float nearest to `a / 2^frac`, of two as near the one whose last bit is 0.
+#[unsafe(no_mangle)]
+pub extern "C" fn fixed_i32_to_double(a: i32, frac: u32, value: &mut f64) -> i32
+    ensures { ValueAnswers
+        (at_fraction 32 frac (Ok (nearest_float binary64 a frac)))
+        value.old value.new result }
+{
+    conversions::to_double(a, frac, value)
 }
 
 /// The sums of a number in `a` and one in `b`.

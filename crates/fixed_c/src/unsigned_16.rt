@@ -1,28 +1,83 @@
 //! The calls of `u16`.
 
-ghost use Rattle.std.specs.Prelude.{◌≡◌, Ok, false, pos, neg_ℤ, ◌*ℤ◌, ◌+ℤ◌, ◌-ℤ◌};
+ghost use Rattle.std.specs.Prelude.{◌≡◌, ℤ, Result, Ok, false, pos, neg_ℤ, ◌*ℤ◌, ◌+ℤ◌, ◌-ℤ◌};
+ghost use Rattle.std.specs.Float.{binary64};
 ghost use Rattle.fixed_word.specs.Quotient.{euclidean_remainder, truncated_quotient};
 ghost use Rattle.fixed_kernel.specs.Root.{root_of};
+ghost use Rattle.fixed_kernel.specs.Rounded.{rounded};
+ghost use Rattle.fixed_kernel.specs.RoundedRows.{rounded_add_prod, rounded_div, rounded_mul, rounded_mul_add, rounded_recip};
 ghost use Rattle.fixed_kernel.specs.Rows.{exact_abs, by_divisor, by_sign, exact_add_prod, exact_div, exact_div_euclid, exact_mul, exact_mul_add, exact_next_multiple_of, exact_next_power_of_two, exact_recip, exact_rem, units};
-ghost use Rattle.fixed_c.specs.declared.answer.Code.TheVariants.{ZeroDivisor, NegativeRoot};
-ghost use Rattle.fixed_c.specs.Answers.{at_fraction, row_or};
+ghost use Rattle.fixed_convert.specs.Convert.{rounded_convert};
+ghost use Rattle.fixed_float.specs.Rows.{nearest_float, units_of_float};
+ghost use Rattle.fixed_c.specs.declared.answer.Code.{Code};
+ghost use Rattle.fixed_c.specs.declared.answer.Code.TheVariants.{ZeroDivisor, NegativeRoot, NotFinite};
+ghost use Rattle.fixed_c.specs.Answers.{ValueAnswers, at_fraction, row_or};
+ghost use Rattle.fixed_c.specs.inside.Calls.{IsResultOf, given};
 ghost use Rattle.fixed_c.specs.Filters.{filter_of, fractions, output_in, past_after};
 ghost use Rattle.fixed_c.specs.Intervals.{difference_in, from_to, product_in, quotient_in, root_in, sum_in};
 ghost use Rattle.fixed_c.specs.Places.{PlaceAnswers};
 ghost use Rattle.fixed_c.specs.Polynomials.{horner_in};
+ghost use Rattle.fixed_c.specs.Roundings.{at_rounding};
 ghost use Rattle.fixed_c.specs.Words.{AnswersU16, EndsU16Answers};
 
-use crate::answer::AnswerU16;
-use crate::intervals::EndsU16;
-use crate::{arrays, intervals, powers, products, quotients, remainders, sums};
+use crate::answer::{Code, side_of};
+use crate::calls::{Call, result_of};
+use crate::{arrays, conversions, intervals, one_sign};
 use fixed_filter::Shape;
+use fixed_word::Outcome;
+
+/// What a call leaves where its code is 0.
+#[repr(C)]
+#[derive(Clone, Copy)]
+pub struct AnswerU16 {
+    /// What is left of the number in the word.
+    pub bits: u16,
+    /// Where the number lies: 0 where it fits, 1 above the greatest value, -1 below the least.
+    pub side: i32,
+}
+
+/// What a call over intervals leaves where its code is 0.
+#[repr(C)]
+#[derive(Clone, Copy)]
+pub struct EndsU16 {
+    /// The least number.
+    pub low: u16,
+    /// The greatest number.
+    pub high: u16,
+}
+
+impl AnswerU16 {
+    /// Leaves the outcome, and returns 0; or returns the number of the code.
+    #[inline]
+    #[tactic(auto, unfolding(crate::specs::Answers::CallAnswers, crate::specs::inside::Calls::IsResultOf))]
+    fn leave(&mut self, answer: Result<Outcome<u16>, Code>) -> i32
+        ensures { (given : Result ℤ Code) → IsResultOf pos false 16 given answer → AnswersU16 given self.old self.new result }
+    {
+        match answer {
+            Ok(outcome) => {
+                self.bits = outcome.wrapped;
+                self.side = side_of(outcome.side);
+                0
+            }
+            Err(code) => code.number(),
+        }
+    }
+
+    /// Takes a call, and leaves its outcome likewise.
+    #[inline(always)]
+    fn take(&mut self, call: Call<u16>) -> i32
+        ensures { AnswersU16 (given pos 16 call) self.old self.new result }
+    {
+        self.leave(result_of(call))
+    }
+}
 
 /// `-a`
 #[unsafe(no_mangle)]
 pub extern "C" fn fixed_u16_neg(a: u16, answer: &mut AnswerU16) -> i32
     ensures { AnswersU16 (Ok (neg_ℤ (pos a))) answer.old answer.new result }
 {
-    sums::neg(a, &mut answer.bits, &mut answer.side)
+    answer.take(Call::Neg(a))
 }
 
 /// `a + b`
@@ -30,7 +85,7 @@ pub extern "C" fn fixed_u16_neg(a: u16, answer: &mut AnswerU16) -> i32
 pub extern "C" fn fixed_u16_add(a: u16, b: u16, answer: &mut AnswerU16) -> i32
     ensures { AnswersU16 (Ok (pos a +ℤ pos b)) answer.old answer.new result }
 {
-    sums::add(a, b, &mut answer.bits, &mut answer.side)
+    answer.take(Call::Add(a, b))
 }
 
 /// `a - b`
@@ -38,7 +93,7 @@ pub extern "C" fn fixed_u16_add(a: u16, b: u16, answer: &mut AnswerU16) -> i32
 pub extern "C" fn fixed_u16_sub(a: u16, b: u16, answer: &mut AnswerU16) -> i32
     ensures { AnswersU16 (Ok (pos a -ℤ pos b)) answer.old answer.new result }
 {
-    sums::sub(a, b, &mut answer.bits, &mut answer.side)
+    answer.take(Call::Sub(a, b))
 }
 
 /// The magnitude of `a - b`.
@@ -46,7 +101,7 @@ pub extern "C" fn fixed_u16_sub(a: u16, b: u16, answer: &mut AnswerU16) -> i32
 pub extern "C" fn fixed_u16_dist(a: u16, b: u16, answer: &mut AnswerU16) -> i32
     ensures { AnswersU16 (Ok (exact_abs (pos a -ℤ pos b))) answer.old answer.new result }
 {
-    sums::dist(a, b, &mut answer.bits, &mut answer.side)
+    answer.take(Call::Dist(a, b))
 }
 
 /// `a b / 2^frac`, rounded down.
@@ -54,7 +109,7 @@ pub extern "C" fn fixed_u16_dist(a: u16, b: u16, answer: &mut AnswerU16) -> i32
 pub extern "C" fn fixed_u16_mul(a: u16, b: u16, frac: u32, answer: &mut AnswerU16) -> i32
     ensures { AnswersU16 (at_fraction 16 frac (Ok (exact_mul (pos a) (pos b) frac))) answer.old answer.new result }
 {
-    products::mul(a, b, frac, &mut answer.bits, &mut answer.side)
+    answer.take(Call::Mul(a, b, frac))
 }
 
 /// `a k`, for an integer `k`.
@@ -62,7 +117,7 @@ pub extern "C" fn fixed_u16_mul(a: u16, b: u16, frac: u32, answer: &mut AnswerU1
 pub extern "C" fn fixed_u16_mul_int(a: u16, k: u16, answer: &mut AnswerU16) -> i32
     ensures { AnswersU16 (Ok (pos a *ℤ pos k)) answer.old answer.new result }
 {
-    products::mul_int(a, k, &mut answer.bits, &mut answer.side)
+    answer.take(Call::MulInt(a, k))
 }
 
 /// `a mul / 2^mul_frac`, rounded down, plus `add`.
@@ -78,7 +133,7 @@ pub extern "C" fn fixed_u16_mul_add(
         (at_fraction 16 mul_frac (Ok (exact_mul_add (pos a) (pos mul) (pos add) mul_frac)))
         answer.old answer.new result }
 {
-    products::mul_add(a, mul, add, mul_frac, &mut answer.bits, &mut answer.side)
+    answer.take(Call::MulAdd(a, mul, add, mul_frac))
 }
 
 /// `c` plus the product of `a` and `b`, each of a fraction of its own; the product is brought to that of `c` and
@@ -98,16 +153,7 @@ pub extern "C" fn fixed_u16_add_prod(
         (Ok (exact_add_prod (pos c) (pos a) (pos b) c_frac a_frac b_frac)))))
         answer.old answer.new result }
 {
-    products::add_prod(
-        c,
-        a,
-        b,
-        c_frac,
-        a_frac,
-        b_frac,
-        &mut answer.bits,
-        &mut answer.side,
-    )
+    answer.take(Call::AddProd(c, a, b, c_frac, a_frac, b_frac))
 }
 
 /// `a 2^frac / b`, rounded toward zero.
@@ -117,7 +163,7 @@ pub extern "C" fn fixed_u16_div(a: u16, b: u16, frac: u32, answer: &mut AnswerU1
         (at_fraction 16 frac (row_or ZeroDivisor (by_divisor (pos b) (exact_div (pos a) (pos b) frac))))
         answer.old answer.new result }
 {
-    quotients::div(a, b, frac, &mut answer.bits, &mut answer.side)
+    answer.take(Call::Div(a, b, frac))
 }
 
 /// `a / k`, rounded toward zero, for an integer `k`.
@@ -127,7 +173,7 @@ pub extern "C" fn fixed_u16_div_int(a: u16, k: u16, answer: &mut AnswerU16) -> i
         (row_or ZeroDivisor (by_divisor (pos k) (truncated_quotient (pos a) (pos k))))
         answer.old answer.new result }
 {
-    quotients::div_int(a, k, &mut answer.bits, &mut answer.side)
+    answer.take(Call::DivInt(a, k))
 }
 
 /// `2^(2 frac) / a`, rounded toward zero.
@@ -137,7 +183,7 @@ pub extern "C" fn fixed_u16_recip(a: u16, frac: u32, answer: &mut AnswerU16) -> 
         (at_fraction 16 frac (row_or ZeroDivisor (by_divisor (pos a) (exact_recip (pos a) frac))))
         answer.old answer.new result }
 {
-    quotients::recip(a, frac, &mut answer.bits, &mut answer.side)
+    answer.take(Call::Recip(a, frac))
 }
 
 /// The quotient of the Euclidean pair of `a` and `b`, a whole number, times `2^frac`.
@@ -147,7 +193,7 @@ pub extern "C" fn fixed_u16_div_euclid(a: u16, b: u16, frac: u32, answer: &mut A
         (at_fraction 16 frac (row_or ZeroDivisor (by_divisor (pos b) (exact_div_euclid (pos a) (pos b) frac))))
         answer.old answer.new result }
 {
-    quotients::div_euclid(a, b, frac, &mut answer.bits, &mut answer.side)
+    answer.take(Call::DivEuclid(a, b, frac))
 }
 
 /// The quotient of the Euclidean pair of `a` and `k 2^frac`, a whole number, times `2^frac`.
@@ -157,7 +203,7 @@ pub extern "C" fn fixed_u16_div_euclid_int(a: u16, k: u16, frac: u32, answer: &m
         (at_fraction 16 frac (row_or ZeroDivisor (by_divisor (pos k) (exact_div_euclid (pos a) (units (pos k) frac) frac))))
         answer.old answer.new result }
 {
-    quotients::div_euclid_int(a, k, frac, &mut answer.bits, &mut answer.side)
+    answer.take(Call::DivEuclidInt(a, k, frac))
 }
 
 /// `a - b q`, with the quotient q of `a` and `b` rounded toward zero.
@@ -167,7 +213,7 @@ pub extern "C" fn fixed_u16_rem(a: u16, b: u16, answer: &mut AnswerU16) -> i32
         (row_or ZeroDivisor (by_divisor (pos b) (exact_rem (pos a) (pos b))))
         answer.old answer.new result }
 {
-    remainders::rem(a, b, &mut answer.bits, &mut answer.side)
+    answer.take(Call::Rem(a, b))
 }
 
 /// `a - d q` for `d = k 2^frac`, with the quotient q of `a` and d rounded toward zero.
@@ -177,7 +223,7 @@ pub extern "C" fn fixed_u16_rem_int(a: u16, k: u16, frac: u32, answer: &mut Answ
         (at_fraction 16 frac (row_or ZeroDivisor (by_divisor (pos k) (exact_rem (pos a) (units (pos k) frac)))))
         answer.old answer.new result }
 {
-    remainders::rem_int(a, k, frac, &mut answer.bits, &mut answer.side)
+    answer.take(Call::RemInt(a, k, frac))
 }
 
 /// The remainder of the Euclidean pair of `a` and `b`.
@@ -187,7 +233,7 @@ pub extern "C" fn fixed_u16_rem_euclid(a: u16, b: u16, answer: &mut AnswerU16) -
         (row_or ZeroDivisor (by_divisor (pos b) (euclidean_remainder (pos a) (pos b))))
         answer.old answer.new result }
 {
-    remainders::rem_euclid(a, b, &mut answer.bits, &mut answer.side)
+    answer.take(Call::RemEuclid(a, b))
 }
 
 /// The remainder of the Euclidean pair of `a` and `k 2^frac`.
@@ -197,7 +243,7 @@ pub extern "C" fn fixed_u16_rem_euclid_int(a: u16, k: u16, frac: u32, answer: &m
         (at_fraction 16 frac (row_or ZeroDivisor (by_divisor (pos k) (euclidean_remainder (pos a) (units (pos k) frac)))))
         answer.old answer.new result }
 {
-    remainders::rem_euclid_int(a, k, frac, &mut answer.bits, &mut answer.side)
+    answer.take(Call::RemEuclidInt(a, k, frac))
 }
 
 /// The least multiple of `b` that is at least `a` where `b` is above 0, and the greatest that is at most `a`
@@ -208,7 +254,7 @@ pub extern "C" fn fixed_u16_next_multiple_of(a: u16, b: u16, answer: &mut Answer
         (row_or ZeroDivisor (by_divisor (pos b) (exact_next_multiple_of (pos a) (pos b))))
         answer.old answer.new result }
 {
-    remainders::next_multiple_of(a, b, &mut answer.bits, &mut answer.side)
+    answer.take(Call::NextMultipleOf(a, b))
 }
 
 /// The root of `a 2^frac`, rounded down.
@@ -218,7 +264,7 @@ pub extern "C" fn fixed_u16_sqrt(a: u16, frac: u32, answer: &mut AnswerU16) -> i
         (at_fraction 16 frac (row_or NegativeRoot (by_sign (pos a) (root_of (pos a) frac))))
         answer.old answer.new result }
 {
-    powers::sqrt(a, frac, &mut answer.bits, &mut answer.side)
+    answer.take(Call::Sqrt(a, frac))
 }
 
 /// The least power of two that is at least `a`.
@@ -226,7 +272,168 @@ pub extern "C" fn fixed_u16_sqrt(a: u16, frac: u32, answer: &mut AnswerU16) -> i
 pub extern "C" fn fixed_u16_next_power_of_two(a: u16, answer: &mut AnswerU16) -> i32
     ensures { AnswersU16 (Ok (exact_next_power_of_two (pos a))) answer.old answer.new result }
 {
-    powers::next_power_of_two(a, &mut answer.bits, &mut answer.side)
+    answer.leave(one_sign::next_power_of_two(a))
+}
+
+/// `a b / 2^frac`, rounded.
+#[unsafe(no_mangle)]
+pub extern "C" fn fixed_u16_mul_round(
+    a: u16,
+    b: u16,
+    frac: u32,
+    rounding: u32,
+    answer: &mut AnswerU16,
+) -> i32
+    ensures { AnswersU16
+        (at_fraction 16 frac (at_rounding rounding (λ r. Ok (rounded_mul (pos a) (pos b) frac r))))
+        answer.old answer.new result }
+{
+    answer.take(Call::MulRound(a, b, frac, rounding))
+}
+
+/// `a mul / 2^mul_frac`, rounded, plus `add`.
+#[unsafe(no_mangle)]
+pub extern "C" fn fixed_u16_mul_add_round(
+    a: u16,
+    mul: u16,
+    add: u16,
+    mul_frac: u32,
+    rounding: u32,
+    answer: &mut AnswerU16,
+) -> i32
+    ensures { AnswersU16
+        (at_fraction 16 mul_frac (at_rounding rounding (λ r. Ok (rounded_mul_add (pos a) (pos mul) (pos add) mul_frac r))))
+        answer.old answer.new result }
+{
+    answer.take(Call::MulAddRound(a, mul, add, mul_frac, rounding))
+}
+
+/// `c` plus the product of `a` and `b`, each of a fraction of its own; the product is brought to that of `c` and
+/// rounded.
+#[unsafe(no_mangle)]
+pub extern "C" fn fixed_u16_add_prod_round(
+    c: u16,
+    a: u16,
+    b: u16,
+    c_frac: u32,
+    a_frac: u32,
+    b_frac: u32,
+    rounding: u32,
+    answer: &mut AnswerU16,
+) -> i32
+    ensures { AnswersU16
+        (at_fraction 16 c_frac (at_fraction 16 a_frac (at_fraction 16 b_frac (at_rounding rounding
+        (λ r. Ok (rounded_add_prod (pos c) (pos a) (pos b) c_frac a_frac b_frac r))))))
+        answer.old answer.new result }
+{
+    answer.take(Call::AddProdRound(c, a, b, c_frac, a_frac, b_frac, rounding))
+}
+
+/// `a 2^frac / b`, rounded.
+#[unsafe(no_mangle)]
+pub extern "C" fn fixed_u16_div_round(
+    a: u16,
+    b: u16,
+    frac: u32,
+    rounding: u32,
+    answer: &mut AnswerU16,
+) -> i32
+    ensures { AnswersU16
+        (at_fraction 16 frac (at_rounding rounding
+        (λ r. row_or ZeroDivisor (by_divisor (pos b) (rounded_div (pos a) (pos b) frac r)))))
+        answer.old answer.new result }
+{
+    answer.take(Call::DivRound(a, b, frac, rounding))
+}
+
+/// `a / divisor`, rounded, for an integer.
+#[unsafe(no_mangle)]
+pub extern "C" fn fixed_u16_div_int_round(
+    a: u16,
+    divisor: u16,
+    rounding: u32,
+    answer: &mut AnswerU16,
+) -> i32
+    ensures { AnswersU16
+        (at_rounding rounding
+        (λ r. row_or ZeroDivisor (by_divisor (pos divisor) (rounded (pos a) (pos divisor) r))))
+        answer.old answer.new result }
+{
+    answer.take(Call::DivIntRound(a, divisor, rounding))
+}
+
+/// `2^(2 frac) / a`, rounded.
+#[unsafe(no_mangle)]
+pub extern "C" fn fixed_u16_recip_round(
+    a: u16,
+    frac: u32,
+    rounding: u32,
+    answer: &mut AnswerU16,
+) -> i32
+    ensures { AnswersU16
+        (at_fraction 16 frac (at_rounding rounding
+        (λ r. row_or ZeroDivisor (by_divisor (pos a) (rounded_recip (pos a) frac r)))))
+        answer.old answer.new result }
+{
+    answer.take(Call::RecipRound(a, frac, rounding))
+}
+
+/// `number / 2^from` in units of `2^-to`, rounded, for a number of any signed word.
+#[unsafe(no_mangle)]
+pub extern "C" fn fixed_u16_convert(
+    number: i64,
+    from: u32,
+    to: u32,
+    rounding: u32,
+    answer: &mut AnswerU16,
+) -> i32
+    ensures { AnswersU16
+        (at_fraction 64 from (at_fraction 16 to (at_rounding rounding (λ r. Ok (rounded_convert number from to r)))))
+        answer.old answer.new result }
+{
+    answer.take(Call::Convert(number, from, to, rounding))
+}
+
+/// `number / 2^from` in units of `2^-to`, rounded, for a number of any unsigned word.
+#[unsafe(no_mangle)]
+pub extern "C" fn fixed_u16_convert_unsigned(
+    number: u64,
+    from: u32,
+    to: u32,
+    rounding: u32,
+    answer: &mut AnswerU16,
+) -> i32
+    ensures { AnswersU16
+        (at_fraction 64 from (at_fraction 16 to (at_rounding rounding
+        (λ r. Ok (rounded_convert (pos number) from to r)))))
+        answer.old answer.new result }
+{
+    answer.take(Call::ConvertUnsigned(number, from, to, rounding))
+}
+
+/// The float in units of `2^-frac`, rounded.
+#[unsafe(no_mangle)]
+pub extern "C" fn fixed_u16_from_double(
+    number: f64,
+    frac: u32,
+    rounding: u32,
+    answer: &mut AnswerU16,
+) -> i32
+    ensures { AnswersU16
+        (at_fraction 16 frac (at_rounding rounding (λ r. row_or NotFinite (units_of_float number frac r))))
+        answer.old answer.new result }
+{
+    answer.take(Call::FromDouble(number, frac, rounding))
+}
+
+/// The float nearest to `a / 2^frac`, of two as near the one whose last bit is 0.
+#[unsafe(no_mangle)]
+pub extern "C" fn fixed_u16_to_double(a: u16, frac: u32, value: &mut f64) -> i32
+    ensures { ValueAnswers
+        (at_fraction 16 frac (Ok (nearest_float binary64 (pos a) frac)))
+        value.old value.new result }
+{
+    conversions::to_double(a, frac, value)
 }
 
 /// The sums of a number in `a` and one in `b`.

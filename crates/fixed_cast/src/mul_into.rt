@@ -1,4 +1,4 @@
-//! Products of numbers of any formats, in another.
+//! Products of two numbers of any formats, in a third.
 
 ghost use Rattle.std.specs.Prelude.{◌≡◌, ◌≤◌, Some, IsSome, option_map};
 ghost use Rattle.fixed_word.specs.Policies.{checked, overflowing, saturating, wrapping};
@@ -13,11 +13,11 @@ use crate::policies::{
 use fixed_convert::mul_into_of;
 use fixed_word::{Outcome, Rounding};
 
-/// The product of two numbers of any formats or integers, in a third format, by each policy: one call, which rounds the
-/// exact product once. It is rounded down, or in the forms `.._round` as named. The fractions of the factors have to be at
-/// most their widths. (This project's own.)
+/// Products of two numbers of any formats, or integers, in a third format, by each policy. The exact product is rounded
+/// once: down, or in the forms `.._round` as named. Precondition of each call: the fractions of both factors are at most
+/// their widths. (This project's own.)
 pub trait MulInto: Numeric {
-    /// The product, rounded down; condition that it fits.
+    /// Returns the product, rounded down. Precondition: it fits.
     fn mul_into<B: Numeric, D: Numeric>(self, rhs: B) -> D
         requires fraction { Self.FRACTION ≤ Self.Word.BITS }
         requires rhs_fraction { B.FRACTION ≤ B.Word.BITS }
@@ -26,35 +26,35 @@ pub trait MulInto: Numeric {
         ensures { Some (D.units result)
             ≡ Some (rounded_mul_into (Self.units self) Self.FRACTION (B.units rhs) B.FRACTION D.FRACTION Down) };
 
-    /// The product, rounded down; None exactly where it does not fit.
+    /// Returns the product, rounded down, or `None` if it does not fit.
     fn checked_mul_into<B: Numeric, D: Numeric>(self, rhs: B) -> Option<D>
         requires fraction { Self.FRACTION ≤ Self.Word.BITS }
         requires rhs_fraction { B.FRACTION ≤ B.Word.BITS }
         ensures { option_map D.units result ≡ checked D.Word.SIGNED D.Word.BITS
             (Some (rounded_mul_into (Self.units self) Self.FRACTION (B.units rhs) B.FRACTION D.FRACTION Down)) };
 
-    /// The product, rounded down and wrapped, and whether it does not fit.
+    /// Returns the product, rounded down and wrapped, and whether it does not fit.
     fn overflowing_mul_into<B: Numeric, D: Numeric>(self, rhs: B) -> (D, bool)
         requires fraction { Self.FRACTION ≤ Self.Word.BITS }
         requires rhs_fraction { B.FRACTION ≤ B.Word.BITS }
         ensures { Some (D.units result.0, result.1) ≡ overflowing D.Word.SIGNED D.Word.BITS
             (Some (rounded_mul_into (Self.units self) Self.FRACTION (B.units rhs) B.FRACTION D.FRACTION Down)) };
 
-    /// The product, rounded down, without what lies past the width.
+    /// Returns the product, rounded down and wrapped.
     fn wrapping_mul_into<B: Numeric, D: Numeric>(self, rhs: B) -> D
         requires fraction { Self.FRACTION ≤ Self.Word.BITS }
         requires rhs_fraction { B.FRACTION ≤ B.Word.BITS }
         ensures { Some (D.units result) ≡ wrapping D.Word.SIGNED D.Word.BITS
             (Some (rounded_mul_into (Self.units self) Self.FRACTION (B.units rhs) B.FRACTION D.FRACTION Down)) };
 
-    /// The product, rounded down, held at the ends.
+    /// Returns the nearest number that fits to the product, rounded down.
     fn saturating_mul_into<B: Numeric, D: Numeric>(self, rhs: B) -> D
         requires fraction { Self.FRACTION ≤ Self.Word.BITS }
         requires rhs_fraction { B.FRACTION ≤ B.Word.BITS }
         ensures { Some (D.units result) ≡ saturating D.Word.SIGNED D.Word.BITS
             (Some (rounded_mul_into (Self.units self) Self.FRACTION (B.units rhs) B.FRACTION D.FRACTION Down)) };
 
-    /// The product, rounded down; condition that it fits.
+    /// Returns the product, rounded down. Precondition: it fits.
     fn strict_mul_into<B: Numeric, D: Numeric>(self, rhs: B) -> D
         requires fraction { Self.FRACTION ≤ Self.Word.BITS }
         requires rhs_fraction { B.FRACTION ≤ B.Word.BITS }
@@ -63,7 +63,7 @@ pub trait MulInto: Numeric {
         ensures { Some (D.units result)
             ≡ Some (rounded_mul_into (Self.units self) Self.FRACTION (B.units rhs) B.FRACTION D.FRACTION Down) };
 
-    /// The product, rounded down; condition that it fits.
+    /// Returns the product, rounded down. Precondition: it fits.
     fn unwrapped_mul_into<B: Numeric, D: Numeric>(self, rhs: B) -> D
         requires fraction { Self.FRACTION ≤ Self.Word.BITS }
         requires rhs_fraction { B.FRACTION ≤ B.Word.BITS }
@@ -72,7 +72,7 @@ pub trait MulInto: Numeric {
         ensures { Some (D.units result)
             ≡ Some (rounded_mul_into (Self.units self) Self.FRACTION (B.units rhs) B.FRACTION D.FRACTION Down) };
 
-    /// The product, rounded as named; condition that it fits.
+    /// Returns the product, rounded as named. Precondition: it fits.
     fn mul_into_round<B: Numeric, D: Numeric>(self, rhs: B, rounding: Rounding) -> D
         requires fraction { Self.FRACTION ≤ Self.Word.BITS }
         requires rhs_fraction { B.FRACTION ≤ B.Word.BITS }
@@ -81,14 +81,14 @@ pub trait MulInto: Numeric {
         ensures { Some (D.units result)
             ≡ Some (rounded_mul_into (Self.units self) Self.FRACTION (B.units rhs) B.FRACTION D.FRACTION rounding) };
 
-    /// The product, rounded as named; None exactly where it does not fit.
+    /// Returns the product, rounded as named, or `None` if it does not fit.
     fn checked_mul_into_round<B: Numeric, D: Numeric>(self, rhs: B, rounding: Rounding) -> Option<D>
         requires fraction { Self.FRACTION ≤ Self.Word.BITS }
         requires rhs_fraction { B.FRACTION ≤ B.Word.BITS }
         ensures { option_map D.units result ≡ checked D.Word.SIGNED D.Word.BITS
             (Some (rounded_mul_into (Self.units self) Self.FRACTION (B.units rhs) B.FRACTION D.FRACTION rounding)) };
 
-    /// The product, rounded as named and wrapped, and whether it does not fit.
+    /// Returns the product, rounded as named and wrapped, and whether it does not fit.
     fn overflowing_mul_into_round<B: Numeric, D: Numeric>(
         self,
         rhs: B,
@@ -99,21 +99,21 @@ pub trait MulInto: Numeric {
         ensures { Some (D.units result.0, result.1) ≡ overflowing D.Word.SIGNED D.Word.BITS
             (Some (rounded_mul_into (Self.units self) Self.FRACTION (B.units rhs) B.FRACTION D.FRACTION rounding)) };
 
-    /// The product, rounded as named, without what lies past the width.
+    /// Returns the product, rounded as named and wrapped.
     fn wrapping_mul_into_round<B: Numeric, D: Numeric>(self, rhs: B, rounding: Rounding) -> D
         requires fraction { Self.FRACTION ≤ Self.Word.BITS }
         requires rhs_fraction { B.FRACTION ≤ B.Word.BITS }
         ensures { Some (D.units result) ≡ wrapping D.Word.SIGNED D.Word.BITS
             (Some (rounded_mul_into (Self.units self) Self.FRACTION (B.units rhs) B.FRACTION D.FRACTION rounding)) };
 
-    /// The product, rounded as named, held at the ends.
+    /// Returns the nearest number that fits to the product, rounded as named.
     fn saturating_mul_into_round<B: Numeric, D: Numeric>(self, rhs: B, rounding: Rounding) -> D
         requires fraction { Self.FRACTION ≤ Self.Word.BITS }
         requires rhs_fraction { B.FRACTION ≤ B.Word.BITS }
         ensures { Some (D.units result) ≡ saturating D.Word.SIGNED D.Word.BITS
             (Some (rounded_mul_into (Self.units self) Self.FRACTION (B.units rhs) B.FRACTION D.FRACTION rounding)) };
 
-    /// The product, rounded as named; condition that it fits.
+    /// Returns the product, rounded as named. Precondition: it fits.
     fn strict_mul_into_round<B: Numeric, D: Numeric>(self, rhs: B, rounding: Rounding) -> D
         requires fraction { Self.FRACTION ≤ Self.Word.BITS }
         requires rhs_fraction { B.FRACTION ≤ B.Word.BITS }
@@ -122,7 +122,7 @@ pub trait MulInto: Numeric {
         ensures { Some (D.units result)
             ≡ Some (rounded_mul_into (Self.units self) Self.FRACTION (B.units rhs) B.FRACTION D.FRACTION rounding) };
 
-    /// The product, rounded as named; condition that it fits.
+    /// Returns the product, rounded as named. Precondition: it fits.
     fn unwrapped_mul_into_round<B: Numeric, D: Numeric>(self, rhs: B, rounding: Rounding) -> D
         requires fraction { Self.FRACTION ≤ Self.Word.BITS }
         requires rhs_fraction { B.FRACTION ≤ B.Word.BITS }
@@ -212,7 +212,7 @@ impl<A: Numeric> MulInto for A {
     }
 }
 
-/// The outcome of a product in the format of `D`.
+/// Returns the outcome of the product in the format of `D`.
 #[inline]
 fn product<A: Numeric, B: Numeric, D: Numeric>(
     a: A,

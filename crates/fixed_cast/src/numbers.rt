@@ -54,7 +54,7 @@ pub(crate) fn saturating_number<T: Word, const F: u32>(outcome: Outcome<T>) -> F
     }
 }
 
-/// The number of an outcome that fits.
+/// Returns the number of an outcome. Precondition: it fits.
 #[inline]
 pub(crate) fn strict_number<T: Word, const F: u32>(outcome: Outcome<T>) -> Fixed<T, F>
     requires { outcome.side ≡ Fits }

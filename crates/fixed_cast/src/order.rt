@@ -21,12 +21,13 @@ pub trait Order: Numeric {
         ensures { IsTrue result ↔ (Self.units self *ℤ pos (2 ^ N.FRACTION)
             ≡ N.units other *ℤ pos (2 ^ Self.FRACTION)) };
 
-    /// How the number stands to a float, both exact; None for a NaN, which has no order.
+    /// Returns the order of the number and the exact value of a float, or `None` for a NaN. Infinities lie beyond every
+    /// number.
     fn compare_float<X: Binary>(self, other: X) -> Option<Ordering>
         requires { Self.FRACTION ≤ Self.Word.BITS }
         ensures { result ≡ float_order (Self.units self) Self.FRACTION (X.float other) };
 
-    /// Whether the float is the same number.
+    /// Returns whether the float is the same number.
     fn equals_float<X: Binary>(self, other: X) -> bool
         requires { Self.FRACTION ≤ Self.Word.BITS }
         ensures { IsTrue result ↔ (float_order (Self.units self) Self.FRACTION (X.float other) ≡ Some Equal) };

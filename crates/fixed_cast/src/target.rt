@@ -10,15 +10,15 @@ use crate::from_num::FromNum;
 use crate::numeric::Numeric;
 use crate::source::Source;
 
-/// What [`ToNum`](crate::ToNum) makes of a source: a number of a format or an integer, and of a number also a float
-/// (this project's own).
+/// A type that the calls of [`ToNum`](crate::ToNum) return: numbers of every format and integers for each source, and
+/// floats for numbers and integers. A float is the nearest one, ties to even, and always fits. (This project's own.)
 pub trait Target<S: Source>: Copy {
     // what a value is: a number of units, or a float as IEEE 754 has it
     ghost Exact: { Type 0 };
 
     ghost exactly: { Self → Exact };
 
-    // the precondition of every conversion
+    // the precondition of every conversion: for a float, that the fraction is at most the width
     ghost is_format: { Type 0 };
 
     // what the source is, rounded, or nothing where it has no number
@@ -33,36 +33,36 @@ pub trait Target<S: Source>: Copy {
 
     ghost saturated: { S → Option Exact };
 
-    /// The value; condition that there is one and that it fits.
+    /// Returns the value. Precondition: there is one, and it fits.
     fn from_source(source: S) -> Self
         requires format { is_format }
         requires fits { IsSome (as_checked (exact source)) }
         ensures { Some (exactly result) ≡ exact source };
 
-    /// The value; None exactly where there is none or it does not fit.
+    /// Returns the value, or `None` if there is none or it does not fit.
     fn checked_from_source(source: S) -> Option<Self>
         requires { is_format }
         ensures { option_map exactly result ≡ as_checked (exact source) };
 
-    /// The wrapped value, and whether the value does not fit; condition that there is one.
+    /// Returns the wrapped value, and whether the value does not fit. Precondition: there is one.
     fn overflowing_from_source(source: S) -> (Self, bool)
         requires format { is_format }
         requires some { IsSome (exact source) }
         ensures { Some (exactly result.0, result.1) ≡ as_overflowing (exact source) };
 
-    /// The wrapped value; condition that there is one.
+    /// Returns the wrapped value. Precondition: there is one.
     fn wrapping_from_source(source: S) -> Self
         requires format { is_format }
         requires some { IsSome (exact source) }
         ensures { Some (exactly result) ≡ as_wrapping (exact source) };
 
-    /// The value, held at the ends; condition that there is one.
+    /// Returns the nearest value that fits. Precondition: there is a value.
     fn saturating_from_source(source: S) -> Self
         requires format { is_format }
         requires some { IsSome (saturated source) }
         ensures { Some (exactly result) ≡ saturated source };
 
-    /// The value; condition that there is one and that it fits.
+    /// Returns the value. Precondition: there is one, and it fits.
     fn strict_from_source(source: S) -> Self
         requires format { is_format }
         requires fits { IsSome (as_checked (exact source)) }

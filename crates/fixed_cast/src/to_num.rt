@@ -10,7 +10,7 @@ use crate::target::Target;
 use fixed_word::Rounding;
 
 /// Conversions of a number to one of another format, to an integer or to a float, by each policy. A float is the nearest
-/// one, of two as near the one whose last bit is 0; it always fits.
+/// one, ties to even, and always fits.
 pub trait ToNum: Source {
     /// The number; condition that there is one and that it fits.
     fn to_num<D: Target<Self>>(self) -> D

@@ -10,8 +10,8 @@ use crate::convert::convert_round_of;
 use crate::long_products::long_product_of;
 use fixed_word::{Integer, Outcome, RawWord, Rounding, Valued};
 
-/// `a / 2^a_frac` times `b / 2^b_frac` in units of `2^-to`, rounded once. Precondition: the fractions of the factors are
-/// at most their widths.
+/// Returns the outcome of `a / 2^a_frac` times `b / 2^b_frac` in units of `2^-to`, rounded once. Precondition: the
+/// fractions of both factors are at most their widths.
 #[inline]
 pub fn mul_into_of<A: Castable, B: Castable, T: Castable>(
     a: A,

@@ -11,7 +11,8 @@ use crate::parts::{LEAST, Parts, parts_of};
 use fixed_convert::{Castable, compare_of};
 use std::cmp::Ordering;
 
-/// How `a / 2^frac` stands to a float; None for a NaN. Precondition: `frac` is at most the width.
+/// Returns the order of `a / 2^frac` and the exact value of a float, or `None` for a NaN. Infinities lie beyond every
+/// number. Precondition: `frac` is at most the width.
 #[inline]
 pub fn compare_float_of<T: Castable, X: Binary>(a: T, frac: u32, x: X) -> Option<Ordering>
     requires { frac ≤ T.BITS }

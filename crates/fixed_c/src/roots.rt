@@ -1,0 +1,28 @@
+//! Square roots.
+#![tactic(auto, unfolding(crate::specs::inside::Calls::IsResultOf, crate::specs::Answers::at_fraction, crate::specs::Answers::row_or))]
+
+ghost use Rattle.std.specs.Prelude.{◌≡◌};
+ghost use Rattle.fixed_kernel.specs.Root.{root_of};
+ghost use Rattle.fixed_kernel.specs.Rows.{by_sign};
+ghost use Rattle.fixed_c.specs.declared.answer.Code.TheVariants.{NegativeRoot};
+ghost use Rattle.fixed_c.specs.Answers.{at_fraction, row_or};
+ghost use Rattle.fixed_c.specs.inside.Calls.{IsResultOf};
+
+use crate::answer::Code;
+use fixed_kernel::sqrt_of;
+use fixed_word::{Outcome, RawWord, Word};
+
+/// The root of `a 2^frac`, rounded down.
+#[inline]
+pub(crate) fn sqrt<T: Word>(a: T, frac: u32) -> Result<Outcome<T>, Code>
+    ensures { IsResultOf T.value T.SIGNED T.BITS
+        (at_fraction T.BITS frac (row_or NegativeRoot (by_sign (T.value a) (root_of (T.value a) frac)))) result }
+{
+    if frac > T::BITS {
+        return Err(Code::FractionPastWidth);
+    }
+    if a.is_below_zero() {
+        return Err(Code::NegativeRoot);
+    }
+    Ok(sqrt_of(a, frac))
+}

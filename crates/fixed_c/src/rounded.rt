@@ -1,0 +1,148 @@
+//! Operations whose rounding is named by a number.
+#![tactic(auto, unfolding(crate::specs::inside::Calls::IsResultOf, crate::specs::Answers::at_fraction, crate::specs::Answers::row_or, crate::specs::Roundings::for_rounding))]
+
+ghost use Rattle.std.specs.Prelude.{◌≡◌, Ok};
+ghost use Rattle.fixed_kernel.specs.Rounded.{rounded};
+ghost use Rattle.fixed_kernel.specs.RoundedRows.{rounded_add_prod, rounded_div, rounded_mul, rounded_mul_add, rounded_recip};
+ghost use Rattle.fixed_kernel.specs.Rows.{by_divisor};
+ghost use Rattle.fixed_c.specs.declared.answer.Code.TheVariants.{ZeroDivisor};
+ghost use Rattle.fixed_c.specs.Answers.{at_fraction, row_or};
+ghost use Rattle.fixed_c.specs.inside.Calls.{IsResultOf};
+ghost use Rattle.fixed_c.specs.Roundings.{at_rounding, rounding_of};
+
+use crate::answer::Code;
+use fixed_kernel::{
+    add_prod_round_of, div_int_round_of, div_round_of, mul_add_round_of, mul_round_of,
+    recip_round_of,
+};
+use fixed_word::{Outcome, Rounding, Word};
+
+/// The rounding that has the number; None if none has.
+#[inline]
+pub(crate) fn rounding_of(number: u32) -> Option<Rounding>
+    ensures { result ≡ rounding_of number }
+{
+    match number {
+        0 => Some(Rounding::Down),
+        1 => Some(Rounding::Zero),
+        2 => Some(Rounding::Even),
+        _ => None,
+    }
+}
+
+/// `a b / 2^frac`, rounded.
+#[inline]
+pub(crate) fn mul<T: Word>(a: T, b: T, frac: u32, rounding: u32) -> Result<Outcome<T>, Code>
+    ensures { IsResultOf T.value T.SIGNED T.BITS
+        (at_fraction T.BITS frac (at_rounding rounding (λ r. Ok (rounded_mul (T.value a) (T.value b) frac r)))) result }
+{
+    if frac > T::BITS {
+        return Err(Code::FractionPastWidth);
+    }
+    let Some(rounding) = rounding_of(rounding) else {
+        return Err(Code::NoRounding);
+    };
+    Ok(mul_round_of(a, b, frac, rounding))
+}
+
+/// `a mul / 2^mul_frac`, rounded, plus `add`.
+#[inline]
+pub(crate) fn mul_add<T: Word>(
+    a: T,
+    mul: T,
+    add: T,
+    mul_frac: u32,
+    rounding: u32,
+) -> Result<Outcome<T>, Code>
+    ensures { IsResultOf T.value T.SIGNED T.BITS
+        (at_fraction T.BITS mul_frac (at_rounding rounding
+        (λ r. Ok (rounded_mul_add (T.value a) (T.value mul) (T.value add) mul_frac r)))) result }
+{
+    if mul_frac > T::BITS {
+        return Err(Code::FractionPastWidth);
+    }
+    let Some(rounding) = rounding_of(rounding) else {
+        return Err(Code::NoRounding);
+    };
+    let outcome = mul_add_round_of(a, mul, add, mul_frac, rounding);
+    Ok(outcome)
+}
+
+/// `c` plus the product of `a` and `b`, each of a fraction of its own; the product is brought to that of `c` and
+/// rounded.
+#[inline]
+pub(crate) fn add_prod<T: Word>(
+    c: T,
+    a: T,
+    b: T,
+    c_frac: u32,
+    a_frac: u32,
+    b_frac: u32,
+    rounding: u32,
+) -> Result<Outcome<T>, Code>
+    ensures { IsResultOf T.value T.SIGNED T.BITS
+        (at_fraction T.BITS c_frac (at_fraction T.BITS a_frac (at_fraction T.BITS b_frac (at_rounding rounding
+        (λ r. Ok (rounded_add_prod (T.value c) (T.value a) (T.value b) c_frac a_frac b_frac r)))))) result }
+{
+    if c_frac > T::BITS || a_frac > T::BITS || b_frac > T::BITS {
+        return Err(Code::FractionPastWidth);
+    }
+    let Some(rounding) = rounding_of(rounding) else {
+        return Err(Code::NoRounding);
+    };
+    let outcome = add_prod_round_of(c, a, b, c_frac, a_frac, b_frac, rounding);
+    Ok(outcome)
+}
+
+/// `a 2^frac / b`, rounded.
+#[inline]
+pub(crate) fn div<T: Word>(a: T, b: T, frac: u32, rounding: u32) -> Result<Outcome<T>, Code>
+    ensures { IsResultOf T.value T.SIGNED T.BITS
+        (at_fraction T.BITS frac (at_rounding rounding
+        (λ r. row_or ZeroDivisor (by_divisor (T.value b) (rounded_div (T.value a) (T.value b) frac r))))) result }
+{
+    if frac > T::BITS {
+        return Err(Code::FractionPastWidth);
+    }
+    let Some(rounding) = rounding_of(rounding) else {
+        return Err(Code::NoRounding);
+    };
+    if b == T::ZERO {
+        return Err(Code::ZeroDivisor);
+    }
+    Ok(div_round_of(a, b, frac, rounding))
+}
+
+/// `a / k`, rounded, for an integer `k`.
+#[inline]
+pub(crate) fn div_int<T: Word>(a: T, k: T, rounding: u32) -> Result<Outcome<T>, Code>
+    ensures { IsResultOf T.value T.SIGNED T.BITS
+        (at_rounding rounding (λ r. row_or ZeroDivisor (by_divisor (T.value k) (rounded (T.value a) (T.value k) r)))) result }
+{
+    let Some(rounding) = rounding_of(rounding) else {
+        return Err(Code::NoRounding);
+    };
+    if k == T::ZERO {
+        return Err(Code::ZeroDivisor);
+    }
+    Ok(div_int_round_of(a, k, rounding))
+}
+
+/// `2^(2 frac) / a`, rounded.
+#[inline]
+pub(crate) fn recip<T: Word>(a: T, frac: u32, rounding: u32) -> Result<Outcome<T>, Code>
+    ensures { IsResultOf T.value T.SIGNED T.BITS
+        (at_fraction T.BITS frac (at_rounding rounding
+        (λ r. row_or ZeroDivisor (by_divisor (T.value a) (rounded_recip (T.value a) frac r))))) result }
+{
+    if frac > T::BITS {
+        return Err(Code::FractionPastWidth);
+    }
+    let Some(rounding) = rounding_of(rounding) else {
+        return Err(Code::NoRounding);
+    };
+    if a == T::ZERO {
+        return Err(Code::ZeroDivisor);
+    }
+    Ok(recip_round_of(a, frac, rounding))
+}
