@@ -4,21 +4,22 @@
 //! ```
 //! use zugyelmas::prelude::*;
 //!
-//! let gain = FixedI32::<16>::from_num(1.5); // 98304 units of 1/65536
+//! const GAIN: FixedI32<16> = FixedI32::lit("1.5"); // 98304 units of 1/65536
 //! let level = FixedI32::<16>::from_num(2);
-//! assert_eq!(gain.checked_mul(level), Some(FixedI32::from_num(3)));
+//! assert_eq!(GAIN.checked_mul(level), Some(FixedI32::from_num(3)));
 //! assert_eq!(level.saturating_mul_int(1_000_000), FixedI32::MAX);
-//! let sum = gain * level + 2 * level;
+//! let sum = GAIN * level + 2 * level;
 //! let tenth = "0.1".parse::<FixedI32<16>>().expect("a decimal"); // 6554 units: the nearest number
-//! assert_eq!(format!("{tenth} {tenth:.6} {}", sum.to_float::<f64>()), "0.1 0.100006 7");
+//! assert_eq!(format!("{tenth} {tenth:.6} {}", sum.to_num::<f64>()), "0.1 0.100006 7");
+//! assert_eq!(level.checked_log2(), Some(FixedI32::from_num(1)));
 //!
 //! let (wrapped, past) = FixedI8::<4>::MAX.overflowing_add(FixedI8::DELTA);
 //! assert_eq!((wrapped, past), (FixedI8::MIN, true));
 //! assert_eq!(FixedU8::<8>::from_bits(64).checked_sqrt(), Some(FixedU8::from_bits(128))); // 1/4, 1/2
 //! ```
 //!
-//! [`interval`] has intervals whose ends are rounded outward, [`poly`] polynomials by Horner's rule, and [`filter`] steps of
-//! a filter, each with a proved bound on its rounding.
+//! [`Enclosure`] and [`interval`] have intervals whose ends are rounded outward, [`poly`] polynomials by Horner's rule, and
+//! [`filter`] steps of a filter, each with a proved bound on its rounding. [`math`] has lengths, logarithms and powers.
 //!
 //! ```
 //! use zugyelmas::{Interval, PolyReply, div_in, horner_of};
@@ -44,14 +45,15 @@
 //! The proofs are those of the Rattle toolchain `rattle-kit-13f logic dac8208d650f15bf`, for its language. That rustc's
 //! code does the same rests on:
 //!
-//! - rustc, and the build script, which leaves contracts out and writes assertions in.
+//! - rustc, and the build script, which leaves contracts out and writes assertions and messages of errors in.
 //! - The toolchain's table of forms that compile in both languages and run differently. `checks/forms_apart.py` finds none
 //!   of them here but those that it lists with a reason.
 //! - `stopping::exact_number` in `rust/lib.rs`, which every strict and unwrapped call makes: Rust without a proof.
 //! - `rust/edge.rs`, `rust/between.rs`, and `references.rs` and `between.rs` of `rust/script/`: operators on references and
-//!   between types, `From` and `TryFrom`, [`Sum`](core::iter::Sum) and [`Product`](core::iter::Product), and replies as
-//!   results, which forward to proved calls; and that a format holds every number that `From` takes, which they assert at
-//!   compile time. With a feature also `rust/memory.rs`, which forwards to `alloc`.
+//!   between types, `From` and `TryFrom`, [`Sum`](core::iter::Sum) and [`Product`](core::iter::Product), `{:b}` to `{:X}`,
+//!   and replies as results, which forward to proved calls; and that a format holds every number that `From` takes, which
+//!   they assert at compile time. Before Rust 1.87 also `rust/casts.rs`, and with a feature `rust/memory.rs`, which forwards
+//!   to `alloc`.
 //! - A `usize` of 64 bits, as in every proof. On smaller targets nothing is proved of lengths and indexes.
 //! - Every implementation of this library's traits in another crate. Nothing is proved of one, nor of a generic call
 //!   that uses it. The traits of words and floats are sealed, since a word that misstates itself would break every call.
