@@ -3,7 +3,7 @@ use Rattle.std.proofs.Common.{◌≡◌, ◌+◌, ◌-◌, ◌*◌, ◌/◌, ◌
 use Rattle.std.proofs.Math.Nat.{le_of_mul-le-mul_right, mul-le-mul_right, mul-le-mul_left, pow-le-pow_left, pow-le-pow_right, one-le-pow, pow-suc, pow-zero, div-div-eq-div-mul}
 use Rattle.std.proofs.lemmas.Nat.{mul-le, mul-pow, pow-add, pow_pos, div-add-mod', mod_below, div_below}
 use Rattle.std.proofs.lemmas.Bool.{cases_lt}
-use Rattle.fixed_elementary.specs.inside.Power.{IsFloored, IsPart, IsPower, IsRootOfTwo}
+use Rattle.fixed_elementary.specs.inside.Power.{IsFactor, IsFloored, IsPart, IsPower, IsRootOfTwo}
 
 twice_suc : (b : ℕ) → 2 ^ suc b ≡ 2 ^ b + 2 ^ b
 twice_suc b = omega (arith, pow-suc 2 b)
@@ -98,16 +98,6 @@ squared w q z i p h =
     let e = pow-add (w + 1) i i in
     record { below = rw (a, b, c) (omega arith); above = rw (a, b, c, d, e) (omega arith) }
 
-weaker : (w q z i j p : ℕ) → i ≤ j → IsPower w q z i p → IsPower w q z j p
-weaker w q z i j p l h =
-    let d = j - i in
-    let e : j ≡ i + d = omega arith in
-    let a = pow-add w i d in
-    let b = pow-add (w + 1) i d in
-    let s : w ^ d ≤ (w + 1) ^ d = pow-le-pow_left (omega arith) d in
-    let x = mul-le (2 ^ z * w ^ q * w ^ i) (w ^ d) (p ^ q * (w + 1) ^ i) ((w + 1) ^ d) h.above s in
-    record { below = h.below; above = rw (e, a, b) (omega arith) }
-
 product_below : (w q y z m n p : ℕ) → 0 < w → p * w ≤ m * n → m ^ q ≤ 2 ^ y * w ^ q → n ^ q ≤ 2 ^ z * w ^ q → p ^ q ≤ 2 ^ (y + z) * w ^ q
 product_below w q y z m n p o f g h =
     let up : (p * w) ^ q ≤ (m * n) ^ q = pow-le-pow_left f q in
@@ -166,40 +156,46 @@ doubled_part w b z p h =
     let g : 3 * b * 2 ^ suc b ≡ 3 * b * 2 ^ b + 3 * b * 2 ^ b = rw e (omega arith) in
     rw (f, g, e) s
 
-pub part_none : (w b z p d : ℕ) → d ≡ 0 → IsPart w b z p → IsPart w (b + 1) (2 * z + d) p
-part_none w b z p d none h =
-    let e : b + 1 ≡ suc b = omega arith in
-    let f : 2 * z + d ≡ 2 * z = omega arith in
-    let g = twice_suc b in
-    let l : 3 * b * 2 ^ suc b ≤ 3 * suc b * 2 ^ suc b = mul-le-mul_right (2 ^ suc b) (omega arith) in
+pub factor_none : (w b d c : ℕ) → d ≡ 0 → c ≡ w → IsFactor w b d c
+factor_none w b d c e f =
+    let z = pow-zero 2 in
+    let s : w ^ (2 * 2 ^ b) ≤ (w + 1) ^ (2 * 2 ^ b) = pow-le-pow_left (omega arith) (2 * 2 ^ b) in
+    let t = mul-le-mul_left (w ^ 2 ^ b) s in
     rw (e, f) (record {
-      digits = omega (arith, h.digits);
-      least = h.least;
-      most = h.most;
-      power = weaker w (2 ^ suc b) (2 * z) (3 * b * 2 ^ suc b) (3 * suc b * 2 ^ suc b) p l (doubled_part w b z p h);
-      unit = λ k. h.unit (omega arith);
+      least = omega arith;
+      most = omega arith;
+      power = record { below = rw z (omega arith); above = rw z (omega arith) };
+      unit = λ k. refl;
     })
 
-pub part_one : (w b z p c n d : ℕ) → 0 < w → d ≡ 1 → IsPart w b z p → IsRootOfTwo w (b + 1) c → IsFloored w p c n → IsPart w (b + 1) (2 * z + d) n
-part_one w b z p c n d o one h r f =
+pub factor_one : (w b d c : ℕ) → d ≡ 1 → IsRootOfTwo w b c → IsFactor w b d c
+factor_one w b d c e h = rw e (record { least = h.least; most = h.most; power = h.power; unit = λ k. absurd (omega arith) })
+
+pub part_on : (w b z p c n d : ℕ) → 0 < w → d ≤ 1 → IsPart w b z p → IsFactor w (b + 1) d c → IsFloored w p c n → IsPart w (b + 1) (2 * z + d) n
+part_on w b z p c n d o small h r f =
     let e : b + 1 ≡ suc b = omega arith in
-    let root = subst (λ k. IsRootOfTwo w k c) e r in
-    let g : 2 * z + d ≡ 2 * z + 1 = omega arith in
+    let factor = subst (λ k. IsFactor w k d c) e r in
     let t = twice_suc b in
-    let all = product_is w (2 ^ suc b) (2 * z) 1 p c n (3 * b * 2 ^ suc b) (2 * 2 ^ suc b) o f (doubled_part w b z p h) root.power in
+    let all = product_is w (2 ^ suc b) (2 * z) d p c n (3 * b * 2 ^ suc b) (2 * 2 ^ suc b) o f (doubled_part w b z p h) factor.power in
     let i : 3 * b * 2 ^ suc b + 2 * 2 ^ suc b + 2 ^ suc b ≡ 3 * suc b * 2 ^ suc b = errors b (2 ^ suc b) in
-    let power = subst (λ k. IsPower w (2 ^ suc b) (2 * z + 1) k n) i all in
-    let digits : 2 * z + 1 < 2 ^ suc b = omega (arith, h.digits) in
-    rw (e, g) (record {
+    let power = subst (λ k. IsPower w (2 ^ suc b) (2 * z + d) k n) i all in
+    let digits : 2 * z + d < 2 ^ suc b = omega (arith, h.digits) in
+    rw e (record {
       digits = digits;
       least = f.least;
-      most = less_than_two w (2 ^ suc b) (2 * z + 1) (3 * suc b * 2 ^ suc b) n o digits power;
+      most = less_than_two w (2 ^ suc b) (2 * z + d) (3 * suc b * 2 ^ suc b) n o digits power;
       power = power;
-      unit = λ k. absurd (omega arith);
+      unit = λ k. unit_product w p c n o f.least f.below (h.unit (omega arith)) (factor.unit (omega arith));
     })
   where
     errors : (b q : ℕ) → 3 * b * q + 2 * q + q ≡ 3 * suc b * q
     errors b q = omega arith
+
+    unit_product : (w p c n : ℕ) → 0 < w → w ≤ n → n * w ≤ p * c → p ≡ w → c ≡ w → n ≡ w
+    unit_product w p c n o l h e f =
+        let t : n * w ≤ w * w = subst (λ k. n * w ≤ w * k) f (subst (λ k. n * w ≤ k * c) e h) in
+        let s = le_of_mul-le-mul_right t o in
+        omega arith
 
 -- ---- the loop
 

@@ -1,7 +1,7 @@
 -- The root of a quotient, one binary digit a turn.
 use Rattle.std.proofs.Common.{◌≡◌, ◌+◌, ◌-◌, ◌*◌, ◌/◌, ◌%◌, ◌^◌, ◌<◌, ◌≤◌, ℕ, suc, refl, ap, sym, ◌∙◌, arith}
 use Rattle.std.proofs.Math.Nat.{pow-suc, pow-zero, pow-le-pow_right, mul-le-mul_left}
-use Rattle.std.proofs.lemmas.Nat.{pow-add, div-add-mod'}
+use Rattle.std.proofs.lemmas.Nat.{pow-add, div-add-mod', mod_below}
 use Rattle.fixed_elementary.specs.inside.RecipParts.{IsRecipRootOf, divided}
 
 -- ---- one turn
@@ -26,9 +26,9 @@ pub record Found (a b q r t i : ℕ) : Type 0 where
   pub value : divided a q r t ≡ b * 2 ^ (2 * i)
   pub rest : t < a
   pub remainder : r ≤ 2 * q
-  pub root : q + 1 ≤ 2 * 2 ^ i
+  pub root : q + 1 ≤ 2 ^ 64 * 2 ^ i
 
-pub begun : (a b q r t : ℕ) → divided a q r t ≡ b → t < a → r ≤ 2 * q → q ≤ 1 → Found a b q r t 0
+pub begun : (a b q r t : ℕ) → divided a q r t ≡ b → t < a → r ≤ 2 * q → q < 2 ^ 64 → Found a b q r t 0
 begun a b q r t e h l o =
     let p : 2 ^ (2 * 0) ≡ 1 = refl in
     record {
@@ -52,23 +52,26 @@ turned a b q r t i x y z f e h l o =
     times : (b p : ℕ) → 4 * (b * p) ≡ b * (4 * p)
     times b p = omega arith
 
-pub room : (a b q r t i k : ℕ) → i < k → k ≤ 96 → Found a b q r t i → q < 2 ^ 100
+pub room : (a b q r t i k : ℕ) → i < k → k ≤ 33 → Found a b q r t i → q < 2 ^ 100
 room a b q r t i k h l f =
-    let few : i ≤ 95 = omega arith in
-    let p : 2 ^ i ≤ 2 ^ 95 = pow-le-pow_right {n = 2} (omega arith) few in
+    let few : i ≤ 32 = omega arith in
+    let p : 2 ^ i ≤ 2 ^ 32 = pow-le-pow_right {n = 2} (omega arith) few in
     let q = f.root in
     omega arith
 
 -- the power of two that all digits make
-pub exponent_is : (e b : ℕ) → b ≡ 2 ^ (e % 2) → b * 2 ^ (2 * (e / 2)) ≡ 2 ^ e
-exponent_is e b h =
+exponent_is : (e b : ℕ) → 126 ≤ e → b ≡ 2 ^ (126 + e % 2) → b * 2 ^ (2 * ((e - 126) / 2)) ≡ 2 ^ e
+exponent_is e b l h =
     let d = div-add-mod' e 2 in
-    let s : e % 2 + 2 * (e / 2) ≡ e = omega arith in
-    rw h (sym (pow-add 2 (e % 2) (2 * (e / 2))) ∙ ap (λ (n : ℕ). 2 ^ n) s)
+    let f = div-add-mod' (e - 126) 2 in
+    let m = mod_below e 2 (omega arith) in
+    let n = mod_below (e - 126) 2 (omega arith) in
+    let s : 126 + e % 2 + 2 * ((e - 126) / 2) ≡ e = omega arith in
+    rw h (sym (pow-add 2 (126 + e % 2) (2 * ((e - 126) / 2))) ∙ ap (λ (k : ℕ). 2 ^ k) s)
 
-pub all_found : (a b q r t i e : ℕ) → i ≡ e / 2 → b ≡ 2 ^ (e % 2) → Found a b q r t i → IsRecipRootOf (2 ^ e) a q
-all_found a b q r t i e g h f =
-    let n : divided a q r t ≡ 2 ^ e = f.value ∙ ap (λ (k : ℕ). b * 2 ^ (2 * k)) g ∙ exponent_is e b h in
+pub all_found : (a b q r t i e : ℕ) → i ≡ (e - 126) / 2 → 126 ≤ e → b ≡ 2 ^ (126 + e % 2) → Found a b q r t i → IsRecipRootOf (2 ^ e) a q
+all_found a b q r t i e g l h f =
+    let n : divided a q r t ≡ 2 ^ e = f.value ∙ ap (λ (k : ℕ). b * 2 ^ (2 * k)) g ∙ exponent_is e b l h in
     let s = f.rest in
     let m = mul-le-mul_left a f.remainder in
     (omega arith, omega arith)

@@ -1,4 +1,4 @@
-//! The root of a quotient of up to 193 bits, one binary digit a turn.
+//! The root of a quotient of up to 193 bits: the root of its first digits, and then one binary digit a turn.
 
 ghost use Rattle.std.specs.Prelude.{◌≡◌, ◌≤◌, ◌<◌, ◌+◌, ◌*◌, ◌%◌, ◌^◌};
 ghost use Rattle.fixed_elementary.specs.inside.RecipParts.{IsRecipRootOf, divided};
@@ -19,29 +19,31 @@ struct Digit {
     rest: u128,
 }
 
-/// The highest digit of `2^exponent` to the base 4.
-fn highest_of(exponent: u32) -> u128
-    ensures value { result ≡ 2 ^ (exponent % 2) }
-    ensures small { result ≤ 2 }
+/// The power of two of which a quotient fits a word, and of which `2^exponent` is a multiple by a power of 4.
+fn first_of(exponent: u32) -> u128
+    ensures { result ≡ 2 ^ (126 + exponent % 2) }
 {
-    if exponent % 2 == 0 { 1 } else { 2 }
+    if exponent % 2 == 0 {
+        1 << 126
+    } else {
+        1 << 127
+    }
 }
 
-/// The quotient of 1 or 2, and its root.
+/// The quotient of a dividend that fits a word, and its root.
 fn begin(a: u64, dividend: u128) -> Part
-    requires some { 0 < a }
-    requires dividend { dividend ≤ 2 }
+    requires { 0 < a }
     ensures value { divided a result.root result.remainder result.rest ≡ dividend }
     ensures rest { result.rest < a }
     ensures remainder { result.remainder ≤ 2 * result.root }
-    ensures root { result.root ≤ 1 }
+    ensures root { result.root < 2 ^ 64 }
 {
     let divisor = u128::from(a);
     let quotient = dividend / divisor;
-    let root = if quotient == 0 { 0 } else { 1 };
+    let root = quotient.isqrt();
     Part {
         root,
-        remainder: quotient - root,
+        remainder: quotient - root * root,
         rest: dividend % divisor,
     }
 }
@@ -102,12 +104,13 @@ fn find_digit(part: Part, a: u64) -> Part
 
 /// The root of `2^exponent / a`, rounded down.
 pub(crate) fn recip_root_by_digits(a: u64, exponent: u32) -> u128
-    requires exponent { exponent ≤ 192 }
+    requires least { 126 ≤ exponent }
+    requires most { exponent ≤ 192 }
     requires some { 0 < a }
     ensures { IsRecipRootOf (2 ^ exponent) a result }
 {
-    let mut part = begin(a, highest_of(exponent));
-    for i in 0..exponent / 2 {
+    let mut part = begin(a, first_of(exponent));
+    for i in 0..(exponent - 126) / 2 {
         part = find_digit(part, a);
     }
     part.root

@@ -3,7 +3,7 @@
 ghost use Rattle.std.specs.Prelude.{◌≡◌, ◌≤◌, ◌<◌, ◌+◌, ◌-◌, ◌*◌, ◌/◌, ◌%◌, ◌^◌, ◌+ℤ◌, ℕ, ℤ, pos, min};
 ghost use Rattle.fixed_word.specs.Format.{with_sign};
 ghost use Rattle.fixed_elementary.specs.Exp2.{IsExp2Of, IsExp2Up, StandsUpTo, exp2_room};
-ghost use Rattle.fixed_elementary.specs.inside.Power.{IsExponent, IsFloored, IsPart};
+ghost use Rattle.fixed_elementary.specs.inside.Power.{IsExponent, IsFactor, IsFloored, IsPart};
 
 use crate::logarithms::in_units;
 use crate::reciprocals::power_of_two;
@@ -45,6 +45,18 @@ fn digit_of(number: u64, place: u32) -> u64
     (number >> place) % 2
 }
 
+/// The factor of a digit, in units of `2^-62`. The root is at hand before the digit is known, so that loops choose
+/// without a jump.
+#[inline]
+fn narrow_factor(digit: u64, place: u32) -> u64
+    requires place { place < 32 }
+    requires digit { digit ≤ 1 }
+    ensures { IsFactor (2 ^ 62) (place + 1) digit result }
+{
+    let root = narrow_root(place as usize + 1);
+    if digit == 0 { 1 << 62 } else { root }
+}
+
 /// The power after one digit more, in units of `2^-62`.
 #[inline]
 fn narrow_turn(power: u64, digit: u64, place: u32) -> u64
@@ -54,11 +66,19 @@ fn narrow_turn(power: u64, digit: u64, place: u32) -> u64
     requires most { power < 2 ^ 63 }
     ensures { (z : ℕ) → IsPart (2 ^ 62) place z power → IsPart (2 ^ 62) (place + 1) (2 * z + digit) result }
 {
-    if digit == 0 {
-        power
-    } else {
-        narrow_product(power, narrow_root(place as usize + 1))
-    }
+    narrow_product(power, narrow_factor(digit, place))
+}
+
+/// The factor of a digit, in units of `2^-126`. The root is at hand before the digit is known, so that loops choose
+/// without a jump.
+#[inline]
+fn broad_factor(digit: u64, place: u32) -> u128
+    requires place { place < 64 }
+    requires digit { digit ≤ 1 }
+    ensures { IsFactor (2 ^ 126) (place + 1) digit result }
+{
+    let root = broad_root(place as usize + 1);
+    if digit == 0 { 1 << 126 } else { root }
 }
 
 /// The power after one digit more, in units of `2^-126`.
@@ -70,11 +90,7 @@ fn broad_turn(power: u128, digit: u64, place: u32) -> u128
     requires most { power < 2 ^ 127 }
     ensures { (z : ℕ) → IsPart (2 ^ 126) place z power → IsPart (2 ^ 126) (place + 1) (2 * z + digit) result }
 {
-    if digit == 0 {
-        power
-    } else {
-        broad_product(power, broad_root(place as usize + 1))
-    }
+    broad_product(power, broad_factor(digit, place))
 }
 
 /// `2^(part / 2^places)` in units of `2^-62`.

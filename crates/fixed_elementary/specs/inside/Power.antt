@@ -12,6 +12,13 @@ pub record IsRootOfTwo (w b c : ℕ) : Type 0 where
   pub most : c ≤ 2 * w
   pub power : IsPower w (2 ^ b) 1 (2 * 2 ^ b) c
 
+-- c is 2 ^ (d / 2 ^ b), for a digit d
+pub record IsFactor (w b d c : ℕ) : Type 0 where
+  pub least : w ≤ c
+  pub most : c ≤ 2 * w
+  pub power : IsPower w (2 ^ b) d (2 * 2 ^ b) c
+  pub unit : d ≡ 0 → c ≡ w
+
 -- n is the product of p and c, rounded down
 pub record IsFloored (w p c n : ℕ) : Type 0 where
   pub least : w ≤ n
