@@ -15,7 +15,7 @@ use std::path::Path;
 use std::{env, fs};
 
 /// The crates of the library, lowest first, without the `fixed_` in front.
-pub const LIBRARY: [&str; 21] = [
+pub const LIBRARY: [&str; 22] = [
     "word",
     "bits",
     "root",
@@ -23,6 +23,7 @@ pub const LIBRARY: [&str; 21] = [
     "kernel",
     "elementary",
     "convert",
+    "digits",
     "text",
     "decimal",
     "num",
@@ -51,13 +52,13 @@ pub const INSIDE: [&str; 11] = [
     "decimal/literal",
     "decimal/numeral",
     "decimal/tens",
+    "digits/numerals",
+    "digits/written",
     "kernel/whole",
     "kernel/wide",
     "logs/exact",
     "text/added",
-    "text/numerals",
     "text/pieces",
-    "text/written",
 ];
 
 /// The files that take memory, or serve the runs that do, and so are left out where there is none.

@@ -259,7 +259,7 @@ fn what_is_inside() {
     );
     let public = [("fixed_text/src/lib.rt", "mod pieces;", "pub mod pieces;")];
     let said = of_crates("inside_and_public", &["text"], &public).err();
-    let error = "fixed_text/src/lib.rt:16: a public module of a file that is not offered";
+    let error = "fixed_text/src/lib.rt:15: a public module of a file that is not offered";
     assert_eq!(said.as_deref(), Some(error));
 }
 

@@ -3,8 +3,8 @@ use Rattle.std.proofs.Common.{◌≡◌, ◌≤◌, ℕ, List, [], ◌∷◌, ma
 use Rattle.std.specs.declared.alloc.Global.{Global}
 use Rattle.fixed_word.specs.Decimal.{natural_text}
 use Rattle.fixed_calc.specs.CommandLine.{IsDemo, most_lines}
-use Rattle.fixed_text.specs.Numerals.{cap, natural_at}
-use Rattle.fixed_text.proofs.Decimals.{natural_takes, natural_again, natural_text_injective}
+use Rattle.fixed_digits.specs.Numerals.{cap, natural_at}
+use Rattle.fixed_digits.proofs.Decimals.{natural_takes, natural_again, natural_text_injective}
 
 -- the words say one number
 pub one_asked : (words : List (String Global)) (m n : ℕ) → IsDemo words m → IsDemo words n → m ≡ n

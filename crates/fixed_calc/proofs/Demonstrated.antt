@@ -17,7 +17,7 @@ use Rattle.fixed_machine.specs.Meaning.{Run, Output, Fault, by_cause, step_then,
 use Rattle.fixed_calc.specs.Demo.{demo_header, demo_lines, demo_text, answers_from, demo_answers}
 use Rattle.fixed_machine.proofs.Ended.{pieces_ended, line_read, header_read}
 use Rattle.fixed_machine.proofs.Runs.{run_of_lines}
-use Rattle.fixed_text.proofs.Lacking.{lacks, naturals_lack, joined_lack}
+use Rattle.fixed_digits.proofs.Lacking.{lacks, naturals_lack, joined_lack}
 use Rattle.fixed_calc.proofs.Drawn.{IsReady, IsDrawn, stays_ready, lines_drawn}
 
 -- ---- lines

@@ -25,7 +25,7 @@ use Rattle.fixed_calc.specs.Demo.{state_at, octal_digit, choices, drawn_line, de
 use Rattle.fixed_machine.proofs.Lacks.{line_lacks}
 use Rattle.fixed_machine.proofs.Causes.{PassesTests, after_tests}
 use Rattle.fixed_machine.proofs.Fits.{fit_true}
-use Rattle.fixed_text.proofs.Lacking.{lacks}
+use Rattle.fixed_digits.proofs.Lacking.{lacks}
 use Rattle.fixed_machine.specs.inside.Stepping.{is_value}
 
 -- ---- the draws

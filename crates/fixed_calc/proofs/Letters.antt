@@ -8,7 +8,7 @@ use Rattle.fixed_machine.specs.declared.answer.Answer.{Answer}
 use Rattle.fixed_machine.specs.declared.answer.Answer.TheVariants.{Absent, Bits, Flagged}
 use Rattle.fixed_machine.specs.Answers.{answer_text}
 use Rattle.fixed_calc.specs.Demo.{is_absent, has_true_verdict}
-use Rattle.fixed_text.proofs.Lacking.{whole_lacks, count_lacks}
+use Rattle.fixed_digits.proofs.Lacking.{whole_lacks, count_lacks}
 
 abbrev letter : ℕ → ℕ → ℕ
 letter c b = cond (eqb b c) 1 0

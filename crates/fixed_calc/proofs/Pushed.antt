@@ -12,7 +12,7 @@ use Rattle.fixed_script.specs.Text.{ScriptLine, SetTo, Apply, Operands, register
 use Rattle.fixed_calc.specs.Demo.{choices, drawn_line, state_at, demo_lines, demo_text, demo_header}
 use Rattle.fixed_machine.specs.Answers.{ended}
 use Rattle.fixed_calc.specs.inside.Draws.{next_state, draw}
-use Rattle.fixed_text.proofs.Decimals.{natural_text_digit, natural_text_step}
+use Rattle.fixed_digits.proofs.Decimals.{natural_text_digit, natural_text_step}
 
 -- a space before each token but the first
 spaced : (t : List ℕ) (ts : List (List ℕ)) → join_with_byte 32 (t ∷ ts) ≡ t ++ flat_map (λ u. 32 ∷ u) ts

@@ -14,8 +14,8 @@ use Rattle.fixed_script.specs.Text.{ScriptHeader, header_text, header_tokens, Sc
 use Rattle.fixed_machine.specs.Machine.{State, cause, answer, move}
 use Rattle.fixed_machine.specs.Meaning.{Run, Output, after, by_cause, step_then, run_lines, run_of, start, has_wide, fractions_of, meaning, Fault}
 use Rattle.fixed_calc.specs.Widening.{IsWider, script_of, with_word, row_fits, fits_then, rows_fit}
-use Rattle.fixed_text.proofs.Decimals.{both}
-use Rattle.fixed_text.proofs.Lacking.{lacks, naturals_lack, joined_lack}
+use Rattle.fixed_digits.proofs.Decimals.{both}
+use Rattle.fixed_digits.proofs.Lacking.{lacks, naturals_lack, joined_lack}
 use Rattle.fixed_machine.proofs.Runs.{run_of_lines, run_of_wide}
 use Rattle.fixed_calc.proofs.Twice.{output_of}
 use Rattle.fixed_machine.proofs.Ended.{pieces_ended, header_read}

@@ -5,7 +5,7 @@ ghost use Rattle.fixed_word.specs.Decimal.{natural_text};
 ghost use Rattle.fixed_calc.specs.inside.Commands.{IsCommandOf};
 ghost use Rattle.fixed_calc.specs.CommandLine.{most_lines};
 
-use fixed_text::natural_of;
+use fixed_digits::natural_of;
 
 /// How many lines a demonstration has at least.
 const FEWEST: u128 = 1;

@@ -7,7 +7,7 @@ ghost use Rattle.fixed_calc.specs.Demo.{demo_text, drawn_line};
 ghost use Rattle.fixed_calc.specs.inside.Draws.{next_state};
 ghost use Rattle.fixed_calc.specs.CommandLine.{most_lines};
 
-use fixed_text::decimal_into;
+use fixed_digits::decimal_into;
 use std::alloc::{AllocError, Global};
 use std::marker::Model;
 

@@ -3,7 +3,7 @@
 ghost use Rattle.std.specs.Prelude.{◌≡◌, ◌≤◌, ◌+◌, ◌++◌, [], length};
 ghost use Rattle.fixed_word.specs.Decimal.{natural_text};
 
-use fixed_text::decimal_into;
+use fixed_digits::decimal_into;
 use std::marker::Model;
 
 /// A text of at most 96 bytes.

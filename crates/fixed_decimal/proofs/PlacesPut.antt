@@ -12,7 +12,7 @@ use Rattle.fixed_kernel.specs.Rounded.{rounded}
 use Rattle.fixed_kernel.proofs.Alikes.{abs_signed, signed_times}
 use Rattle.fixed_kernel.proofs.Stepped.{stepped_small}
 use Rattle.fixed_decimal.proofs.Decided.{rounded_by_step}
-use Rattle.fixed_text.proofs.Placed.{length_natural_u64}
+use Rattle.fixed_digits.proofs.Placed.{length_natural_u64}
 use Rattle.fixed_decimal.specs.Text.{magnitude_text, places_text, text_of}
 use Rattle.fixed_decimal.specs.inside.Stepped.{stepped}
 use Rattle.fixed_decimal.proofs.Halved.{moved}

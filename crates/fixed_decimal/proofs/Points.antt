@@ -14,7 +14,7 @@ use Rattle.std.proofs.lemmas.List.Folds.{find-append, list_all-append}
 use Rattle.std.proofs.lemmas.List.Sums.{passes_at_first, position_or_len_is, prefix_len_is, prefix_len_passes, prefix_len_stops, prefix_len-le-length}
 use lib.ListN.{get_or-eq_default}
 use Rattle.fixed_decimal.specs.inside.Reading.{IsPointAt, part_end}
-use Rattle.fixed_text.proofs.Capping.{digit_value_is}
+use Rattle.fixed_digits.proofs.Capping.{digit_value_is}
 use Rattle.fixed_decimal.specs.Decimal.{digits_in, fault_at, fault_of, is_point, lead}
 use Rattle.fixed_decimal.specs.declared.error.DecimalError.TheVariants.{InvalidDigit, TooManyPoints}
 

@@ -9,8 +9,8 @@ use Rattle.std.proofs.lemmas.List.{get_or-drop, length-take-le, take_more}
 use Rattle.std.proofs.lemmas.List.Folds.{list_all-append}
 use Rattle.std.proofs.lemmas.List.Sums.{AllPass-from_list_all}
 use Rattle.std.proofs.lemmas.Grind.{common_steps}
-use Rattle.fixed_text.proofs.Capping.{digit_value_is}
-use Rattle.fixed_text.proofs.Decimals.{both}
+use Rattle.fixed_digits.proofs.Capping.{digit_value_is}
+use Rattle.fixed_digits.proofs.Decimals.{both}
 
 pub all_digits : (ds : List ℕ) → list_all is_ascii_digit ds ≡ true → AllDigits 10 ds
 all_digits [] h = tt

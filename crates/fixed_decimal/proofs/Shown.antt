@@ -2,7 +2,7 @@
 use Rattle.std.proofs.Common.{◌≡◌, ℕ, zero, suc, ◌+◌, ◌*◌, ◌/◌, ◌%◌, ◌^◌, ◌<◌, ◌≤◌, [], ◌∷◌, ◌++◌, length, length-append, append_assoc, append-nil, refl, sym, ap, ◌∙◌, pow-suc, zero-add, div-one, mul_assoc, arith}
 use Rattle.std.proofs.Math.Nat.{div-div-eq-div-mul}
 use Rattle.fixed_word.specs.Decimal.{natural_text}
-use Rattle.fixed_text.proofs.Shown.{one_digit, more_digits}
+use Rattle.fixed_digits.proofs.Shown.{one_digit, more_digits}
 use Rattle.fixed_decimal.specs.Text.{places_text}
 
 pub length_places : (n p : ℕ) → length (places_text n p) ≡ p

@@ -16,9 +16,9 @@ use Rattle.fixed_word.specs.Format.{with_sign}
 use Rattle.fixed_word.specs.declared.rounding.Rounding.{Rounding}
 use Rattle.fixed_kernel.specs.Rounded.{rounded}
 use Rattle.fixed_kernel.proofs.Alikes.{abs_signed, signed_times}
-use Rattle.fixed_text.proofs.Capping.{digit_value_is}
-use Rattle.fixed_text.proofs.Decimals.{both, decimal_of_text}
-use Rattle.fixed_text.specs.Numerals.{is_decimal}
+use Rattle.fixed_digits.proofs.Capping.{digit_value_is}
+use Rattle.fixed_digits.proofs.Decimals.{both, decimal_of_text}
+use Rattle.fixed_digits.specs.Numerals.{is_decimal}
 use Rattle.fixed_decimal.specs.declared.error.DecimalError.{DecimalError}
 use Rattle.fixed_decimal.specs.Decimal.{decimal_row, digits_in, fault_of, is_point, place_in, places_in, unless}
 use Rattle.fixed_decimal.specs.Text.{magnitude_text, places_text, text_of}

@@ -7,7 +7,7 @@ ghost use Rattle.fixed_decimal.specs.inside.Stepped.{stepped};
 use crate::halves::{low_bits, rounded_halves};
 use crate::numeral::PART;
 use crate::tens::ten_to;
-use fixed_text::decimal_before;
+use fixed_digits::decimal_before;
 use fixed_word::{RawWord, Rounding, Word};
 
 /// Puts the text of a number in units of `2^-frac` at the end of the buffer, rounded to so many digits behind the

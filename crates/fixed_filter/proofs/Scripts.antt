@@ -14,8 +14,8 @@ use Rattle.fixed_text.specs.declared.names.WordName.{WordName}
 use Rattle.fixed_text.specs.declared.names.WordName.TheVariants.{I8, I16, I32, I64, U8, U16, U32, U64}
 use Rattle.fixed_text.specs.Runs.{Reading, Malformed, Read, Printed, after, then_by, piece_by, in_range, read_map, fitting_number, fitting_numbers, lines_from, opened_by, run_opened}
 use Rattle.fixed_text.specs.Words.{is_signed, width, word_name}
-use Rattle.fixed_text.proofs.Decimals.{both}
-use Rattle.fixed_text.proofs.Lacking.{lacks, natural_lacks, whole_lacks, joined_lack}
+use Rattle.fixed_digits.proofs.Decimals.{both}
+use Rattle.fixed_digits.proofs.Lacking.{lacks, natural_lacks, whole_lacks, joined_lack}
 use Rattle.fixed_filter.specs.declared.reply.Reply.{Reply}
 use Rattle.fixed_filter.specs.declared.shape.Shape.{Shape}
 use Rattle.fixed_filter.specs.Banks.{places_of}

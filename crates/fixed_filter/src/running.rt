@@ -2,7 +2,7 @@
 
 ghost use Rattle.std.specs.Prelude.{◌≡◌, ◌++◌, ◌<◌, [], Err, IfSome, None, OnOk, Some, if◌then◌else◌, length, map, nat_lt, slice_index_or, ℕ};
 ghost use Rattle.fixed_word.specs.Pieces.{pieces};
-ghost use Rattle.fixed_text.specs.Numerals.{cap};
+ghost use Rattle.fixed_digits.specs.Numerals.{cap};
 ghost use Rattle.fixed_text.specs.Numbers.{only_number, wholes_in};
 ghost use Rattle.fixed_text.specs.Runs.{Ending, Read, lines_from, then_by};
 ghost use Rattle.fixed_text.specs.Answers.{EndsBy, IsAnswerOfRun, IsStepOfLine};

@@ -4,7 +4,7 @@ ghost use Rattle.std.specs.Prelude.{◌≡◌, ◌++◌, ◌<◌, ◌≤◌, Err
 ghost use Rattle.std.specs.Option.{option_map};
 ghost use Rattle.fixed_word.specs.Pieces.{pieces};
 ghost use Rattle.fixed_text.specs.Decimals.{decimal_of};
-ghost use Rattle.fixed_text.specs.Numerals.{cap};
+ghost use Rattle.fixed_digits.specs.Numerals.{cap};
 ghost use Rattle.fixed_text.specs.Runs.{Ending, lines_from, then_by};
 ghost use Rattle.fixed_text.specs.Answers.{EndsBy, IsStepOfLine};
 ghost use Rattle.fixed_text.specs.Words.{is_signed, width};

@@ -4,7 +4,7 @@ use Rattle.std.proofs.lemmas.Int.{ints}
 use Rattle.std.proofs.lemmas.Bool.Decides.{nat_tests}
 use Rattle.fixed_text.specs.declared.names.WordName.{WordName}
 use Rattle.fixed_script.specs.Text.{ScriptLine, SetTo, Apply, OneRegister, TwoRegisters, RegisterAndInt, ThreeRegisters}
-use Rattle.fixed_text.specs.Numerals.{cap}
+use Rattle.fixed_digits.specs.Numerals.{cap}
 use Rattle.fixed_script.specs.Capped.{cap_whole, capped}
 use Rattle.fixed_machine.specs.Machine.{State, Cell, cause, answer, move, late_cause, is_unoffered, is_out_of_range, is_mismatched}
 use Rattle.fixed_machine.specs.CapLaw.{CapsAlike}

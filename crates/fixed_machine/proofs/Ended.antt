@@ -9,8 +9,8 @@ use Rattle.fixed_word.specs.Pieces.{pieces, body}
 use Rattle.fixed_script.specs.Text.{ScriptHeader, header_text, ScriptLine, IsLine, line_text}
 use Rattle.fixed_script.specs.Lines.{line_of, header_of, header_of_piece, line_of_piece}
 use Rattle.fixed_machine.specs.Answers.{ended}
-use Rattle.fixed_text.proofs.Decimals.{both}
-use Rattle.fixed_text.proofs.Lacking.{lacks}
+use Rattle.fixed_digits.proofs.Decimals.{both}
+use Rattle.fixed_digits.proofs.Lacking.{lacks}
 use Rattle.fixed_script.proofs.TextsRead.{reads_lines, reads_headers}
 
 differs : (x c : ℕ) (b : Bool) → eqb x c ≡ b → not b ≡ true → eqb x c ≡ false

@@ -11,7 +11,7 @@ use Rattle.fixed_script.specs.declared.names.Op.TheVariants.{Neg, Add, Sub, Mul,
 use Rattle.fixed_script.specs.Names.{policy_name, op_name}
 use Rattle.fixed_script.specs.Text.{ScriptLine, SetTo, Apply, Operands, OneRegister, TwoRegisters, RegisterAndInt, ThreeRegisters, operand_tokens, line_tokens, line_text}
 use Rattle.fixed_script.proofs.RoundingTokens.{rounding_tokens}
-use Rattle.fixed_text.proofs.Lacking.{lacks, natural_lacks, whole_lacks, joined_lack}
+use Rattle.fixed_digits.proofs.Lacking.{lacks, natural_lacks, whole_lacks, joined_lack}
 
 policy_lacks : (p : Policy) → lacks 10 (policy_name p) ≡ true
 policy_lacks Checked = refl

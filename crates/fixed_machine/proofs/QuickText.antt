@@ -11,10 +11,10 @@ use Rattle.std.proofs.lemmas.List.{drop_more, drop-drop, take-append-drop, take-
 use Rattle.fixed_word.specs.Decimal.{natural_text, whole_text}
 use Rattle.fixed_word.specs.Format.{with_sign}
 use Rattle.fixed_word.specs.Pieces.{pieces}
-use Rattle.fixed_text.proofs.Capping.{digit_value_is}
-use Rattle.fixed_text.proofs.Decimals.{both, natural_takes, natural_text_step, natural_text_digit}
-use Rattle.fixed_text.proofs.Fronts.{natural_is, digits_more, value_grows}
-use Rattle.fixed_text.proofs.Shown.{one_digit}
+use Rattle.fixed_digits.proofs.Capping.{digit_value_is}
+use Rattle.fixed_digits.proofs.Decimals.{both, natural_takes, natural_text_step, natural_text_digit}
+use Rattle.fixed_digits.proofs.Fronts.{natural_is, digits_more, value_grows}
+use Rattle.fixed_digits.proofs.Shown.{one_digit}
 use Rattle.fixed_script.specs.declared.line.Shape.{Shape}
 use Rattle.fixed_script.specs.declared.line.Shape.TheVariants.{Unary, Binary, ByInteger, Ternary}
 use Rattle.fixed_script.specs.Names.{policy_name, op_name, shape}

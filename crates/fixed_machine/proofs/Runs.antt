@@ -9,7 +9,7 @@ use Rattle.fixed_text.specs.declared.names.WordName.TheVariants.{I8, I16, I32, I
 use Rattle.fixed_machine.specs.declared.answer.Answer.{Answer}
 use Rattle.fixed_machine.specs.Answers.{answer_text}
 use Rattle.fixed_word.specs.Pieces.{pieces}
-use Rattle.fixed_text.specs.Numerals.{cap}
+use Rattle.fixed_digits.specs.Numerals.{cap}
 use Rattle.fixed_script.specs.Text.{ScriptHeader, ScriptLine}
 use Rattle.fixed_machine.specs.Machine.{State, Cell, answer, move}
 use Rattle.fixed_text.specs.Words.{width}

@@ -15,7 +15,7 @@ use Rattle.fixed_machine.specs.Answers.{answer_text}
 use Rattle.fixed_script.specs.Names.{policy_name}
 use Rattle.fixed_word.specs.Pieces.{body}
 use Rattle.fixed_script.specs.Text.{ScriptHeader, header_text, ScriptLine, SetTo, Apply, Operands, OneRegister, TwoRegisters, RegisterAndInt, ThreeRegisters, line_text}
-use Rattle.fixed_text.proofs.Lengths.{length_natural_some, length_whole}
+use Rattle.fixed_digits.proofs.Lengths.{length_natural_some, length_whole}
 use Rattle.fixed_script.proofs.HeaderLaws.{tokens_of_header}
 use Rattle.std.proofs.lemmas.List.Sums.{sum_by-take-le}
 use Rattle.fixed_word.specs.Format.{wrap, clamp}

@@ -6,7 +6,8 @@ ghost use Rattle.fixed_word.specs.Decimal.{natural_text, whole_text};
 ghost use Rattle.fixed_machine.specs.Answers.{answer_text};
 ghost use Rattle.fixed_machine.specs.inside.Signed.{signed_text};
 
-use fixed_text::{decimal_before, push_all, push_whole};
+use fixed_digits::decimal_before;
+use fixed_text::{push_all, push_whole};
 
 /// The answer of a line: no value, the destination's bits, or its bits with the verdict of the
 /// overflowing policy, which is true where the number does not fit.

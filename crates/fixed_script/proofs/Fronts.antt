@@ -7,8 +7,8 @@ use Rattle.std.proofs.lemmas.Bool.{ne_eqb}
 use Rattle.std.proofs.lemmas.Grind.{common_steps}
 use Rattle.fixed_text.specs.Tokens.{next_by, took, tokens_of}
 use Rattle.fixed_script.specs.inside.Parser.{register_at}
-use Rattle.fixed_text.proofs.Capping.{digit_value_is}
-use Rattle.fixed_text.proofs.Fronts.{no_space, natural_is}
+use Rattle.fixed_digits.proofs.Capping.{digit_value_is}
+use Rattle.fixed_digits.proofs.Fronts.{no_space, natural_is}
 
 -- a register of one digit
 one_digit_read : (b : ℕ) → is_ascii_digit b ≡ true → register_at (114 ∷ b ∷ []) ≡ Some (b - 48)

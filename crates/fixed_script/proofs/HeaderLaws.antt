@@ -9,10 +9,10 @@ use Rattle.fixed_text.specs.declared.names.WordName.TheVariants.{I8, I16, I32, I
 use Rattle.fixed_word.specs.Decimal.{natural_text}
 use Rattle.fixed_text.specs.Words.{word_name, word_named}
 use Rattle.fixed_script.specs.Text.{ScriptHeader, header_text, header_tokens}
-use Rattle.fixed_text.specs.Numerals.{cap, is_decimal}
+use Rattle.fixed_digits.specs.Numerals.{cap, is_decimal}
 use Rattle.fixed_text.specs.Tokens.{tokens_of}
 use Rattle.fixed_script.specs.Headers.{CappedHeader, capped_header, capped_fractions, all_decimal}
-use Rattle.fixed_text.proofs.Decimals.{decimal_of_text, text_of_value, both}
+use Rattle.fixed_digits.proofs.Decimals.{decimal_of_text, text_of_value, both}
 use Rattle.fixed_text.proofs.Steps.{named_takes}
 use Rattle.fixed_text.proofs.Joined.{no_space, all_no_space, split_joined, natural_no_space}
 

@@ -6,7 +6,7 @@ use Rattle.fixed_script.specs.declared.names.Policy.TheVariants.{Checked, Satura
 use Rattle.fixed_script.specs.declared.names.Op.{Op}
 use Rattle.fixed_script.specs.Names.{policy_name}
 use Rattle.fixed_script.specs.Text.{Apply, Operands, OneRegister, TwoRegisters, RegisterAndInt, ThreeRegisters, line_text}
-use Rattle.fixed_text.proofs.Lengths.{length_natural_some}
+use Rattle.fixed_digits.proofs.Lengths.{length_natural_some}
 
 policy_long : (p : Policy) → 6 ≤ length (policy_name p)
 policy_long Checked = omega arith

@@ -18,7 +18,7 @@ use Rattle.fixed_word.specs.Decimal.{whole_text}
 use Rattle.fixed_script.specs.Names.{policy_name, policy_named, op_name, op_named, all_ops, rounding_name, rounding_named, shape}
 use Rattle.fixed_script.specs.Text.{ScriptLine, SetTo, Apply, Operands, OneRegister, TwoRegisters, RegisterAndInt, ThreeRegisters, shape_of, takes_rounding, may_round, IsLine, register_text, line_tokens, line_text, operand_tokens}
 use Rattle.fixed_script.proofs.RoundingTokens.{rounding_tokens}
-use Rattle.fixed_text.specs.Numerals.{cap}
+use Rattle.fixed_digits.specs.Numerals.{cap}
 use Rattle.fixed_script.specs.Capped.{cap_whole, cap_operands, capped, checked_script_line, literal_value, of_shape, if_rounds}
 use Rattle.fixed_text.specs.Tokens.{◌>>=◌, next_by, at_end, tokens_of}
 use Rattle.fixed_script.specs.inside.Parser.{register_at, literal_at, set_at, named_at, rounding_at, ends_by, operands_at, apply_at, line_at}

@@ -14,12 +14,12 @@ use Rattle.fixed_script.specs.Names.{policy_name, policy_named, op_name, op_name
 use Rattle.fixed_script.specs.Text.{ScriptHeader, header_tokens, ScriptLine, SetTo, Apply, Operands, OneRegister, TwoRegisters, RegisterAndInt, ThreeRegisters, register_text, line_tokens, operand_tokens}
 use Rattle.fixed_script.proofs.RoundingTokens.{rounding_tokens}
 use Rattle.fixed_text.specs.Tokens.{tokens_of}
-use Rattle.fixed_text.specs.Numerals.{is_decimal, has_minus}
+use Rattle.fixed_digits.specs.Numerals.{is_decimal, has_minus}
 use Rattle.fixed_script.specs.TextLaws.{OneWholeNumber, OneLine, OneHeader}
-use Rattle.fixed_text.proofs.Decimals.{decimal_of_text, natural_text_injective}
+use Rattle.fixed_digits.proofs.Decimals.{decimal_of_text, natural_text_injective}
 use Rattle.fixed_text.proofs.Steps.{named_takes}
 use Rattle.fixed_script.proofs.Readers.{policy_again, op_again}
-use Rattle.fixed_text.proofs.Capping.{no_minus}
+use Rattle.fixed_digits.proofs.Capping.{no_minus}
 use Rattle.fixed_script.proofs.Joined.{tokens_of_line}
 use Rattle.fixed_script.proofs.Lines.{not_set}
 use Rattle.fixed_script.proofs.HeaderLaws.{word_again, tokens_of_header}

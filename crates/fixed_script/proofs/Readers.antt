@@ -10,12 +10,12 @@ use Rattle.fixed_script.specs.declared.literal.Literal.{Literal}
 use Rattle.fixed_word.specs.Decimal.{natural_text, whole_text}
 use Rattle.fixed_script.specs.Names.{policy_name, policy_named, op_name, op_named}
 use Rattle.fixed_script.specs.Text.{register_text}
-use Rattle.fixed_text.specs.Numerals.{cap, natural_at, has_minus}
+use Rattle.fixed_digits.specs.Numerals.{cap, natural_at, has_minus}
 use Rattle.fixed_script.specs.Capped.{cap_whole, literal_value}
 use Rattle.fixed_text.specs.Tokens.{◌>>=◌}
 use Rattle.fixed_script.specs.inside.Parser.{register_at, literal_at}
-use Rattle.fixed_text.proofs.Decimals.{natural_takes, natural_again, decimal_of_text}
-use Rattle.fixed_text.proofs.Capping.{no_minus}
+use Rattle.fixed_digits.proofs.Decimals.{natural_takes, natural_again, decimal_of_text}
+use Rattle.fixed_digits.proofs.Capping.{no_minus}
 use Rattle.fixed_text.proofs.Steps.{guard_some, bind_some}
 
 pub register_takes : (t : List ℕ) (m : ℕ) → register_at t ≡ Some m → (n : ℕ) × (register_text n ≡ t) × (m ≡ cap n)

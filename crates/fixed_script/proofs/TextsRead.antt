@@ -16,9 +16,9 @@ use Rattle.fixed_script.specs.Names.{policy_named, op_named, rounding_named, sha
 use Rattle.fixed_script.specs.Text.{ScriptHeader, header_text, header_tokens, ScriptLine, SetTo, Apply, Operands, OneRegister, TwoRegisters, RegisterAndInt, ThreeRegisters, takes_rounding, may_round, IsLine, line_text, line_tokens, operand_tokens, shape_of}
 use Rattle.fixed_script.proofs.RoundingTokens.{rounding_tokens}
 use Rattle.fixed_text.specs.Tokens.{tokens_of}
-use Rattle.fixed_text.proofs.Decimals.{decimal_of_text}
+use Rattle.fixed_digits.proofs.Decimals.{decimal_of_text}
 use Rattle.fixed_script.proofs.Readers.{policy_again, op_again}
-use Rattle.fixed_text.proofs.Capping.{no_minus}
+use Rattle.fixed_digits.proofs.Capping.{no_minus}
 use Rattle.fixed_script.proofs.Joined.{tokens_of_line}
 use Rattle.fixed_script.proofs.Lines.{not_set}
 use Rattle.fixed_script.proofs.OneText.{register_names_none, whole_names_none, rounding_again}

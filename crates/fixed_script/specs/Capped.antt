@@ -1,6 +1,6 @@
 -- Numbers as the code holds them: one of 2 ^ 64 or more is held as 2 ^ 64.
 use Rattle.std.specs.Prelude.{suc, ℤ, pos, negsuc, neg_ℤ, if◌then◌else◌, Option, Some, None}
-use Rattle.fixed_text.specs.Numerals.{cap}
+use Rattle.fixed_digits.specs.Numerals.{cap}
 use Rattle.fixed_word.specs.declared.rounding.Rounding.{Rounding}
 use Rattle.fixed_script.specs.declared.names.Op.{Op}
 use Rattle.fixed_script.specs.declared.line.Shape.{Shape}

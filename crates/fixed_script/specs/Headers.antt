@@ -4,7 +4,7 @@ use Rattle.std.specs.List.{list_all}
 use Rattle.std.specs.Str.Parse.{digits_value}
 use Rattle.fixed_text.specs.declared.names.WordName.{WordName}
 use Rattle.fixed_script.specs.Text.{ScriptHeader}
-use Rattle.fixed_text.specs.Numerals.{cap, is_decimal}
+use Rattle.fixed_digits.specs.Numerals.{cap, is_decimal}
 
 -- a word, and the fractions in order, capped
 pub record CappedHeader : Type 0 where

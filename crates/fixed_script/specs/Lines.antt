@@ -13,7 +13,7 @@ use Rattle.fixed_script.specs.Names.{policy_named, op_named, rounding_named, sha
 use Rattle.fixed_script.specs.Text.{ScriptHeader, header_text, ScriptLine, SetTo, Apply, Operands, OneRegister, TwoRegisters, RegisterAndInt, ThreeRegisters, IsLine, line_text, takes_rounding}
 use Rattle.fixed_word.specs.Pieces.{body}
 use Rattle.fixed_text.specs.Tokens.{tokens_of}
-use Rattle.fixed_text.specs.Numerals.{has_minus}
+use Rattle.fixed_digits.specs.Numerals.{has_minus}
 
 -- ---- the only line that can have these tokens, if any has
 abbrev pub token : List (List ℕ) → ℕ → List ℕ

@@ -6,7 +6,8 @@ ghost use Rattle.fixed_script.specs.Text.{ScriptHeader, header_text};
 ghost use Rattle.fixed_text.specs.Tokens.{tokens_of};
 ghost use Rattle.fixed_script.specs.Headers.{capped_header, capped_fractions, all_decimal};
 
-use fixed_text::{Tokens, WordName, cut, is_decimal, value_of, word_of};
+use fixed_digits::{is_decimal, value_of};
+use fixed_text::{Tokens, WordName, cut, word_of};
 use std::marker::Model;
 
 /// A header, which borrows its text. Contracts see it as its word and its fractions, of which one of

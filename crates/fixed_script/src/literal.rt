@@ -3,7 +3,7 @@
 ghost use Rattle.std.specs.Prelude.{◌≡◌};
 ghost use Rattle.fixed_script.specs.inside.Parser.{literal_at};
 
-use fixed_text::{natural_of, sign_of};
+use fixed_digits::{natural_of, sign_of};
 
 /// A whole number of a script: its sign, and its magnitude. A magnitude of `2^64` or more is held as
 /// `2^64`, which is no value of any word.

@@ -4,7 +4,7 @@ ghost use Rattle.std.specs.Prelude.{◌≡◌, IfSome, Some};
 ghost use Rattle.fixed_text.specs.Tokens.{next_by, tokens_of, tokens_left};
 ghost use Rattle.fixed_script.specs.inside.Parser.{register_at};
 
-use fixed_text::natural_of;
+use fixed_digits::natural_of;
 
 /// The number of a register.
 #[tactic(auto, unfolding(crate::specs::inside::Parser::register_at))]

@@ -8,8 +8,8 @@ use Rattle.std.proofs.lemmas.List.Sums.{AllPass-from_list_all}
 use Rattle.std.proofs.lemmas.Grind.{common_steps}
 use Rattle.fixed_word.specs.Decimal.{natural_text, whole_text}
 use Rattle.fixed_text.specs.Tokens.{tokens_of}
-use Rattle.fixed_text.specs.Numerals.{is_decimal}
-use Rattle.fixed_text.proofs.Decimals.{decimal_of_text, both}
+use Rattle.fixed_digits.specs.Numerals.{is_decimal}
+use Rattle.fixed_digits.proofs.Decimals.{decimal_of_text, both}
 
 abbrev pub no_space : List ℕ → Bool
 no_space t = list_all (λ b. not (eqb b 32)) t

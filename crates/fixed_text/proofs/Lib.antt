@@ -1,16 +1,8 @@
-pub mod Capping
 pub mod Free
 pub mod Cuts
-pub mod Decimals
 pub mod Steps
-pub mod Fronts
 pub mod Joined
 pub mod Cutting
-pub mod Shown
-pub mod Placed
-pub mod Pairs
-pub mod Lengths
-pub mod Lacking
 pub mod Naturals
 pub mod Wholes
 pub mod Caps

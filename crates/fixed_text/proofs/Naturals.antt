@@ -4,9 +4,9 @@ use Rattle.std.specs.Option.{option_map}
 use Rattle.std.specs.Str.Parse.{digits_value}
 use Rattle.std.proofs.lemmas.Option.{cond_some}
 use Rattle.fixed_word.specs.Decimal.{natural_text}
-use Rattle.fixed_text.specs.Numerals.{cap, is_decimal, natural_at}
+use Rattle.fixed_digits.specs.Numerals.{cap, is_decimal, natural_at}
 use Rattle.fixed_text.specs.Numbers.{natural_in}
-use Rattle.fixed_text.proofs.Decimals.{decimal_of_text, text_of_value}
+use Rattle.fixed_digits.proofs.Decimals.{decimal_of_text, text_of_value}
 
 pub in_only : (t : List ℕ) (n : ℕ) → natural_in t ≡ Some n → natural_text n ≡ t
 unfolding natural_in

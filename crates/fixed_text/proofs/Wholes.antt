@@ -5,11 +5,11 @@ use Rattle.std.proofs.lemmas.Bool.{eqb-true}
 use Rattle.std.proofs.lemmas.Option.{same_Some, none-some}
 use Rattle.fixed_word.specs.Decimal.{natural_text, whole_text}
 use Rattle.fixed_text.specs.Decimals.{IsReading, decimal_of}
-use Rattle.fixed_text.specs.Numerals.{cap, has_minus}
+use Rattle.fixed_digits.specs.Numerals.{cap, has_minus}
 use Rattle.fixed_text.specs.Numbers.{natural_in, signed_by, whole_in}
 use Rattle.fixed_text.specs.inside.Reader.{whole_at, with_minus}
-use Rattle.fixed_text.proofs.Capping.{no_minus}
-use Rattle.fixed_text.proofs.Decimals.{decimal_of_text}
+use Rattle.fixed_digits.proofs.Capping.{no_minus}
+use Rattle.fixed_digits.proofs.Decimals.{decimal_of_text}
 use Rattle.fixed_text.proofs.Naturals.{in_only, in_again, held_natural}
 
 -- what is read after the sign

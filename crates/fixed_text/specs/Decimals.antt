@@ -2,7 +2,7 @@
 use Rattle.std.specs.Prelude.{◌≡◌, ◌≢◌, ℕ, suc, ℤ, pos, negsuc, true, false, List, Option, Some, None}
 use Rattle.fixed_word.specs.Decimal.{whole_text}
 use Rattle.fixed_word.specs.Format.{with_sign}
-use Rattle.fixed_text.specs.Numerals.{cap}
+use Rattle.fixed_digits.specs.Numerals.{cap}
 use Rattle.fixed_text.specs.declared.decimal.Decimal.{Decimal}
 
 -- how a whole number is held

@@ -1,4 +1,3 @@
-pub mod Numerals
 pub mod Tokens
 pub mod Words
 pub mod Numbers

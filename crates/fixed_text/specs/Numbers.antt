@@ -2,7 +2,7 @@
 use Rattle.std.specs.Prelude.{ℕ, ℤ, ◌==◌, ◌&&◌, Bool, if◌then◌else◌, List, [], ◌∷◌, Option, Some, None}
 use Rattle.std.specs.Str.Parse.{digits_value}
 use Rattle.fixed_word.specs.Format.{with_sign}
-use Rattle.fixed_text.specs.Numerals.{is_decimal, has_minus, without_minus}
+use Rattle.fixed_digits.specs.Numerals.{is_decimal, has_minus, without_minus}
 use Rattle.fixed_text.specs.Tokens.{◌>>=◌, next_by, at_end}
 
 unfoldable pub natural_in : List ℕ → Option ℕ

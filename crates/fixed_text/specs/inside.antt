@@ -2,4 +2,3 @@
 pub mod Free
 pub mod Reader
 pub mod Pieces
-pub mod Digits

@@ -4,7 +4,7 @@ ghost use Rattle.std.specs.Prelude.{◌≡◌, ◌+◌, ◌++◌, ◌≤◌, len
 ghost use Rattle.std.specs.Vec.{vec_capacity};
 ghost use Rattle.fixed_word.specs.Decimal.{natural_text, whole_text};
 
-use crate::written::decimal_into;
+use fixed_digits::decimal_into;
 
 /// Adds bytes for which there is room.
 pub fn push_all(out: &mut Vec<u8>, bytes: &[u8])

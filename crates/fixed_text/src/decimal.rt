@@ -7,7 +7,7 @@ ghost use Rattle.fixed_text.specs.Decimals.{IsReading, decimal_of, decimal_value
 ghost use Rattle.fixed_text.specs.Numbers.{whole_in};
 ghost use Rattle.fixed_text.specs.inside.Reader.{whole_at};
 
-use crate::numerals::{natural_of, sign_of};
+use fixed_digits::{natural_of, sign_of};
 use fixed_word::{Outcome, Side, Word, outcome_of};
 
 /// A whole number: its sign, and its magnitude. A magnitude of `2^64` or more is held as `2^64`, which

@@ -4,14 +4,14 @@ ghost use Rattle.std.specs.Prelude.{◌≡◌, Some, map};
 ghost use Rattle.std.specs.Option.{option_map};
 ghost use Rattle.fixed_text.specs.Decimals.{decimal_of, decimal_value};
 ghost use Rattle.fixed_text.specs.Numbers.{natural_in, numbered_in, only_number, whole_in, wholes_in};
-ghost use Rattle.fixed_text.specs.Numerals.{cap};
+ghost use Rattle.fixed_digits.specs.Numerals.{cap};
 ghost use Rattle.fixed_text.specs.Runs.{fitting_number, fitting_numbers};
 ghost use Rattle.fixed_text.specs.Answers.{IsAnswerOfReading};
 
 use crate::decimal::{Decimal, read_decimal, value_in};
 use crate::fault::Refusal;
-use crate::numerals::natural_of;
 use crate::tokens::Tokens;
+use fixed_digits::natural_of;
 use fixed_word::{RawWord, Word};
 use std::alloc::Global;
 

@@ -3,7 +3,7 @@
 ghost use Rattle.std.specs.Prelude.{◌≡◌, ◌++◌, [], OnErr, OnOk};
 ghost use Rattle.fixed_word.specs.Decimal.{natural_text, whole_text};
 
-use crate::written::decimal_into;
+use fixed_digits::decimal_into;
 use fixed_word::{RawWord, Word};
 use std::alloc::{AllocError, Global};
 use std::marker::Model;

@@ -1,6 +1,7 @@
 //! Decimals, tokens, pieces, outputs and the run over lines, each call once.
 
 use super::same::{all_hold, all_same};
+use fixed_digits::*;
 use fixed_text::*;
 use std::alloc::Global;
 use std::test::Fail;

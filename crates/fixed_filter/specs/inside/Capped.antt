@@ -1,5 +1,5 @@
 -- Headers, as the code holds them.
-use Rattle.fixed_text.specs.Numerals.{cap}
+use Rattle.fixed_digits.specs.Numerals.{cap}
 use Rattle.fixed_filter.specs.declared.header.Header.{Header}
 use Rattle.fixed_filter.specs.Text.{FilterHeader}
 

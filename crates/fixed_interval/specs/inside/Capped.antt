@@ -1,6 +1,6 @@
 -- Headers and lines, as the code holds them.
 use Rattle.fixed_text.specs.Decimals.{decimal_of}
-use Rattle.fixed_text.specs.Numerals.{cap}
+use Rattle.fixed_digits.specs.Numerals.{cap}
 use Rattle.fixed_interval.specs.declared.header.Header.{Header}
 use Rattle.fixed_interval.specs.declared.line.Line.{Line}
 use Rattle.fixed_interval.specs.declared.line.Request.{Request}

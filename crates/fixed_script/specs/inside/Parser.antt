@@ -2,7 +2,7 @@
 use Rattle.std.specs.Prelude.{ℕ, ◌==◌, ◌&&◌, if◌then◌else◌, List, [], ◌∷◌, Option, Some, None, codes}
 use Rattle.std.specs.Str.{bytes_eq}
 use Rattle.fixed_text.specs.Tokens.{◌>>=◌, next_by, at_end}
-use Rattle.fixed_text.specs.Numerals.{natural_at, has_minus, without_minus}
+use Rattle.fixed_digits.specs.Numerals.{natural_at, has_minus, without_minus}
 use Rattle.fixed_word.specs.declared.rounding.Rounding.{Rounding}
 use Rattle.fixed_script.specs.declared.names.Policy.{Policy}
 use Rattle.fixed_script.specs.declared.names.Op.{Op}

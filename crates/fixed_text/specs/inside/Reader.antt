@@ -1,7 +1,7 @@
 -- What the reader of decimals answers, as functions of the bytes.
 use Rattle.std.specs.Prelude.{ℕ, ◌==◌, ◌&&◌, Bool, if◌then◌else◌, List, Option, Some, None}
 use Rattle.fixed_text.specs.declared.decimal.Decimal.{Decimal}
-use Rattle.fixed_text.specs.Numerals.{has_minus, without_minus, natural_at}
+use Rattle.fixed_digits.specs.Numerals.{has_minus, without_minus, natural_at}
 
 -- no minus stands before 0
 abbrev pub with_minus : Bool → Option ℕ → Option Decimal

@@ -1,7 +1,7 @@
 use Rattle.std.proofs.Common.{◌+◌, ◌-◌, ◌*◌, get_or, ap, ◌∙◌, sym, arith}
 use Rattle.std.specs.Char.{digit_value, is_ascii_digit}
 use Rattle.std.proofs.lemmas.List.Sums.{prefix_len-drop_yes}
-use Rattle.fixed_text.proofs.Capping.{digit_value_is}
+use Rattle.fixed_digits.proofs.Capping.{digit_value_is}
 use Rattle.fixed_decimal.proofs.Runs.{after_more, room_more, small_more}
 use Rattle.fixed_decimal.proofs.numeral.run_from.Goals as goal
 

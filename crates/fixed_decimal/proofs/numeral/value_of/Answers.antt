@@ -3,8 +3,8 @@ use Rattle.std.specs.Char.{is_ascii_digit}
 use Rattle.std.specs.List.{list_all}
 use Rattle.std.specs.Str.Parse.{digits_value}
 use Rattle.std.proofs.lemmas.List.{get_or-drop, get_or-take, take_all}
-use Rattle.fixed_text.proofs.Capping.{digit_value_is}
-use Rattle.fixed_text.proofs.Fronts.{value_grows}
+use Rattle.fixed_digits.proofs.Capping.{digit_value_is}
+use Rattle.fixed_digits.proofs.Fronts.{value_grows}
 use Rattle.fixed_decimal.proofs.Runs.{digit_here, value_room}
 use Rattle.fixed_decimal.proofs.numeral.value_of.Goals as goal
 

@@ -1,5 +1,5 @@
 use Rattle.std.proofs.Common.{◌<ℤ◌, ◌*◌, ◌^◌, ◌∷◌, List, ℕ, Bool, pos, ap, sym, ◌∙◌, arith, rules}
-use Rattle.fixed_text.proofs.Placed.{put_digit}
+use Rattle.fixed_digits.proofs.Placed.{put_digit}
 use Rattle.fixed_decimal.specs.Text.{magnitude_text}
 use Rattle.fixed_decimal.specs.inside.Stepped.{stepped}
 use Rattle.fixed_decimal.proofs.PlacesPut.{text_below}

@@ -1,6 +1,6 @@
 use Rattle.std.proofs.Common.{◌≡◌, ◌≤◌, ◌<◌, ◌+◌, ◌^◌, ◌++◌, ◌∷◌, ℕ, List, length, drop, ap, ◌∙◌, arith, rules, length-append, length-drop}
 use Rattle.fixed_word.specs.Decimal.{natural_text}
-use Rattle.fixed_text.proofs.Placed.{length_natural_u64, put_digit}
+use Rattle.fixed_digits.proofs.Placed.{length_natural_u64, put_digit}
 use Rattle.fixed_machine.proofs.answer.put_signed.Goals as goal
 
 -- a decimal that was put before place 24 of 56 begins as many places before as it has digits

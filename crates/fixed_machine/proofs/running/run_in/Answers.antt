@@ -1,6 +1,6 @@
 use Rattle.std.proofs.Common.{◌≡◌, ◌∙◌, ap, sym, arith, drop, map, length, None, true, false}
 use Rattle.std.proofs.lemmas.List.{take_rest, nil_from_length, length-map}
-use Rattle.fixed_text.specs.Numerals.{cap}
+use Rattle.fixed_digits.specs.Numerals.{cap}
 use Rattle.fixed_script.specs.Headers.{CappedHeader}
 use Rattle.fixed_word.specs.Pieces.{pieces}
 use Rattle.fixed_machine.specs.Meaning.{stopped, fractions_of, has_wide, zeros}

@@ -1,6 +1,6 @@
 use Rattle.std.proofs.Common.{◌+◌, ◌*◌, ◌^◌, ◌≤◌, ℕ, ◌++◌, ◌/◌, ◌%◌, ◌∷◌, [], arith, ◌∙◌, ap, sym, append_assoc}
 use Rattle.fixed_word.specs.Decimal.{natural_text}
-use Rattle.fixed_text.proofs.Shown.{more_digits, length_more}
+use Rattle.fixed_digits.proofs.Shown.{more_digits, length_more}
 use Rattle.fixed_text.proofs.added.+push_natural.Goals as goal
 
 big : (n : ℕ) → (1 * 2 ^ 64) % 2 ^ 128 ≤ n → 10 ≤ n

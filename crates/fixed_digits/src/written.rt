@@ -1,0 +1,126 @@
+//! The decimal of a number, without memory, up to eight digits at a time.
+
+ghost use Rattle.std.specs.Prelude.{◌≡◌, ◌+◌, ◌<◌, ◌≤◌, ◌++◌, drop, length};
+ghost use Rattle.fixed_word.specs.Decimal.{natural_text};
+ghost use Rattle.fixed_digits.specs.inside.Digits.{eight_digits, four_digits, pair_digits};
+
+/// The two digits of each number below 100.
+static PAIRS: [u8; 200] =
+    *b"00010203040506070809101112131415161718192021222324252627282930313233343536373839404142434445464748495051525354555657585960616263646566676869707172737475767778798081828384858687888990919293949596979899";
+
+/// Puts the two digits of a number below 100 at a place.
+#[inline(always)]
+fn put_pair(pair: u32, buffer: &mut [u8], at: usize)
+    requires pair { pair < 100 }
+    requires room { at + 2 ≤ length buffer.old }
+    ensures { drop at buffer.new ≡ pair_digits pair ++ drop (at + 2) buffer.old }
+{
+    let from = pair as usize * 2;
+    let (tens, ones) = (PAIRS[from], PAIRS[from + 1]);
+    buffer[at] = tens;
+    buffer[at + 1] = ones;
+}
+
+/// Puts the four digits of a number below 10,000 at a place.
+#[inline(always)]
+fn put_four(four: u32, buffer: &mut [u8], at: usize)
+    requires four { four < 10000 }
+    requires room { at + 4 ≤ length buffer.old }
+    ensures { drop at buffer.new ≡ four_digits four ++ drop (at + 4) buffer.old }
+{
+    put_pair(four % 100, buffer, at + 2);
+    put_pair(four / 100, buffer, at);
+}
+
+/// Puts the eight digits of a number below 100,000,000 at a place.
+#[inline(always)]
+fn put_eight(eight: u32, buffer: &mut [u8], at: usize)
+    requires eight { eight < 100000000 }
+    requires room { at + 8 ≤ length buffer.old }
+    ensures { drop at buffer.new ≡ eight_digits eight ++ drop (at + 8) buffer.old }
+{
+    put_four(eight % 10_000, buffer, at + 4);
+    put_four(eight / 10_000, buffer, at);
+}
+
+/// Puts the decimal of a number below 100 before a place, and answers where it begins.
+#[inline(always)]
+fn put_first_pair(number: u32, buffer: &mut [u8], end: usize) -> usize
+    requires number { number < 100 }
+    requires room { length (natural_text number) ≤ end }
+    requires within { end ≤ length buffer.old }
+    ensures within { result ≤ end }
+    ensures digits { drop result buffer.new ≡ natural_text number ++ drop end buffer.old }
+{
+    if number < 10 {
+        let at = end - 1;
+        buffer[at] = b'0' + number as u8;
+        at
+    } else {
+        let at = end - 2;
+        put_pair(number, buffer, at);
+        at
+    }
+}
+
+/// Puts the decimal of a number below 10,000 before a place, and answers where it begins.
+#[inline(always)]
+fn put_first_four(number: u32, buffer: &mut [u8], end: usize) -> usize
+    requires number { number < 10000 }
+    requires room { length (natural_text number) ≤ end }
+    requires within { end ≤ length buffer.old }
+    ensures within { result ≤ end }
+    ensures digits { drop result buffer.new ≡ natural_text number ++ drop end buffer.old }
+{
+    if number < 100 {
+        put_first_pair(number, buffer, end)
+    } else {
+        let at = end - 2;
+        put_pair(number % 100, buffer, at);
+        put_first_pair(number / 100, buffer, at)
+    }
+}
+
+/// Puts the decimal of a number below 100,000,000 before a place, and answers where it begins.
+#[inline(always)]
+fn put_first(number: u32, buffer: &mut [u8], end: usize) -> usize
+    requires number { number < 100000000 }
+    requires room { length (natural_text number) ≤ end }
+    requires within { end ≤ length buffer.old }
+    ensures within { result ≤ end }
+    ensures digits { drop result buffer.new ≡ natural_text number ++ drop end buffer.old }
+{
+    if number < 10_000 {
+        put_first_four(number, buffer, end)
+    } else {
+        let at = end - 4;
+        put_four(number % 10_000, buffer, at);
+        put_first_four(number / 10_000, buffer, at)
+    }
+}
+
+/// Puts the decimal before a place, and answers where it begins.
+#[inline(always)]
+pub fn decimal_before(number: u64, buffer: &mut [u8], end: usize) -> usize
+    requires room { 20 ≤ end }
+    requires within { end ≤ length buffer.old }
+    ensures within { result ≤ end }
+    ensures digits { drop result buffer.new ≡ natural_text number ++ drop end buffer.old }
+{
+    let mut at = end;
+    let mut rest = number;
+    while rest >= 100_000_000 {
+        at -= 8;
+        put_eight((rest % 100_000_000) as u32, buffer, at);
+        rest /= 100_000_000;
+    }
+    put_first(rest as u32, buffer, at)
+}
+
+/// Puts the decimal at the end of the buffer, and answers where it begins.
+pub fn decimal_into(number: u64, buffer: &mut [u8; 20]) -> usize
+    ensures within { result ≤ 20 }
+    ensures digits { drop result buffer.new ≡ natural_text number }
+{
+    decimal_before(number, buffer, 20)
+}
