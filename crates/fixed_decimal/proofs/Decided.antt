@@ -1,5 +1,5 @@
 -- The row of a decimal, from the numbers of its two parts.
-use Rattle.std.proofs.Common.{◌≡◌, ◌==◌, ◌+◌, ◌-◌, ◌*◌, ◌/◌, ◌%◌, ◌^◌, ◌<◌, ◌*ℤ◌, ◌++◌, ℕ, ℤ, pos, Bool, true, false, not, List, length, take, drop, min, Result, Ok, Err, refl, sym, ap, ◌∙◌, subst, add-mul, mul_assoc, mul_right_comm, arith}
+use Rattle.std.proofs.Common.{◌≡◌, ◌==◌, ◌+◌, ◌*◌, ◌/◌, ◌%◌, ◌^◌, ◌<◌, ◌*ℤ◌, ◌++◌, ℕ, ℤ, pos, Bool, true, false, not, List, length, take, drop, min, Result, Ok, Err, refl, sym, ap, ◌∙◌, subst, add-mul, mul_assoc, mul_right_comm, arith}
 use mathlib.Core.Bool.{beq}
 use Rattle.std.specs.Str.Parse.{digits_value, starts_with_minus, without_leading_sign}
 use Rattle.std.proofs.Math.Nat.{one-le-pow}

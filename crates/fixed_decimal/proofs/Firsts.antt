@@ -54,6 +54,10 @@ found_law a f le =
       least = λ k h. first_least (reads_back a f) 20 k (back_true a f k h);
     }
 
+-- the least of all is the first
+pub shortest_is : (a : ℤ) (f m : ℕ) → f ≤ 64 → IsLeast (ReadsBack a f) m → m ≡ shortest a f
+shortest_is a f m le least = let first = found_law a f le in omega (arith, least.least (shortest a f) first.holds, first.least m least.holds)
+
 pub enough_law : (a : ℤ) (f p : ℕ) → f ≤ p → IsExactAt a f p
 enough_law a f p le =
     let j = p - f in

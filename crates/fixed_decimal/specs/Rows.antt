@@ -1,5 +1,5 @@
 -- What each policy makes of the row of a text: of a number without a bound, or of an error.
-use Rattle.std.specs.Prelude.{◌≡◌, ℕ, ℤ, nat_le, Bool, not, List, Option, Some, None, Result, Ok, Err, if◌then◌else◌}
+use Rattle.std.specs.Prelude.{◌≡◌, ℕ, ℤ, nat_le, Bool, not, List, Option, None, Result, Ok, Err, if◌then◌else◌}
 use Rattle.std.specs.Result.{result_ok}
 use Rattle.fixed_word.specs.Format.{clamp, fits, wrap}
 use Rattle.fixed_word.specs.Standing.{StandsFor}

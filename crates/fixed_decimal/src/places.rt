@@ -2,7 +2,7 @@
 
 ghost use Rattle.std.specs.Prelude.{◌≡◌, ◌↔◌, ◌^◌, ◌<◌, ◌≤◌, IsTrue};
 ghost use Rattle.fixed_decimal.specs.inside.Close.{IsClose};
-ghost use Rattle.fixed_decimal.specs.Text.{IsExactAt, IsLeast, ReadsBack};
+ghost use Rattle.fixed_decimal.specs.Text.{IsExactAt, IsLeast, ReadsBack, shortest};
 
 use crate::halves::low_bits;
 use crate::tens::ten_to;
@@ -24,6 +24,7 @@ pub fn exact_places<T: Word>(number: T, frac: u32) -> usize
 pub fn shortest_places<T: Word>(number: T, frac: u32) -> usize
     requires { frac ≤ T.BITS }
     ensures places { IsLeast (ReadsBack (T.value number) frac) result }
+    ensures shortest { result ≡ shortest (T.value number) frac }
     ensures bound { result ≤ 20 }
 {
     let magnitude = number.magnitude();

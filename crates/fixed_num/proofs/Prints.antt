@@ -1,36 +1,17 @@
 -- What a number prints.
-use Rattle.std.proofs.Common.{◌≡◌, ◌+◌, ◌-◌, ◌<◌, ◌≤◌, ◌<ℤ◌, ◌^◌, ◌*ℤ◌, ℕ, ℤ, zero, suc, pos, negsuc, nat_abs, Bool, true, false, nat_le, if◌then◌else◌, Option, Some, None, List, [], min, replicate, length, take, drop, length-drop, refl, sym, ap, ◌∙◌, drop-drop, append-nil, subst, cond, Result, ◌++◌, ◌/◌, arith}
+use Rattle.std.proofs.Common.{◌≡◌, ◌+◌, ◌-◌, ◌≤◌, ◌<ℤ◌, ℕ, ℤ, pos, negsuc, nat_abs, Bool, true, false, nat_le, if◌then◌else◌, Option, Some, None, List, [], min, replicate, length, take, drop, length-drop, refl, sym, ap, ◌∙◌, drop-drop, append-nil, subst, cond, Result, ◌++◌, ◌/◌, arith}
 use Rattle.std.specs.Prelude.{int_lt, IsNone, IsTrue}
 use Rattle.std.specs.Fmt.{IsDefaultSpec, IsPlainFormatter, WritesInCalls, WritesOnOk, WritesStyledOnOk, char_count, formatter_spec, formatter_writer, padded_integral, padding_before, sign_text}
 use Rattle.std.specs.declared.fmt.Error.{Error}
 use Rattle.std.specs.declared.fmt.Formatter.{Formatter}
-use Rattle.std.specs.Ordering.{int_eq}
 use Rattle.std.proofs.lemmas.Int.{ints}
 use mir.Val.{bool_byte}
 use Rattle.std.proofs.lemmas.Bool.Decides.{nat_tests}
 use Rattle.std.proofs.lemmas.List.{take_all}
 use Rattle.fixed_word.specs.declared.rounding.Rounding.TheVariants.{Even}
-use Rattle.fixed_kernel.specs.Rounded.{rounded}
 use Rattle.fixed_decimal.proofs.Padded.{padded_text}
-use Rattle.fixed_decimal.specs.Text.{IsLeast, ReadsBack, after_sign, first_of, magnitude_text, reads_back, shortest, text_of, to_places}
+use Rattle.fixed_decimal.specs.Text.{after_sign, magnitude_text, shortest, text_of, to_places}
 use Rattle.fixed_num.specs.Shown.{places_of, plain_text, styled_text}
-
-first_is : (test : ℕ → Bool) (n m : ℕ) → m ≤ n → test m ≡ true → ((k : ℕ) → k < m → test k ≡ false) → first_of test n ≡ m
-first_is test zero m le hit miss = omega arith
-first_is test (suc n) zero le hit miss = rw hit refl
-first_is test (suc n) (suc m) le hit miss = rw (miss zero (omega arith)) (ap suc (first_is (λ k. test (suc k)) n m (omega arith) hit (λ k lt. miss (suc k) (omega arith))))
-
-same_true : (x a : ℤ) → x ≡ a → int_eq x a ≡ true
-same_true x a e = grind (arith, ints, e)
-
-other_false : (b : Bool) (x a : ℤ) → int_eq x a ≡ b → (x ≡ a → ⊥) → b ≡ false
-other_false true x a e ne = absurd (ne (grind (arith, ints, e)))
-other_false false x a e ne = refl
-
-pub shortest_is : (a : ℤ) (f m : ℕ) → IsLeast (ReadsBack a f) m → m ≤ 20 → shortest a f ≡ m
-shortest_is a f m l le =
-    first_is (reads_back a f) 20 m le (same_true (rounded (to_places a f m Even *ℤ pos (2 ^ f)) (pos (10 ^ m)) Even) a l.holds)
-    (λ k lt. other_false (reads_back a f k) (rounded (to_places a f k Even *ℤ pos (2 ^ f)) (pos (10 ^ k)) Even) a refl (λ e. absurd (omega (arith, l.least k e))))
 
 pub below_is : (b : Bool) (a : ℤ) → (IsTrue b → a <ℤ pos 0) → (a <ℤ pos 0 → IsTrue b) → b ≡ int_lt a (pos 0)
 below_is true (pos n) only back = absurd (omega (arith, ints, only refl))

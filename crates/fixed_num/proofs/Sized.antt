@@ -12,7 +12,8 @@ use Rattle.std.specs.Prelude.{◌==◌}
 use Rattle.fixed_word.specs.Format.{IsWidth, InRange, with_sign, wrap}
 use Rattle.fixed_word.proofs.Wraps.{width_pos, wrap_same}
 use Rattle.fixed_num.proofs.Ranges.{from_zero}
-use Rattle.fixed_num.specs.Sizes.{HasSignedSize, HasSize, IsHighestOne, IsLeast, IsPower}
+use Rattle.fixed_decimal.specs.Text.{IsLeast}
+use Rattle.fixed_num.specs.Sizes.{HasSignedSize, HasSize, IsHighestOne, IsPower}
 use Rattle.fixed_num.specs.inside.Powers.{IsHighestPower}
 
 pub length_below : (m : ℕ) → m < 2 ^ 64 → m < 2 ^ (64 - count_leading_zeros 64 m)

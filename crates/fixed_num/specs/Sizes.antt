@@ -2,11 +2,6 @@
 use Rattle.std.specs.Prelude.{◌≡◌, ◌⊎◌, ◌+◌, ◌-◌, ◌≤◌, ◌^◌, ◌+ℤ◌, ◌<ℤ◌, ◌≤ℤ◌, ℕ, ℤ, pos, neg_ℤ}
 use Rattle.fixed_word.specs.Quotient.{floor_quotient}
 
--- m is the least number of which P holds
-pub record IsLeast (P : ℕ → Type 0) (m : ℕ) : Type 0 where
-  pub holds : P m
-  pub least : (k : ℕ) → P k → m ≤ k
-
 -- a number of at least 0 needs at most m bits
 abbrev pub HasSize : ℤ → ℕ → Type 0
 HasSize a m = a <ℤ pos (2 ^ m)

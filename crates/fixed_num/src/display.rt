@@ -55,7 +55,7 @@ impl<T: Word, const F: u32> Fixed<T, F> {
         ensures within { result ≤ 86 }
         ensures text { drop result buffer.new ≡ text_of (T.value self.bits) F (shortest (T.value self.bits) F) Even }
     {
-        let places = shortest_for(self.bits, F);
+        let places = shortest_places(self.bits, F);
         write_decimal(self.bits, F, places, Rounding::Even, buffer)
     }
 
@@ -83,15 +83,6 @@ fn places_for<T: Word>(bits: T, frac: u32, precision: Option<usize>) -> usize
 {
     match precision {
         Some(places) => places,
-        None => shortest_for(bits, frac),
+        None => shortest_places(bits, frac),
     }
-}
-
-/// How many digits behind the point the shortest text has that is read as the number.
-fn shortest_for<T: Word>(bits: T, frac: u32) -> usize
-    requires { frac ≤ T.BITS }
-    ensures places { result ≡ shortest (T.value bits) frac }
-    ensures bound { result ≤ 20 }
-{
-    shortest_places(bits, frac)
 }

@@ -3,7 +3,8 @@
 ghost use Rattle.std.specs.Prelude.{◌≡◌, ◌≤◌, ◌^◌, ◌↔◌, ◌<ℤ◌, ◌+ℤ◌, ◌-ℤ◌, ◌*ℤ◌, ℕ, IsTrue, pos, unsigned_abs};
 ghost use Rattle.fixed_word.specs.Format.{wrap};
 ghost use Rattle.fixed_word.specs.Quotient.{floor_quotient, truncated_quotient};
-ghost use Rattle.fixed_num.specs.Sizes.{HasSignedSize, HasSize, IsHighestOne, IsLeast, IsPower, mean_of};
+ghost use Rattle.fixed_decimal.specs.Text.{IsLeast};
+ghost use Rattle.fixed_num.specs.Sizes.{HasSignedSize, HasSize, IsHighestOne, IsPower, mean_of};
 
 use crate::format::Fixed;
 use crate::sign_magnitude::{bit_length, distance, highest_power};

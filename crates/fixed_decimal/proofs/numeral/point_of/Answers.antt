@@ -1,4 +1,4 @@
-use Rattle.std.proofs.Common.{◌+◌, Some, ap, ◌∙◌, sym}
+use Rattle.std.proofs.Common.{◌+◌, Some, ap, ◌∙◌}
 use Rattle.fixed_decimal.specs.Decimal.{lead}
 use Rattle.fixed_decimal.specs.declared.error.DecimalError.TheVariants.{InvalidDigit}
 use Rattle.fixed_decimal.proofs.Points.{byte_is, fault_here, lead_here, point_clear, point_other, point_seen}

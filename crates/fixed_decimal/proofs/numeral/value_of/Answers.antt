@@ -2,7 +2,7 @@ use Rattle.std.proofs.Common.{◌≡◌, ◌+◌, ◌*◌, ◌-◌, ◌<◌, ◌
 use Rattle.std.specs.Char.{is_ascii_digit}
 use Rattle.std.specs.List.{list_all}
 use Rattle.std.specs.Str.Parse.{digits_value}
-use Rattle.std.proofs.lemmas.List.{get_or-drop, get_or-take, take_all}
+use Rattle.std.proofs.lemmas.List.{get_or-drop, get_or-take}
 use Rattle.fixed_digits.proofs.Capping.{digit_value_is}
 use Rattle.fixed_digits.proofs.Fronts.{value_grows}
 use Rattle.fixed_decimal.proofs.Runs.{digit_here, value_room}

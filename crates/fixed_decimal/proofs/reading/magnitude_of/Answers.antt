@@ -1,4 +1,4 @@
-use Rattle.std.proofs.Common.{◌+◌, ◌*◌, ◌^◌, drop, take, refl, arith}
+use Rattle.std.proofs.Common.{◌*◌, ◌^◌, drop, take, refl, arith}
 use Rattle.std.specs.Str.Parse.{digits_value}
 use Rattle.std.proofs.Math.Nat.{one-le-pow}
 use Rattle.fixed_decimal.proofs.Shorts.{short_decided}
