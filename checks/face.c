@@ -1,7 +1,9 @@
 /* Every pair of operands of 8 bits, for each operation of the face for C at three fractions, against a plain
  * computation in 64 bits, with each rounding; bad fractions, zero divisors and negative roots by their codes. Numbers of
- * other formats and doubles into 8 bits, and numbers of every word as doubles. Intervals over samples of ends, and polynomials and filters over arrays that are drawn, against plain loops; each code. By every word, null
- * pointers to arrays whose count is 0. From the top:
+ * other formats and doubles into 8 bits, and numbers of every word as doubles. Texts that are drawn, read; and each number
+ * of 8 bits at each fraction as text, as printf prints it. Intervals over samples of ends, and polynomials and filters
+ * over arrays that are drawn, against plain loops; each code. By every word, null pointers to arrays whose count is 0.
+ * From the top:
  *
  *     cc -O2 -Wall -Wextra -Iinclude -o /tmp/face checks/face.c LIBRARY -lm && /tmp/face
  *
@@ -10,6 +12,7 @@
 #include "fixed.h"
 #include <math.h>
 #include <stdio.h>
+#include <string.h>
 
 static long compared;
 
@@ -285,6 +288,89 @@ CHECK_DOUBLES(fixed_u16, uint16_t, 16)
 CHECK_DOUBLES(fixed_u32, uint32_t, 32)
 CHECK_DOUBLES(fixed_u64, uint64_t, 64)
 
+/* Digits that are drawn, and their text with a sign and a point: its number is `digits` over `10^behind`. */
+struct drawn_text {
+  char bytes[40];
+  size_t length;
+  int64_t digits, tens;
+};
+
+static struct drawn_text draw_text(void) {
+  struct drawn_text text = {{0}, 0, draw(0, 99999) >> draw(0, 16), 1};
+  char front[20];
+  int length = snprintf(front, sizeof front, "%d", (int)text.digits);
+  const int behind = (int)draw(-1, 6), is_below = draw(0, 2) == 0;
+  if (is_below || draw(0, 3) == 0) text.bytes[text.length++] = is_below ? '-' : '+';
+  memcpy(text.bytes + text.length, front, (size_t)length);
+  text.length += (size_t)length;
+  if (behind >= 0) text.bytes[text.length++] = '.';
+  for (int i = 0; i < behind; i++) {
+    const int64_t digit = draw(0, 9);
+    text.bytes[text.length++] = (char)('0' + digit);
+    text.digits = text.digits * 10 + digit, text.tens *= 10;
+  }
+  if (is_below) text.digits = -text.digits;
+  return text;
+}
+
+/* What a call that prints has left, beside the text that is wanted or a code. */
+static void compare_text(const char *call, int32_t want, const char *text, int32_t got, const char *buffer,
+                         size_t length) {
+  compared++;
+  if (got != want || strcmp(buffer, text) != 0 || (want == FIXED_OK && length != strlen(text))) {
+    printf("%s: code %d, \"%s\", but by plain C %d, \"%s\"\n", call, (int)got, buffer, (int)want, text);
+    exit(1);
+  }
+}
+
+/* Texts into words of 8 bits, and their numbers as texts. */
+#define CHECK_TEXTS(name, word, from_end, to_end)                                                                  \
+  static void check_texts_##name(void) {                                                                           \
+    const int64_t least = from_end, greatest = to_end;                                                             \
+    const char *const faults[] = {"", "-", ".", "1.2.3", "1,5", "1e3", "+-1", " 1"};                               \
+    const int32_t codes[] = {FIXED_NO_DIGITS,       FIXED_NO_DIGITS,     FIXED_NO_DIGITS,     FIXED_TOO_MANY_POINTS, \
+                             FIXED_INVALID_DIGIT,   FIXED_INVALID_DIGIT, FIXED_INVALID_DIGIT, FIXED_INVALID_DIGIT}; \
+    char buffer[90], want[90];                                                                                     \
+    size_t length = 0;                                                                                             \
+    int32_t got = 0;                                                                                               \
+    for (int tried = 0; tried < 400000; tried++) {                                                                 \
+      const struct drawn_text text = draw_text();                                                                  \
+      const uint32_t f = fractions[draw(0, 3)], r = roundings[draw(0, 3)];                                         \
+      CALL(name, parse, AT(f, WITH(r, number(rounded(text.digits * power(f), text.tens, r)))), text.bytes,         \
+           text.length, f, r);                                                                                     \
+    }                                                                                                              \
+    for (int i = 0; i < 8; i++) CALL(name, parse, code(codes[i]), faults[i], strlen(faults[i]), 4, FIXED_DOWN);    \
+    for (int64_t x = from_end; x <= to_end; x++) {                                                                 \
+      for (uint32_t f = 0; f <= 8; f++) {                                                                          \
+        const double value = ldexp((double)x, -(int)f);                                                            \
+        int fewest = -1;                                                                                           \
+        for (int places = 12; places >= 0; places--) {                                                             \
+          snprintf(want, sizeof want, "%.*f", places, value);                                                      \
+          got = name##_print((word)x, f, (uint32_t)places, FIXED_NEAREST_EVEN, buffer, sizeof buffer, &length);    \
+          compare_text(#name "_print", FIXED_OK, want, got, buffer, length);                                       \
+          if (rint(ldexp(strtod(want, NULL), (int)f)) == (double)x) fewest = places;                               \
+        }                                                                                                          \
+        snprintf(want, sizeof want, "%.*f", fewest, value);                                                        \
+        got = name##_print_shortest((word)x, f, buffer, sizeof buffer, &length);                                   \
+        compare_text(#name "_print_shortest", FIXED_OK, want, got, buffer, length);                                \
+        strcpy(buffer, "as it was");                                                                               \
+        got = name##_print_shortest((word)x, f, buffer, strlen(want), &length);                                    \
+        compare_text(#name "_print_shortest", FIXED_NO_ROOM, "as it was", got, buffer, length);                    \
+        if (length != strlen(want)) printf(#name ": another length\n"), exit(1);                                   \
+      }                                                                                                            \
+    }                                                                                                              \
+    strcpy(buffer, "as it was");                                                                                   \
+    got = name##_print(1, 9, 65, 3, buffer, sizeof buffer, &length);                                               \
+        compare_text(#name "_print", FIXED_FRACTION_PAST_WIDTH, "as it was", got, buffer, length);                 \
+    got = name##_print(1, 8, 65, 3, buffer, sizeof buffer, &length);                                               \
+        compare_text(#name "_print", FIXED_TOO_MANY_PLACES, "as it was", got, buffer, length);                     \
+    got = name##_print(1, 8, 64, 3, buffer, sizeof buffer, &length);                                               \
+        compare_text(#name "_print", FIXED_NO_ROUNDING, "as it was", got, buffer, length);                         \
+  }
+
+CHECK_TEXTS(fixed_i8, int8_t, INT8_MIN, INT8_MAX)
+CHECK_TEXTS(fixed_u8, uint8_t, 0, UINT8_MAX)
+
 /* Ends without a bound, or a code. */
 struct exact_ends {
   int32_t code;
@@ -346,11 +432,11 @@ static struct exact_ends plain_ends(int64_t low, int64_t high) {
 #define MOST 6
 
 /* Compares the code, the value and the place that a call left with those of plain C. */
-#define LEFT_ALIKE(label, word, value, place)                                                                          \
-  compared++;                                                                                                          \
+#define LEFT_ALIKE(label, word, value, place)                                                                      \
+  compared++;                                                                                                      \
   if (got != want || value != (want == FIXED_OK ? (word)sum : 77) || place != (want == FIXED_OUT_OF_RANGE ? i : 78)) { \
-    printf(label ": code %d, but by plain C %d\n", (int)got, (int)want);                                               \
-    exit(1);                                                                                                           \
+    printf(label ": code %d, but by plain C %d\n", (int)got, (int)want);                                           \
+    exit(1);                                                                                                       \
   }
 
 /* Intervals between ends that are some steps apart, in order and exchanged; arrays of up to MOST numbers. */
@@ -401,7 +487,7 @@ static struct exact_ends plain_ends(int64_t low, int64_t high) {
         }                                                                                                          \
       }                                                                                                            \
       got = name##_horner(coefs, count, x, f, &value, &step);                                                      \
-      LEFT_ALIKE(#name "_horner", word, value, step)                                                                   \
+      LEFT_ALIKE(#name "_horner", word, value, step)                                                               \
     }                                                                                                              \
   }                                                                                                                \
   static void check_filter_##name(void) {                                                                          \
@@ -436,7 +522,7 @@ static struct exact_ends plain_ends(int64_t low, int64_t high) {
       got = name##_filter(taps, count, past, other, sample, f, g, h, &output, &tap);                               \
       for (size_t k = 0; k <= MOST; k++)                                                                           \
         if (past[k] != kept[k]) got = -1;                                                                          \
-      LEFT_ALIKE(#name "_filter", word, output, tap)                                                                   \
+      LEFT_ALIKE(#name "_filter", word, output, tap)                                                               \
     }                                                                                                              \
   }
 
@@ -464,7 +550,14 @@ static void compare_code(const char *call, int32_t want, int32_t got) {
     compare_code(#name "_filter", FIXED_COUNTS_DIFFER, name##_filter(taps, 1, NULL, 0, 1, 4, 4, 4, &left, &place)); \
     compare_code(#name "_filter", FIXED_FRACTION_PAST_WIDTH,                                                       \
                  name##_filter(NULL, 0, NULL, 0, 1, 4, 4, 65, &left, &place));                                     \
-    if (past[0] != 5 || left != 77 || place != 78) {                                                               \
+    name answer = {1, 2};                                                                                          \
+    compare_code(#name "_parse", FIXED_NO_DIGITS, name##_parse(NULL, 0, 4, FIXED_DOWN, &answer));                  \
+    compare_code(#name "_print", FIXED_NO_ROOM, name##_print(8, 3, 3, FIXED_DOWN, NULL, 0, &place));               \
+    compare_code(#name "_print_shortest: length", 1, (int32_t)place - 4);                                          \
+    compare_code(#name "_print_shortest", FIXED_NO_ROOM, name##_print_shortest(8, 3, NULL, 0, &place));            \
+    compare_code(#name "_print_shortest: length", 1, (int32_t)place);                                              \
+    place = 78;                                                                                                    \
+    if (past[0] != 5 || left != 77 || place != 78 || answer.bits != 1 || answer.side != 2) {                       \
       printf(#name ": a call that returned a code has written\n");                                                 \
       exit(1);                                                                                                     \
     }                                                                                                              \
@@ -487,6 +580,7 @@ int main(void) {
   check_conversions_fixed_i8(), check_conversions_fixed_u8();
   check_doubles_fixed_i8(), check_doubles_fixed_i16(), check_doubles_fixed_i32(), check_doubles_fixed_i64();
   check_doubles_fixed_u8(), check_doubles_fixed_u16(), check_doubles_fixed_u32(), check_doubles_fixed_u64();
+  check_texts_fixed_i8(), check_texts_fixed_u8();
   check_ends_fixed_i8(), check_ends_fixed_u8();
   check_horner_fixed_i8(), check_horner_fixed_u8();
   check_filter_fixed_i8(), check_filter_fixed_u8();

@@ -4,8 +4,9 @@
     python3 checks/words_alike.py
 
 The files of signed words have to be signed_8.rt with the width exchanged, and those of unsigned words likewise
-unsigned_8.rt, letter by letter. unsigned_8.rt has to be signed_8.rt with the word exchanged, item by item and in order,
-but for the imports of contracts, the conversion of a word to its value, and the calls that one sign alone has.
+unsigned_8.rt, letter by letter, but for the bytes of texts. unsigned_8.rt has to be signed_8.rt with the word exchanged,
+item by item and in order, but for the imports of contracts, the conversion of a word to its value, and the calls that one
+sign alone has.
 Silent with status 0 if so; otherwise it names each place that differs and ends with 1.
 """
 import re
@@ -20,7 +21,8 @@ UNSIGNED_ALONE = ["fixed_u8_next_power_of_two"]
 
 
 def source(name):
-    return (FOLDER / f"{name}.rt").read_text()
+    text = (FOLDER / f"{name}.rt").read_text()
+    return re.sub(r"(decimal|buffer): (&(?:mut )?)\[u8\]", r"\1: \2[byte]", text)
 
 
 def differing_widths(sign):

@@ -47,7 +47,12 @@ enum {
   FIXED_NO_ELEMENT = 6,          /* there is no coefficient, or no tap */
   FIXED_COUNTS_DIFFER = 7,       /* there are not as many past samples as taps */
   FIXED_NO_ROUNDING = 8,         /* no rounding has the number */
-  FIXED_NOT_FINITE = 9           /* the double is a NaN or an infinity */
+  FIXED_NOT_FINITE = 9,          /* the double is a NaN or an infinity */
+  FIXED_NO_DIGITS = 10,          /* the text has no digit */
+  FIXED_INVALID_DIGIT = 11,      /* a byte of the text is neither a digit nor a point */
+  FIXED_TOO_MANY_POINTS = 12,    /* the text has a second point */
+  FIXED_TOO_MANY_PLACES = 13,    /* more than 64 digits after the point are requested */
+  FIXED_NO_ROOM = 14             /* the text and its '\0' do not fit into the buffer */
 };
 
 /* How a number between two units is rounded, where a call takes a rounding. */
@@ -140,6 +145,21 @@ enum {
   /* the double nearest to a / 2^frac, and of two as near the one whose last bit is 0, is left in *value */        \
   int32_t name##_to_double(word a, uint32_t frac, double *value);
 
+/* Decimal text. A fraction that is too large returns FIXED_FRACTION_PAST_WIDTH, then more than 64 places
+ * FIXED_TOO_MANY_PLACES, and then a number that no rounding has FIXED_NO_ROUNDING. The longest text has 86 bytes. */
+#define FIXED_TEXTS(name, word)                                                                                    \
+  /* the number of a text in units of 2^-frac, rounded. The text is an optional sign and digits, with at most one  \
+   * point, such as -12.5; it has `length` bytes and needs no '\0'. Each digit counts. FIXED_NO_DIGITS, or the code\
+   * of the first byte that is no digit: FIXED_INVALID_DIGIT or FIXED_TOO_MANY_POINTS */                           \
+  int32_t name##_parse(const char *text, size_t length, uint32_t frac, uint32_t rounding, name *result);           \
+  /* a / 2^frac with so many digits after the point, rounded, is put at the front of the buffer of `size` bytes with\
+   * a '\0' after it, and its length, without the '\0', is left in *length. FIXED_NO_ROOM if the buffer is too     \
+   * small: it stays as it was, and *length is the length of the text all the same */                              \
+  int32_t name##_print(word a, uint32_t frac, uint32_t places, uint32_t rounding, char *buffer, size_t size,       \
+                       size_t *length);                                                                            \
+  /* likewise the shortest text that is read as `a` to the nearest */                                              \
+  int32_t name##_print_shortest(word a, uint32_t frac, char *buffer, size_t size, size_t *length);
+
 /* The intervals of every word: what an operation makes of any number in `a` and any in `b` lies in the result, whose
  * ends are rounded outward and as near as the word allows. Ends are units of 2^-frac. A fraction past the width returns
  * FIXED_FRACTION_PAST_WIDTH, and then a low end above its high one FIXED_ENDS_EXCHANGED; then 0 in the divisor returns
@@ -212,6 +232,7 @@ enum {
   FIXED_CALLS(name, word)                         \
   FIXED_ROUNDED_CALLS(name, word)                 \
   FIXED_CONVERSIONS(name, word)                   \
+  FIXED_TEXTS(name, word)                         \
   FIXED_INTERVAL_CALLS(name, word)                \
   FIXED_ARRAY_CALLS(name, word)                   \
   FIXED_SIGNED_CALLS(name, word)                  \
@@ -223,6 +244,7 @@ enum {
   FIXED_CALLS(name, word)                    \
   FIXED_ROUNDED_CALLS(name, word)            \
   FIXED_CONVERSIONS(name, word)              \
+  FIXED_TEXTS(name, word)                    \
   FIXED_INTERVAL_CALLS(name, word)           \
   FIXED_ARRAY_CALLS(name, word)              \
   FIXED_UNSIGNED_CALLS(name, word)           \

@@ -7,7 +7,13 @@ use std::ops::Range;
 const WORDS: [&str; 8] = ["i8", "i16", "i32", "i64", "u8", "u16", "u32", "u64"];
 
 /// The exports `fixed_WORD_NAME` that take slices, and the names of these.
-const SLICES: [(&str, &[&str]); 2] = [("horner", &["coefs"]), ("filter", &["taps", "past"])];
+const SLICES: [(&str, &[&str]); 5] = [
+    ("parse", &["decimal"]),
+    ("print", &["buffer"]),
+    ("print_shortest", &["buffer"]),
+    ("horner", &["coefs"]),
+    ("filter", &["taps", "past"]),
+];
 
 /// A slice that an export takes: its name, its whole parameter, the word and whether it is written.
 struct Slice<'a> {

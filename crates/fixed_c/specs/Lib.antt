@@ -5,4 +5,5 @@ pub mod Polynomials
 pub mod Filters
 pub mod Words
 pub mod Roundings
+pub mod Texts
 pub mod inside

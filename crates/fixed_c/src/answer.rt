@@ -26,6 +26,16 @@ pub enum Code {
     NoRounding,
     /// The float is a NaN or an infinity.
     NotFinite,
+    /// A text has no digit.
+    NoDigits,
+    /// A byte of a text is neither a digit nor a point.
+    InvalidDigit,
+    /// A text has a second point.
+    TooManyPoints,
+    /// More digits behind the point are requested than are printed.
+    TooManyPlaces,
+    /// A text does not fit into the buffer.
+    NoRoom,
 }
 
 impl Code {
@@ -44,6 +54,11 @@ impl Code {
             Code::CountsDiffer => 7,
             Code::NoRounding => 8,
             Code::NotFinite => 9,
+            Code::NoDigits => 10,
+            Code::InvalidDigit => 11,
+            Code::TooManyPoints => 12,
+            Code::TooManyPlaces => 13,
+            Code::NoRoom => 14,
         }
     }
 }

@@ -25,6 +25,7 @@ mod signed_16;
 mod signed_32;
 mod signed_64;
 mod signed_8;
+mod texts;
 mod unsigned_16;
 mod unsigned_32;
 mod unsigned_64;

@@ -2,12 +2,15 @@
 
 ghost use Rattle.std.specs.Prelude.{◌≡◌, ℤ, Result, Ok, true, pos, neg_ℤ, ◌*ℤ◌, ◌+ℤ◌, ◌-ℤ◌};
 ghost use Rattle.std.specs.Float.{binary64};
+ghost use Rattle.fixed_word.specs.declared.rounding.Rounding.TheVariants.{Even};
 ghost use Rattle.fixed_word.specs.Quotient.{euclidean_remainder, truncated_quotient};
 ghost use Rattle.fixed_kernel.specs.Root.{root_of};
 ghost use Rattle.fixed_kernel.specs.Rounded.{rounded};
 ghost use Rattle.fixed_kernel.specs.RoundedRows.{rounded_add_prod, rounded_div, rounded_mul, rounded_mul_add, rounded_recip};
 ghost use Rattle.fixed_kernel.specs.Rows.{by_divisor, by_sign, exact_abs, exact_add_prod, exact_div, exact_div_euclid, exact_mul, exact_mul_add, exact_next_multiple_of, exact_recip, exact_rem, exact_signum, units};
 ghost use Rattle.fixed_convert.specs.Convert.{rounded_convert};
+ghost use Rattle.fixed_decimal.specs.Decimal.{decimal_row};
+ghost use Rattle.fixed_decimal.specs.Text.{shortest, text_of};
 ghost use Rattle.fixed_float.specs.Rows.{nearest_float, units_of_float};
 ghost use Rattle.fixed_c.specs.declared.answer.Code.{Code};
 ghost use Rattle.fixed_c.specs.declared.answer.Code.TheVariants.{ZeroDivisor, NegativeRoot, NotFinite};
@@ -18,11 +21,12 @@ ghost use Rattle.fixed_c.specs.Intervals.{difference_in, from_to, product_in, qu
 ghost use Rattle.fixed_c.specs.Places.{PlaceAnswers};
 ghost use Rattle.fixed_c.specs.Polynomials.{horner_in};
 ghost use Rattle.fixed_c.specs.Roundings.{at_rounding};
+ghost use Rattle.fixed_c.specs.Texts.{TextAnswers, at_places, or_code};
 ghost use Rattle.fixed_c.specs.Words.{AnswersI32, EndsI32Answers};
 
 use crate::answer::{Code, side_of};
 use crate::calls::{Call, result_of};
-use crate::{arrays, conversions, intervals, one_sign};
+use crate::{arrays, conversions, intervals, one_sign, texts};
 use fixed_filter::Shape;
 use fixed_word::Outcome;
 
@@ -438,6 +442,53 @@ pub extern "C" fn fixed_i32_to_double(a: i32, frac: u32, value: &mut f64) -> i32
         value.old value.new result }
 {
     conversions::to_double(a, frac, value)
+}
+
+/// The number of a decimal in units of `2^-frac`, rounded.
+#[unsafe(no_mangle)]
+pub extern "C" fn fixed_i32_parse(
+    decimal: &[u8],
+    frac: u32,
+    rounding: u32,
+    answer: &mut AnswerI32,
+) -> i32
+    ensures { AnswersI32
+        (at_fraction 32 frac (at_rounding rounding (λ r. or_code (decimal_row decimal.now frac r))))
+        answer.old answer.new result }
+{
+    answer.leave(texts::parse(decimal, frac, rounding))
+}
+
+/// The text of `a / 2^frac` with so many digits behind the point, rounded, and a 0 behind it.
+#[unsafe(no_mangle)]
+pub extern "C" fn fixed_i32_print(
+    a: i32,
+    frac: u32,
+    places: u32,
+    rounding: u32,
+    buffer: &mut [u8],
+    length: &mut usize,
+) -> i32
+    ensures { TextAnswers
+        (at_fraction 32 frac (at_places places (at_rounding rounding (λ r. Ok (text_of a frac places r)))))
+        (buffer.old, length.old) (buffer.new, length.new) result }
+{
+    texts::print(a, frac, places, rounding, buffer, length)
+}
+
+/// The shortest text that is read as `a / 2^frac`, to the nearest, and a 0 behind it.
+#[unsafe(no_mangle)]
+pub extern "C" fn fixed_i32_print_shortest(
+    a: i32,
+    frac: u32,
+    buffer: &mut [u8],
+    length: &mut usize,
+) -> i32
+    ensures { TextAnswers
+        (at_fraction 32 frac (Ok (text_of a frac (shortest a frac) Even)))
+        (buffer.old, length.old) (buffer.new, length.new) result }
+{
+    texts::shortest(a, frac, buffer, length)
 }
 
 /// The sums of a number in `a` and one in `b`.

@@ -1,0 +1,104 @@
+//! Decimals, read and written.
+#![tactic(auto, unfolding(crate::specs::inside::Calls::IsResultOf, crate::specs::Answers::at_fraction, crate::specs::Roundings::for_rounding, crate::specs::Texts::at_places, crate::specs::Texts::or_code, crate::specs::Texts::TextAnswers))]
+
+ghost use Rattle.std.specs.Prelude.{◌≡◌, Ok};
+ghost use Rattle.fixed_word.specs.declared.rounding.Rounding.TheVariants.{Even};
+ghost use Rattle.fixed_decimal.specs.Decimal.{decimal_row};
+ghost use Rattle.fixed_decimal.specs.Text.{shortest, text_of};
+ghost use Rattle.fixed_c.specs.Answers.{at_fraction};
+ghost use Rattle.fixed_c.specs.inside.Calls.{IsResultOf};
+ghost use Rattle.fixed_c.specs.Roundings.{at_rounding};
+ghost use Rattle.fixed_c.specs.Texts.{TextAnswers, at_places, or_code, text_code};
+
+use crate::answer::Code;
+use crate::rounded::rounding_of;
+use fixed_decimal::{DecimalError, decimal_of, shortest_places, write_decimal};
+use fixed_word::{Outcome, Rounding, Word};
+
+/// The code of a text that is no decimal.
+#[inline]
+fn code_of(error: DecimalError) -> Code
+    ensures { result ≡ text_code error }
+{
+    match error {
+        DecimalError::NoDigits => Code::NoDigits,
+        DecimalError::InvalidDigit(_) => Code::InvalidDigit,
+        DecimalError::TooManyPoints => Code::TooManyPoints,
+        DecimalError::Overflow | DecimalError::Inexact => Code::OutOfRange,
+    }
+}
+
+/// The number of a decimal in units of `2^-frac`, rounded.
+#[inline]
+pub(crate) fn parse<T: Word>(text: &[u8], frac: u32, rounding: u32) -> Result<Outcome<T>, Code>
+    ensures { IsResultOf T.value T.SIGNED T.BITS
+        (at_fraction T.BITS frac (at_rounding rounding (λ r. or_code (decimal_row text.now frac r)))) result }
+{
+    if frac > T::BITS {
+        return Err(Code::FractionPastWidth);
+    }
+    let Some(rounding) = rounding_of(rounding) else {
+        return Err(Code::NoRounding);
+    };
+    match decimal_of(text, frac, rounding) {
+        Ok(outcome) => Ok(outcome),
+        Err(error) => Err(code_of(error)),
+    }
+}
+
+/// The text of `a / 2^frac` with so many digits behind the point, rounded.
+#[inline]
+pub(crate) fn print<T: Word>(
+    a: T,
+    frac: u32,
+    places: u32,
+    rounding: u32,
+    buffer: &mut [u8],
+    length: &mut usize,
+) -> i32
+    ensures { TextAnswers
+        (at_fraction T.BITS frac (at_places places (at_rounding rounding (λ r. Ok (text_of (T.value a) frac places r)))))
+        (buffer.old, length.old) (buffer.new, length.new) result }
+{
+    if frac > T::BITS {
+        return Code::FractionPastWidth.number();
+    }
+    if places > 64 {
+        return Code::TooManyPlaces.number();
+    }
+    let Some(rounding) = rounding_of(rounding) else {
+        return Code::NoRounding.number();
+    };
+    let mut text = [0; 86];
+    let start = write_decimal(a, frac, places as usize, rounding, &mut text);
+    put(&text[start..], buffer, length)
+}
+
+/// The shortest text that is read as `a / 2^frac`, to the nearest.
+#[inline]
+pub(crate) fn shortest<T: Word>(a: T, frac: u32, buffer: &mut [u8], length: &mut usize) -> i32
+    ensures { TextAnswers
+        (at_fraction T.BITS frac (Ok (text_of (T.value a) frac (shortest (T.value a) frac) Even)))
+        (buffer.old, length.old) (buffer.new, length.new) result }
+{
+    if frac > T::BITS {
+        return Code::FractionPastWidth.number();
+    }
+    let mut text = [0; 86];
+    let places = shortest_places(a, frac);
+    let start = write_decimal(a, frac, places, Rounding::Even, &mut text);
+    put(&text[start..], buffer, length)
+}
+
+/// Puts a text and a 0 behind it at the front of a buffer, and leaves the length of the text.
+fn put(text: &[u8], buffer: &mut [u8], length: &mut usize) -> i32
+    ensures { TextAnswers (Ok text.now) (buffer.old, length.old) (buffer.new, length.new) result }
+{
+    *length = text.len();
+    if text.len() >= buffer.len() {
+        return Code::NoRoom.number();
+    }
+    buffer[..text.len()].copy_from_slice(text);
+    buffer[text.len()] = 0;
+    0
+}
