@@ -81,8 +81,8 @@ impl<T: RawWord, const F: u32> Held for Fixed<T, F> {
     ghost equal_law = { λ x y e. ap (λ b. record { bits = b }) e };
 }
 
-/// The related types and the fraction of a number, by which generic calls name them. (`fixed` does not have this
-/// trait.)
+/// The related types and the fraction of a number, by which generic calls name them. It has its own signedness and
+/// width, since a law cannot cite one of a supertrait. (`fixed` does not have this trait.)
 pub trait Number: Held {
     /// The unsigned number type of the same width and fraction.
     type Unsigned: Held;
