@@ -1,7 +1,7 @@
 //! Constants from decimals.
 //!
-//! A `const fn` can call no method of a trait, and has no slicing. So each word has its own `lit`, which calls one of two
-//! kernels without type parameters.
+//! A `const fn` can call no method of a trait, and has no slicing. So each word has its own `lit`, which calls one of
+//! two kernels without type parameters.
 
 ghost use Rattle.std.specs.Prelude.{◌≡◌, IsSome, Some, false, pos, true};
 ghost use Rattle.fixed_decimal.specs.Rows.{literal};
