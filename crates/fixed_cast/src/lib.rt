@@ -1,7 +1,7 @@
 //! Typed calls across formats: conversions, comparisons, products in a third format, and rounding to whole numbers.
 //!
 //! A conversion takes a [`Source`] and returns a [`Numeric`]: a number of any format, or an integer, which is a
-//! number without fraction bits. The Rust crate `fixed` has calls with the same names and results, unless a comment
+//! number without fraction bits. The calls are those of the same names of the Rust crate `fixed`, unless a comment
 //! says that it does not have the call. No function allocates.
 #![tactic(auto)]
 

@@ -1,7 +1,7 @@
 //! Fixed-point numbers: words of bits with a fixed number of fraction bits.
 //!
 //! `Fixed<T, F>` is its bits times the unit `2^-F`: `98304` is `1.5` in `FixedI32<16>`. The width of a number is the
-//! number of bits of its word T. The Rust crate `fixed` has calls with the same names and results, unless a comment
+//! number of bits of its word T. The calls are those of the same names of the Rust crate `fixed`, unless a comment
 //! says that it does not have the call. No call allocates.
 #![tactic(auto)]
 

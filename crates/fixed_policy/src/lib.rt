@@ -2,8 +2,8 @@
 //!
 //! The functions `.._of` are re-exports of [`fixed_word`](fixed_word); they read an [`Outcome`](fixed_word::Outcome).
 //! The traits have the typed calls of [`Fixed`](fixed_num::Fixed), each named by its policy and its operation. The
-//! Rust crate `fixed` has calls with the same names and results, unless a comment says that it does not have the
-//! call. No function allocates.
+//! calls are those of the same names of the Rust crate `fixed`, unless a comment says that it does not have the call.
+//! No function allocates.
 #![tactic(auto)]
 
 mod checked;
