@@ -13,7 +13,7 @@ MENTIONS = {
     "mul": ["mul", "Mul", "checked_mul", "mul_of", "mul_round_of", "fixed_i32_mul", "exact_mul", "checked-mul", "MUL"],
     "next_multiple_of": ["NextMultipleOf", "next_multiple_of_of", "checked_next_multiple_of"],
     "poly": ["fixed_poly", "poly_run", "PolyRun", "poly_memory"],
-    "i32": ["i32", "I32", "fixed_i32_of"],
+    "i32": ["i32", "I32", "fixed_i32_mul", "I32Word"],
 }
 OTHERS = {
     "mul": ["mul_add", "MulAdd", "mul_int", "multiple", "checked_mul_acc"],

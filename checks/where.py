@@ -7,7 +7,7 @@
 
 A file mentions a name in every spelling: `next_multiple_of`, `NextMultipleOf`, `next-multiple-of`. The name may have
 affixes, such as those of `checked_mul`, `mul_of` and `fixed_i32_mul`, but no other words: `mul_add` does not mention
-`mul`. The path of a file counts as text of it.
+`mul`. Only a word, such as `i32`, may be any part of a name. The path of a file counts as text of it.
 """
 import argparse
 import re
@@ -53,8 +53,10 @@ def parts(token):
 
 
 def is_name(token, name):
-    """Whether a token is the name, perhaps with affixes."""
+    """Whether a token is the name, perhaps with affixes, or has the word."""
     words, size = parts(token), len(name)
+    if WORDS.issuperset(name):
+        return name[0] in words
     return any(words[at:at + size] == name and AFFIXES.issuperset(words[:at] + words[at + size:])
                for at in range(len(words) - size + 1))
 
@@ -76,7 +78,8 @@ def where(texts, name):
 def lacking(texts, new, old):
     """The files that mention the old name, but for those that the new one has too."""
     has_new = set(where(texts, new))
-    return [path for path in where(texts, old) if path not in has_new and path.replace(old, new) not in has_new]
+    places = {path: {path, path.replace(old, new), path.replace(old.upper(), new.upper())} for path in where(texts, old)}
+    return [path for path in places if not has_new & places[path]]
 
 
 def listing(paths):
