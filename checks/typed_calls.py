@@ -1,5 +1,5 @@
 #!/usr/bin/env python3
-"""Compares the calls that docs/GUIDE.md and the page of fixed_num list with those of the sources.
+"""Compares the calls that docs/calls.txt lists with those of the sources.
 
     python3 checks/typed_calls.py
 
@@ -11,16 +11,15 @@ import sys
 from pathlib import Path
 
 TOP = Path(__file__).resolve().parent.parent
-GUIDE = "docs/GUIDE.md"
-NUMBERS = "crates/fixed_num/README.md"
+LIST = "docs/calls.txt"
 POLICIES = ["checked", "overflowing", "wrapping", "saturating", "strict", "unwrapped"]
 
 
-def table_rows(page):
-    """The rows of the page's tables, each as a list of cells, without the rulers."""
-    for line in (TOP / page).read_text().splitlines():
-        if line.startswith("| ") and not line.startswith("|-"):
-            yield [cell.strip() for cell in line.strip("|").split("|")]
+def parts():
+    """The two parts of the list: of the calls with a policy, and of the others."""
+    _, _, text = (TOP / LIST).read_text().partition("every policy:\n\n")
+    with_policy, _, others = text.partition("\nCalls without a policy")
+    return with_policy, others
 
 
 def source(crate):
@@ -33,11 +32,10 @@ def blocks(text, head):
 
 
 def listed_calls():
-    """The calls of the guide's block of operations, with their parameters."""
+    """The calls with a policy that are listed, with their parameters."""
     calls = {}
     policies = POLICIES
-    block = next(part for part in (TOP / GUIDE).read_text().split("```text\n") if part.startswith("neg, "))
-    for line in block.split("```")[0].splitlines():
+    for line in parts()[0].splitlines():
         if line.endswith(":"):
             policies = line[:-1].split(", ")
         names, _, parameters = line.partition("  ")
@@ -59,8 +57,9 @@ def written_calls():
 
 
 def listed_numbers():
-    """The names of the second column."""
-    return {name for cells in table_rows(NUMBERS) for name in re.findall(r"`(\w+)`", cells[1])}
+    """The names on the indented lines."""
+    lines = [line for line in parts()[1].splitlines() if line.startswith("    ")]
+    return {name for line in lines for name in re.findall(r"\w+", line)}
 
 
 def written_numbers():
@@ -72,19 +71,19 @@ def written_numbers():
         re.findall(r"^    (?:fn|const) (\w+)", traits, re.M))
 
 
-def differences(page, listed, written):
-    lines = [f"{name}: in {page} alone" for name in sorted(set(listed) - set(written))]
+def differences(listed, written):
+    lines = [f"{name}: in {LIST} alone" for name in sorted(set(listed) - set(written))]
     return lines + [f"{name}: in the source alone" for name in sorted(set(written) - set(listed))]
 
 
 def main():
     listed, written = listed_calls(), written_calls()
-    wrong = differences(GUIDE, listed, written)
-    wrong += [f"{name}: takes ({written[name]}), and ({listed[name]}) in {GUIDE}"
+    wrong = differences(listed, written)
+    wrong += [f"{name}: takes ({written[name]}), and ({listed[name]}) in {LIST}"
               for name in sorted(set(listed) & set(written)) if listed[name] != written[name]]
-    wrong += differences(NUMBERS, listed_numbers(), written_numbers())
+    wrong += differences(listed_numbers(), written_numbers())
     if not listed or not listed_numbers():
-        wrong.append("a page lists no calls")
+        wrong.append(f"{LIST} lists no calls")
     print("\n".join(wrong), end="\n" if wrong else "")
     return 1 if wrong else 0
 

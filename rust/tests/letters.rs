@@ -351,7 +351,7 @@ fn planted_differences() {
     let checked = "Checked, CheckedSigned";
     let moved = difference(&WRITTEN.replacen(checked, "CheckedSigned, Checked", 1));
     assert!(moved.is_some_and(|said| said.contains("fixed_policy/src/lib.rt")));
-    let docs = difference(&WRITTEN.replacen("    /// The bits.\n", "", 1));
+    let docs = difference(&WRITTEN.replacen("    /// Returns the bits: the number in units of `2^-F`.\n", "", 1));
     assert!(docs.is_some_and(|said| said.contains("fixed_num/src/format.rt")));
     let cut = difference(&WRITTEN[..WRITTEN.len() - 2]);
     assert!(cut.is_some_and(|said| said.contains("the end")));

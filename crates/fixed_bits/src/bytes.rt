@@ -1,4 +1,4 @@
-//! The bytes of each word. Those of a signed word are those of the unsigned word with the same bits.
+//! The bytes of each word. A signed word has the bytes of the unsigned word with the same bits.
 
 use crate::bit_word::BitWord;
 use fixed_word::Word;

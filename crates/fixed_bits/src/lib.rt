@@ -1,8 +1,8 @@
 //! Words as lists of bits and of bytes.
 //!
-//! The bit list of a word of n bits has n digits 0 or 1, the least first, whose sum of `digit_i 2^i`
-//! differs from the value by a multiple of `2^n`. The byte list is the same with n/8 digits from 0 to
-//! 255 in base 256. No call takes memory.
+//! The bit list of a word of n bits has n digits 0 or 1, the least significant first. The sum of `digit_i 2^i`
+//! differs from the value by a multiple of `2^n`. The byte list is the same with n/8 digits from 0 to 255 in base
+//! 256. No call allocates.
 #![tactic(auto)]
 
 mod bit_word;

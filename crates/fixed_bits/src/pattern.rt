@@ -1,11 +1,11 @@
-//! The binary digits of a word as a number, and back.
+//! The bit pattern of a word as an unsigned integer, and back.
 
 ghost use Rattle.std.specs.Prelude.{◌≡◌, ◌+◌, ◌-◌, ◌*◌, ◌/◌, ◌^◌, ◌<◌, ◌≤◌};
 ghost use Rattle.fixed_bits.specs.Digits.{bit_list, lowest_digits};
 
 use fixed_word::{RawWord, Word};
 
-/// The number from 0 to `2^n - 1` with the binary digits of the word.
+/// Returns the number from 0 to `2^n - 1` with the bit pattern of the word.
 pub(crate) fn pattern_of<T: Word>(word: T) -> u64
     ensures digits { bit_list T.BITS (T.value word) ≡ lowest_digits 2 T.BITS result }
     ensures small { result < 2 ^ T.BITS }
@@ -13,14 +13,14 @@ pub(crate) fn pattern_of<T: Word>(word: T) -> u64
     word.to_unsigned().magnitude()
 }
 
-/// The word with the n lowest binary digits of a number.
+/// Returns the word with the n least significant bits of a number.
 pub(crate) fn word_of<T: Word>(pattern: u128) -> T
     ensures { bit_list T.BITS (T.value result) ≡ lowest_digits 2 T.BITS pattern }
 {
     T::residue(false, pattern)
 }
 
-/// The pattern moved up by `by` digits, with those that fall out at the top put in below.
+/// Returns the pattern rotated left by `by`.
 pub(crate) fn rotated(pattern: u64, by: u32, width: u32) -> u128
     requires width { width ≤ 64 }
     requires by { by ≤ width }

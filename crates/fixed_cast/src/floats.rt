@@ -1,4 +1,4 @@
-//! Floats: from and to numbers of a format and integers.
+//! Conversions between floats and numbers of a format or integers.
 
 ghost use Rattle.std.specs.Prelude.{◌≡◌, ◌≤◌};
 ghost use Rattle.fixed_word.specs.declared.rounding.Rounding.TheVariants.{Even};
@@ -55,9 +55,9 @@ impl Source for f64 {
     ghost saturated_law = { saturated_is };
 }
 
-/// Floats from numbers of a format and integers (this project's own; in the crate `to_num`).
+/// Conversions of numbers of a format and integers to floats. (In `fixed` these are calls of `to_num`.)
 pub trait ToFloat: Numeric {
-    /// Returns the nearest float, of two as near the one whose last bit is 0.
+    /// Returns the nearest float, ties to even.
     fn to_float<X: Binary>(self) -> X
         requires { Self.FRACTION ≤ Self.Word.BITS }
         ensures { X.float result ≡ nearest_float X.format (Self.units self) Self.FRACTION };

@@ -1,8 +1,8 @@
-//! Typed calls across formats: numbers of any format and integers, in and out, compared, and rounded to whole numbers.
+//! Typed calls across formats: conversions, comparisons, products in a third format, and rounding to whole numbers.
 //!
-//! A conversion takes a [`Source`] and gives a [`Numeric`]: a number of any format, or an integer, which is a number
-//! with no bit behind the point. The calls are those of the same names of the Rust crate `fixed`, but where one is said
-//! to be this project's own. No function takes memory.
+//! A conversion takes a [`Source`] and returns a [`Numeric`]: a number of any format, or an integer, which is a
+//! number without fraction bits. The calls are those of the same names of the Rust crate `fixed`, unless a comment
+//! says that it does not have the call. No function allocates.
 #![tactic(auto)]
 
 mod floats;

@@ -1,4 +1,4 @@
-//! Products of two numbers of any formats, in a third.
+//! Products of two numbers of any formats, in a third format.
 
 ghost use Rattle.std.specs.Prelude.{◌≡◌, ◌≤◌, Some, IsSome, option_map};
 ghost use Rattle.fixed_word.specs.Policies.{checked, overflowing, saturating, wrapping};
@@ -13,9 +13,9 @@ use crate::policies::{
 use fixed_convert::mul_into_of;
 use fixed_word::{Outcome, Rounding};
 
-/// Products of two numbers of any formats, or integers, in a third format, by each policy. The exact product is rounded
-/// once: down, or in the forms `.._round` as named. Precondition of each call: the fractions of both factors are at most
-/// their widths. (This project's own.)
+/// Products of two numbers of any formats, or integers, in a third format, by each policy. The exact product is
+/// rounded once: down, or as named in the forms `.._round`. Precondition of each call: the fractions of both factors
+/// are at most their widths. (`fixed` does not have these calls.)
 pub trait MulInto: Numeric {
     /// Returns the product, rounded down. Precondition: it fits.
     fn mul_into<B: Numeric, D: Numeric>(self, rhs: B) -> D

@@ -1,4 +1,4 @@
-//! What each policy makes of an outcome, in a number of its format.
+//! What each policy makes of an outcome, as a number of its format.
 
 ghost use Rattle.std.specs.Prelude.{◌≡◌, ℤ, Some, option_map};
 ghost use Rattle.fixed_word.specs.declared.outcome.Side.TheVariants.{Fits};
@@ -10,7 +10,7 @@ use fixed_word::{
     Outcome, Word, checked_of, overflowing_of, saturating_of, strict_of, wrapping_of,
 };
 
-/// The number, and None exactly where it does not fit.
+/// Returns the number, or `None` if it does not fit.
 #[inline]
 pub(crate) fn checked_number<T: Word, const F: u32>(outcome: Outcome<T>) -> Option<Fixed<T, F>>
     ensures { (x : ℤ) → StandsFor T.value T.SIGNED T.BITS x outcome
@@ -22,7 +22,7 @@ pub(crate) fn checked_number<T: Word, const F: u32>(outcome: Outcome<T>) -> Opti
     }
 }
 
-/// The wrapped number, and whether the number does not fit.
+/// Returns the wrapped number, and whether the exact number does not fit.
 #[inline]
 pub(crate) fn overflowing_number<T: Word, const F: u32>(outcome: Outcome<T>) -> (Fixed<T, F>, bool)
     ensures { (x : ℤ) → StandsFor T.value T.SIGNED T.BITS x outcome
@@ -32,7 +32,7 @@ pub(crate) fn overflowing_number<T: Word, const F: u32>(outcome: Outcome<T>) -> 
     (Fixed { bits }, overflows)
 }
 
-/// The wrapped number.
+/// Returns the wrapped number.
 #[inline]
 pub(crate) fn wrapping_number<T: Word, const F: u32>(outcome: Outcome<T>) -> Fixed<T, F>
     ensures { (x : ℤ) → StandsFor T.value T.SIGNED T.BITS x outcome
@@ -43,7 +43,7 @@ pub(crate) fn wrapping_number<T: Word, const F: u32>(outcome: Outcome<T>) -> Fix
     }
 }
 
-/// The number that fits and is nearest.
+/// Returns the nearest number that fits.
 #[inline]
 pub(crate) fn saturating_number<T: Word, const F: u32>(outcome: Outcome<T>) -> Fixed<T, F>
     ensures { (x : ℤ) → StandsFor T.value T.SIGNED T.BITS x outcome

@@ -1,4 +1,4 @@
-//! Numbers of any format, and integers as numbers with no bit behind the point.
+//! Numbers of any format, and integers as numbers without fraction bits.
 
 ghost use Rattle.std.specs.Prelude.{◌≡◌, ℕ, ℤ, pos};
 
@@ -6,12 +6,12 @@ use fixed_convert::Castable;
 use fixed_num::Fixed;
 use fixed_word::RawWord;
 
-/// A number of a format, or an integer: a whole number of units of `2^-FRACTION` (this project's own).
+/// A number of a format, or an integer: a whole number of units of `2^-FRACTION`. (`fixed` does not have this trait.)
 pub trait Numeric: Copy {
     /// The word that holds the number.
     type Word: Castable;
 
-    /// How many bits stand behind the point.
+    /// The number of fraction bits; 0 for an integer.
     const FRACTION: u32;
 
     ghost FRACTION: { ℕ };
@@ -19,11 +19,11 @@ pub trait Numeric: Copy {
     // the number of units
     ghost units: { Self → ℤ };
 
-    /// The number of as many units as the word has.
+    /// Returns the number with that many units of `2^-FRACTION`.
     fn from_word(word: Self::Word) -> Self
         ensures { units result ≡ Self.Word.value word };
 
-    /// The word that has the number of units.
+    /// Returns how many units of `2^-FRACTION` the number has.
     fn to_word(self) -> Self::Word
         ensures { Self.Word.value result ≡ units self };
 }

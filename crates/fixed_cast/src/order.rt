@@ -10,19 +10,19 @@ use fixed_convert::compare_of;
 use fixed_float::{Binary, compare_float_of};
 use std::cmp::Ordering;
 
-/// How numbers of any format and integers stand to one another (the crate's operators between types).
+/// Comparisons of numbers of any format and integers. (In `fixed` these are operators between types.)
 pub trait Order: Numeric {
-    /// How the number stands to another.
+    /// Returns the order of the number and another one.
     fn compare<N: Numeric>(self, other: N) -> Ordering
         ensures { result ≡ exact_order (Self.units self) Self.FRACTION (N.units other) N.FRACTION };
 
-    /// Whether both are the same number.
+    /// Returns whether both are the same number.
     fn equals<N: Numeric>(self, other: N) -> bool
         ensures { IsTrue result ↔ (Self.units self *ℤ pos (2 ^ N.FRACTION)
             ≡ N.units other *ℤ pos (2 ^ Self.FRACTION)) };
 
-    /// Returns the order of the number and the exact value of a float, or `None` for a NaN. Infinities lie beyond every
-    /// number.
+    /// Returns the order of the number and the exact value of a float, or `None` for a NaN. Infinities are beyond
+    /// every number.
     fn compare_float<X: Binary>(self, other: X) -> Option<Ordering>
         requires { Self.FRACTION ≤ Self.Word.BITS }
         ensures { result ≡ float_order (Self.units self) Self.FRACTION (X.float other) };

@@ -1,4 +1,4 @@
-//! What each policy makes of a row, in a number of a format or an integer.
+//! What each policy makes of an exact result, as a number of a format or an integer.
 
 ghost use Rattle.std.specs.Prelude.{◌≡◌, ℤ, Option, Some, IfSome, IsSome, option_map};
 ghost use Rattle.fixed_word.specs.declared.outcome.Side.TheVariants.{Fits};
@@ -12,7 +12,7 @@ use fixed_word::{
     Outcome, Word, checked_of, overflowing_of, saturating_of, strict_of, wrapping_of,
 };
 
-/// The number; None exactly where there is none or it does not fit.
+/// Returns the number, or `None` if there is none or it does not fit.
 #[inline]
 pub(crate) fn checked_num<N: Numeric>(outcome: Option<Outcome<N::Word>>) -> Option<N>
     ensures { (row : Option ℤ)
@@ -25,7 +25,7 @@ pub(crate) fn checked_num<N: Numeric>(outcome: Option<Outcome<N::Word>>) -> Opti
     }
 }
 
-/// The wrapped number, and whether the number does not fit.
+/// Returns the wrapped number, and whether the exact number does not fit.
 #[inline]
 pub(crate) fn overflowing_num<N: Numeric>(outcome: Option<Outcome<N::Word>>) -> (N, bool)
     requires { IsSome outcome }
@@ -37,7 +37,7 @@ pub(crate) fn overflowing_num<N: Numeric>(outcome: Option<Outcome<N::Word>>) -> 
     (N::from_word(word), overflows)
 }
 
-/// The wrapped number.
+/// Returns the wrapped number.
 #[inline]
 pub(crate) fn wrapping_num<N: Numeric>(outcome: Option<Outcome<N::Word>>) -> N
     requires { IsSome outcome }
@@ -48,7 +48,7 @@ pub(crate) fn wrapping_num<N: Numeric>(outcome: Option<Outcome<N::Word>>) -> N
     N::from_word(wrapping_of(outcome.unwrap()))
 }
 
-/// The number that fits and is nearest.
+/// Returns the nearest number that fits.
 #[inline]
 pub(crate) fn saturating_num<N: Numeric>(outcome: Option<Outcome<N::Word>>) -> N
     requires { IsSome outcome }
@@ -59,7 +59,7 @@ pub(crate) fn saturating_num<N: Numeric>(outcome: Option<Outcome<N::Word>>) -> N
     N::from_word(saturating_of(outcome.unwrap()))
 }
 
-/// The number, where there is one and it fits.
+/// Returns the number if it fits. Precondition: there is one.
 #[inline]
 pub(crate) fn exact_num<N: Numeric>(outcome: Option<Outcome<N::Word>>) -> N
     requires { IsSome outcome }
@@ -70,7 +70,7 @@ pub(crate) fn exact_num<N: Numeric>(outcome: Option<Outcome<N::Word>>) -> N
     N::from_word(exact_word(outcome.unwrap()))
 }
 
-/// The word of a number that fits.
+/// Returns the word of a number if that fits.
 #[inline]
 pub(crate) fn exact_word<T: Word>(outcome: Outcome<T>) -> T
     ensures { (x : ℤ) → StandsFor T.value T.SIGNED T.BITS x outcome → InRange T.SIGNED T.BITS x
@@ -79,7 +79,7 @@ pub(crate) fn exact_word<T: Word>(outcome: Outcome<T>) -> T
     outcome.wrapped
 }
 
-/// The same, of an outcome that fits.
+/// Returns the number of an outcome. Preconditions: there is one, and it fits.
 #[inline]
 pub(crate) fn strict_num<N: Numeric>(outcome: Option<Outcome<N::Word>>) -> N
     requires some { IsSome outcome }

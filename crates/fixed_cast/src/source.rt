@@ -11,9 +11,10 @@ use crate::numeric::Numeric;
 use fixed_convert::{Castable, convert_round_of, saturating_convert_of};
 use fixed_word::{Outcome, Rounding};
 
-/// A value from which numbers are made: a number of a format, an integer, a float or a `bool` (this project's own).
+/// A value that conversions take: a number of a format, an integer, a float or a `bool`. (`fixed` does not have this
+/// trait.)
 pub trait Source: Copy {
-    /// The rounding of conversions that name none.
+    /// The rounding of conversions that do not name one.
     const DEFAULT: Rounding;
 
     ghost DEFAULT: { Rounding };
@@ -24,7 +25,8 @@ pub trait Source: Copy {
     // the same, held at the ends of a range, for an infinity the end on its side
     ghost saturated: { Bool → ℕ → Self → ℕ → Rounding → Option ℤ };
 
-    /// Returns the outcome of the number in units of `2^-frac`, rounded; None exactly where there is no number.
+    /// Returns the outcome of the number in units of `2^-frac`, rounded, or `None` if there is no number, as for a
+    /// NaN.
     fn outcome<T: Castable>(self, frac: u32, rounding: Rounding) -> Option<Outcome<T>>
         ensures { IsOutcomeOfRow T.value T.SIGNED T.BITS (exact self frac rounding) result };
 

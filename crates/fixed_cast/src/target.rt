@@ -10,8 +10,9 @@ use crate::from_num::FromNum;
 use crate::numeric::Numeric;
 use crate::source::Source;
 
-/// A type that the calls of [`ToNum`](crate::ToNum) return: numbers of every format and integers for each source, and
-/// floats for numbers and integers. A float is the nearest one, ties to even, and always fits. (This project's own.)
+/// A type that the calls of [`ToNum`](crate::ToNum) return. Each source converts to numbers of every format and to
+/// integers; numbers and integers also convert to floats. A float is the nearest one, ties to even, and always fits.
+/// (`fixed` does not have this trait.)
 pub trait Target<S: Source>: Copy {
     // what a value is: a number of units, or a float as IEEE 754 has it
     ghost Exact: { Type 0 };

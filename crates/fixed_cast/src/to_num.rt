@@ -1,4 +1,4 @@
-//! The same conversions, called on what they take, and those to floats.
+//! The conversions of `FromNum`, called on the source, and conversions to floats.
 
 ghost use Rattle.std.specs.Prelude.{◌≡◌, Some, IsSome, option_map};
 ghost use Rattle.fixed_word.specs.Policies.{checked, overflowing, wrapping};
@@ -9,84 +9,86 @@ use crate::source::Source;
 use crate::target::Target;
 use fixed_word::Rounding;
 
-/// Conversions of a number to one of another format, to an integer or to a float, by each policy. A float is the nearest
-/// one, ties to even, and always fits.
+/// Conversions of a number to one of another format, to an integer or to a float, by each policy. They round as
+/// [`FromNum`](crate::FromNum) does. A float is the nearest one, ties to even, and always fits.
 pub trait ToNum: Source {
-    /// The number; condition that there is one and that it fits.
+    /// Returns the number. Preconditions: the source is finite, and the number fits.
     fn to_num<D: Target<Self>>(self) -> D
         requires format { D.is_format }
         requires fits { IsSome (D.as_checked (D.exact self)) }
         ensures { Some (D.exactly result) ≡ D.exact self };
 
-    /// The number; None exactly where there is none or it does not fit.
+    /// Returns the number, or `None` if there is none or it does not fit.
     fn checked_to_num<D: Target<Self>>(self) -> Option<D>
         requires { D.is_format }
         ensures { option_map D.exactly result ≡ D.as_checked (D.exact self) };
 
-    /// The wrapped number, and whether the number does not fit; condition that there is one.
+    /// Returns the number, wrapped, and whether it does not fit. Precondition: the source is finite.
     fn overflowing_to_num<D: Target<Self>>(self) -> (D, bool)
         requires format { D.is_format }
         requires some { IsSome (D.exact self) }
         ensures { Some (D.exactly result.0, result.1) ≡ D.as_overflowing (D.exact self) };
 
-    /// The number without what lies past the width; condition that there is one.
+    /// Returns the number, wrapped. Precondition: the source is finite.
     fn wrapping_to_num<D: Target<Self>>(self) -> D
         requires format { D.is_format }
         requires some { IsSome (D.exact self) }
         ensures { Some (D.exactly result) ≡ D.as_wrapping (D.exact self) };
 
-    /// The number, held at the ends; condition that there is one.
+    /// Returns the number, saturated. An infinity becomes an end of the range. Precondition: the source is not a NaN.
     fn saturating_to_num<D: Target<Self>>(self) -> D
         requires format { D.is_format }
         requires some { IsSome (D.saturated self) }
         ensures { Some (D.exactly result) ≡ D.saturated self };
 
-    /// The number; condition that there is one and that it fits.
+    /// Returns the number. Preconditions: the source is finite, and the number fits.
     fn strict_to_num<D: Target<Self>>(self) -> D
         requires format { D.is_format }
         requires fits { IsSome (D.as_checked (D.exact self)) }
         ensures { Some (D.exactly result) ≡ D.exact self };
 
-    /// The number; condition that there is one and that it fits.
+    /// Returns the number. Preconditions: the source is finite, and the number fits.
     fn unwrapped_to_num<D: Target<Self>>(self) -> D
         requires format { D.is_format }
         requires fits { IsSome (D.as_checked (D.exact self)) }
         ensures { Some (D.exactly result) ≡ D.exact self };
 
-    /// The same, rounded as named.
+    /// Returns the number, rounded as named, or `None` if it does not fit or the source is not finite.
     fn checked_to_num_round<N: Numeric>(self, rounding: Rounding) -> Option<N>
         ensures { option_map N.units result
             ≡ checked N.Word.SIGNED N.Word.BITS (Self.exact self N.FRACTION rounding) };
 
-    /// The same, rounded as named.
+    /// Returns the number, rounded as named and wrapped, and whether it does not fit. Precondition: the source is
+    /// finite.
     fn overflowing_to_num_round<N: Numeric>(self, rounding: Rounding) -> (N, bool)
         requires { IsSome (Self.exact self N.FRACTION rounding) }
         ensures { Some (N.units result.0, result.1)
             ≡ overflowing N.Word.SIGNED N.Word.BITS (Self.exact self N.FRACTION rounding) };
 
-    /// The same, rounded as named.
+    /// Returns the number, rounded as named and wrapped. Precondition: the source is finite.
     fn wrapping_to_num_round<N: Numeric>(self, rounding: Rounding) -> N
         requires { IsSome (Self.exact self N.FRACTION rounding) }
         ensures { Some (N.units result)
             ≡ wrapping N.Word.SIGNED N.Word.BITS (Self.exact self N.FRACTION rounding) };
 
-    /// The same, rounded as named.
+    /// Returns the number, rounded as named and saturated. An infinity becomes an end of the range. Precondition: the
+    /// source is not a NaN.
     fn saturating_to_num_round<N: Numeric>(self, rounding: Rounding) -> N
         requires { IsSome (Self.saturated N.Word.SIGNED N.Word.BITS self N.FRACTION rounding) }
         ensures { Some (N.units result)
             ≡ Self.saturated N.Word.SIGNED N.Word.BITS self N.FRACTION rounding };
 
-    /// The same, rounded as named.
+    /// Returns the number, rounded as named. Preconditions: the source is finite, and the number fits.
     fn to_num_round<N: Numeric>(self, rounding: Rounding) -> N
         requires { IsSome (checked N.Word.SIGNED N.Word.BITS (Self.exact self N.FRACTION rounding)) }
         ensures { Some (N.units result) ≡ Self.exact self N.FRACTION rounding };
 
-    /// The same, rounded as named.
+    /// Returns the number, rounded as named. Preconditions: the source is finite, and the number fits.
     fn strict_to_num_round<N: Numeric>(self, rounding: Rounding) -> N
         requires { IsSome (checked N.Word.SIGNED N.Word.BITS (Self.exact self N.FRACTION rounding)) }
         ensures { Some (N.units result) ≡ Self.exact self N.FRACTION rounding };
 
-    /// The same, rounded as named.
+    /// Returns the number, rounded as named. Preconditions: the source is finite, and the number fits.
     fn unwrapped_to_num_round<N: Numeric>(self, rounding: Rounding) -> N
         requires { IsSome (checked N.Word.SIGNED N.Word.BITS (Self.exact self N.FRACTION rounding)) }
         ensures { Some (N.units result) ≡ Self.exact self N.FRACTION rounding };

@@ -11,187 +11,185 @@ use crate::numbers::{
 use fixed_convert::{Castable, ceil_of, floor_of, frac_of, round_of, round_ties_even_of};
 use fixed_num::{Fixed, Number, exact_number};
 
-/// The whole numbers beside a number, by each policy. Each call has the condition that the fraction is at most the width.
+/// Rounding to whole numbers of the number's own format, by each policy. Precondition of each call: the fraction is
+/// at most the width.
 pub trait ToWhole: Number {
-    /// The greatest whole number that is at most the number, without what lies past the width: 0 for a number below 0
-    /// where every bit stands behind the point.
+    /// Returns the largest whole number that is at most the number, wrapped. If every bit is a fraction bit, it is 0,
+    /// also for a negative number.
     fn int(self) -> Self
         requires { Self.FRACTION ≤ Self.BITS }
         ensures { Some (Self.number result) ≡ wrapping Self.SIGNED Self.BITS
             (Some (exact_floor (Self.number self) Self.FRACTION)) };
 
-    /// What the number is above that, without what lies past the width.
+    /// Returns the number minus `floor`, wrapped.
     fn frac(self) -> Self
         requires { Self.FRACTION ≤ Self.BITS }
         ensures { Some (Self.number result) ≡ wrapping Self.SIGNED Self.BITS
             (Some (exact_frac (Self.number self) Self.FRACTION)) };
 
-    /// The greatest whole number that is at most the number; condition that it fits.
+    /// Returns the largest whole number that is at most the number. Precondition: it fits.
     fn floor(self) -> Self
         requires fraction { Self.FRACTION ≤ Self.BITS }
         requires fits { InRange Self.SIGNED Self.BITS (exact_floor (Self.number self) Self.FRACTION) }
         ensures { Self.number result ≡ exact_floor (Self.number self) Self.FRACTION };
 
-    /// The least whole number that is at least the number; condition that it fits.
+    /// Returns the smallest whole number that is at least the number. Precondition: it fits.
     fn ceil(self) -> Self
         requires fraction { Self.FRACTION ≤ Self.BITS }
         requires fits { InRange Self.SIGNED Self.BITS (exact_ceil (Self.number self) Self.FRACTION) }
         ensures { Self.number result ≡ exact_ceil (Self.number self) Self.FRACTION };
 
-    /// The nearest whole number, and where two are nearest the one further from 0; condition that it fits.
+    /// Returns the nearest whole number, ties away from 0. Precondition: it fits.
     fn round(self) -> Self
         requires fraction { Self.FRACTION ≤ Self.BITS }
         requires fits { InRange Self.SIGNED Self.BITS (exact_round (Self.number self) Self.FRACTION) }
         ensures { Self.number result ≡ exact_round (Self.number self) Self.FRACTION };
 
-    /// The nearest whole number, and where two are nearest the even one; condition that it fits.
+    /// Returns the nearest whole number, ties to even. Precondition: it fits.
     fn round_ties_even(self) -> Self
         requires fraction { Self.FRACTION ≤ Self.BITS }
         requires fits { InRange Self.SIGNED Self.BITS (exact_round_ties_even (Self.number self) Self.FRACTION) }
         ensures { Self.number result ≡ exact_round_ties_even (Self.number self) Self.FRACTION };
 
-    /// The greatest whole number that is at most the number; None exactly where it does not fit.
+    /// Returns the largest whole number that is at most the number, or `None` if it does not fit.
     fn checked_floor(self) -> Option<Self>
         requires { Self.FRACTION ≤ Self.BITS }
         ensures { option_map Self.number result
             ≡ checked Self.SIGNED Self.BITS (Some (exact_floor (Self.number self) Self.FRACTION)) };
 
-    /// The least whole number that is at least the number; None exactly where it does not fit.
+    /// Returns the smallest whole number that is at least the number, or `None` if it does not fit.
     fn checked_ceil(self) -> Option<Self>
         requires { Self.FRACTION ≤ Self.BITS }
         ensures { option_map Self.number result
             ≡ checked Self.SIGNED Self.BITS (Some (exact_ceil (Self.number self) Self.FRACTION)) };
 
-    /// The nearest whole number, and where two are nearest the one further from 0; None exactly where it does not
-    /// fit.
+    /// Returns the nearest whole number, ties away from 0, or `None` if it does not fit.
     fn checked_round(self) -> Option<Self>
         requires { Self.FRACTION ≤ Self.BITS }
         ensures { option_map Self.number result
             ≡ checked Self.SIGNED Self.BITS (Some (exact_round (Self.number self) Self.FRACTION)) };
 
-    /// The nearest whole number, and where two are nearest the even one; None exactly where it does not fit.
+    /// Returns the nearest whole number, ties to even, or `None` if it does not fit.
     fn checked_round_ties_even(self) -> Option<Self>
         requires { Self.FRACTION ≤ Self.BITS }
         ensures { option_map Self.number result
             ≡ checked Self.SIGNED Self.BITS (Some (exact_round_ties_even (Self.number self) Self.FRACTION)) };
 
-    /// The greatest whole number that is at most the number, wrapped, and whether it does not fit.
+    /// Returns the largest whole number that is at most the number, wrapped, and whether it does not fit.
     fn overflowing_floor(self) -> (Self, bool)
         requires { Self.FRACTION ≤ Self.BITS }
         ensures { Some (Self.number result.0, result.1)
             ≡ overflowing Self.SIGNED Self.BITS (Some (exact_floor (Self.number self) Self.FRACTION)) };
 
-    /// The least whole number that is at least the number, wrapped, and whether it does not fit.
+    /// Returns the smallest whole number that is at least the number, wrapped, and whether it does not fit.
     fn overflowing_ceil(self) -> (Self, bool)
         requires { Self.FRACTION ≤ Self.BITS }
         ensures { Some (Self.number result.0, result.1)
             ≡ overflowing Self.SIGNED Self.BITS (Some (exact_ceil (Self.number self) Self.FRACTION)) };
 
-    /// The nearest whole number, and where two are nearest the one further from 0, wrapped, and whether it does not
-    /// fit.
+    /// Returns the nearest whole number, ties away from 0, wrapped, and whether it does not fit.
     fn overflowing_round(self) -> (Self, bool)
         requires { Self.FRACTION ≤ Self.BITS }
         ensures { Some (Self.number result.0, result.1)
             ≡ overflowing Self.SIGNED Self.BITS (Some (exact_round (Self.number self) Self.FRACTION)) };
 
-    /// The nearest whole number, and where two are nearest the even one, wrapped, and whether it does not fit.
+    /// Returns the nearest whole number, ties to even, wrapped, and whether it does not fit.
     fn overflowing_round_ties_even(self) -> (Self, bool)
         requires { Self.FRACTION ≤ Self.BITS }
         ensures { Some (Self.number result.0, result.1)
             ≡ overflowing Self.SIGNED Self.BITS (Some (exact_round_ties_even (Self.number self) Self.FRACTION)) };
 
-    /// The greatest whole number that is at most the number, without what lies past the width.
+    /// Returns the largest whole number that is at most the number, wrapped.
     fn wrapping_floor(self) -> Self
         requires { Self.FRACTION ≤ Self.BITS }
         ensures { Some (Self.number result)
             ≡ wrapping Self.SIGNED Self.BITS (Some (exact_floor (Self.number self) Self.FRACTION)) };
 
-    /// The least whole number that is at least the number, without what lies past the width.
+    /// Returns the smallest whole number that is at least the number, wrapped.
     fn wrapping_ceil(self) -> Self
         requires { Self.FRACTION ≤ Self.BITS }
         ensures { Some (Self.number result)
             ≡ wrapping Self.SIGNED Self.BITS (Some (exact_ceil (Self.number self) Self.FRACTION)) };
 
-    /// The nearest whole number, and where two are nearest the one further from 0, without what lies past the
-    /// width.
+    /// Returns the nearest whole number, ties away from 0, wrapped.
     fn wrapping_round(self) -> Self
         requires { Self.FRACTION ≤ Self.BITS }
         ensures { Some (Self.number result)
             ≡ wrapping Self.SIGNED Self.BITS (Some (exact_round (Self.number self) Self.FRACTION)) };
 
-    /// The nearest whole number, and where two are nearest the even one, without what lies past the width.
+    /// Returns the nearest whole number, ties to even, wrapped.
     fn wrapping_round_ties_even(self) -> Self
         requires { Self.FRACTION ≤ Self.BITS }
         ensures { Some (Self.number result)
             ≡ wrapping Self.SIGNED Self.BITS (Some (exact_round_ties_even (Self.number self) Self.FRACTION)) };
 
-    /// The greatest whole number that is at most the number, held at the ends.
+    /// Returns the largest whole number that is at most the number, saturated.
     fn saturating_floor(self) -> Self
         requires { Self.FRACTION ≤ Self.BITS }
         ensures { Some (Self.number result)
             ≡ saturating Self.SIGNED Self.BITS (Some (exact_floor (Self.number self) Self.FRACTION)) };
 
-    /// The least whole number that is at least the number, held at the ends.
+    /// Returns the smallest whole number that is at least the number, saturated.
     fn saturating_ceil(self) -> Self
         requires { Self.FRACTION ≤ Self.BITS }
         ensures { Some (Self.number result)
             ≡ saturating Self.SIGNED Self.BITS (Some (exact_ceil (Self.number self) Self.FRACTION)) };
 
-    /// The nearest whole number, and where two are nearest the one further from 0, held at the ends.
+    /// Returns the nearest whole number, ties away from 0, saturated.
     fn saturating_round(self) -> Self
         requires { Self.FRACTION ≤ Self.BITS }
         ensures { Some (Self.number result)
             ≡ saturating Self.SIGNED Self.BITS (Some (exact_round (Self.number self) Self.FRACTION)) };
 
-    /// The nearest whole number, and where two are nearest the even one, held at the ends.
+    /// Returns the nearest whole number, ties to even, saturated.
     fn saturating_round_ties_even(self) -> Self
         requires { Self.FRACTION ≤ Self.BITS }
         ensures { Some (Self.number result)
             ≡ saturating Self.SIGNED Self.BITS (Some (exact_round_ties_even (Self.number self) Self.FRACTION)) };
 
-    /// The greatest whole number that is at most the number; condition that it fits.
+    /// Returns the largest whole number that is at most the number. Precondition: it fits.
     fn strict_floor(self) -> Self
         requires fraction { Self.FRACTION ≤ Self.BITS }
         requires fits { InRange Self.SIGNED Self.BITS (exact_floor (Self.number self) Self.FRACTION) }
         ensures { Self.number result ≡ exact_floor (Self.number self) Self.FRACTION };
 
-    /// The least whole number that is at least the number; condition that it fits.
+    /// Returns the smallest whole number that is at least the number. Precondition: it fits.
     fn strict_ceil(self) -> Self
         requires fraction { Self.FRACTION ≤ Self.BITS }
         requires fits { InRange Self.SIGNED Self.BITS (exact_ceil (Self.number self) Self.FRACTION) }
         ensures { Self.number result ≡ exact_ceil (Self.number self) Self.FRACTION };
 
-    /// The nearest whole number, and where two are nearest the one further from 0; condition that it fits.
+    /// Returns the nearest whole number, ties away from 0. Precondition: it fits.
     fn strict_round(self) -> Self
         requires fraction { Self.FRACTION ≤ Self.BITS }
         requires fits { InRange Self.SIGNED Self.BITS (exact_round (Self.number self) Self.FRACTION) }
         ensures { Self.number result ≡ exact_round (Self.number self) Self.FRACTION };
 
-    /// The nearest whole number, and where two are nearest the even one; condition that it fits.
+    /// Returns the nearest whole number, ties to even. Precondition: it fits.
     fn strict_round_ties_even(self) -> Self
         requires fraction { Self.FRACTION ≤ Self.BITS }
         requires fits { InRange Self.SIGNED Self.BITS (exact_round_ties_even (Self.number self) Self.FRACTION) }
         ensures { Self.number result ≡ exact_round_ties_even (Self.number self) Self.FRACTION };
 
-    /// The greatest whole number that is at most the number; condition that it fits.
+    /// Returns the largest whole number that is at most the number. Precondition: it fits.
     fn unwrapped_floor(self) -> Self
         requires fraction { Self.FRACTION ≤ Self.BITS }
         requires fits { InRange Self.SIGNED Self.BITS (exact_floor (Self.number self) Self.FRACTION) }
         ensures { Self.number result ≡ exact_floor (Self.number self) Self.FRACTION };
 
-    /// The least whole number that is at least the number; condition that it fits.
+    /// Returns the smallest whole number that is at least the number. Precondition: it fits.
     fn unwrapped_ceil(self) -> Self
         requires fraction { Self.FRACTION ≤ Self.BITS }
         requires fits { InRange Self.SIGNED Self.BITS (exact_ceil (Self.number self) Self.FRACTION) }
         ensures { Self.number result ≡ exact_ceil (Self.number self) Self.FRACTION };
 
-    /// The nearest whole number, and where two are nearest the one further from 0; condition that it fits.
+    /// Returns the nearest whole number, ties away from 0. Precondition: it fits.
     fn unwrapped_round(self) -> Self
         requires fraction { Self.FRACTION ≤ Self.BITS }
         requires fits { InRange Self.SIGNED Self.BITS (exact_round (Self.number self) Self.FRACTION) }
         ensures { Self.number result ≡ exact_round (Self.number self) Self.FRACTION };
 
-    /// The nearest whole number, and where two are nearest the even one; condition that it fits.
+    /// Returns the nearest whole number, ties to even. Precondition: it fits.
     fn unwrapped_round_ties_even(self) -> Self
         requires fraction { Self.FRACTION ≤ Self.BITS }
         requires fits { InRange Self.SIGNED Self.BITS (exact_round_ties_even (Self.number self) Self.FRACTION) }

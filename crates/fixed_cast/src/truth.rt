@@ -1,4 +1,4 @@
-//! Truth values: 1 and 0.
+//! Conversions from `bool`: `true` is 1 and `false` is 0.
 
 ghost use Rattle.std.specs.Prelude.{Some, refl, pos, if◌then◌else◌};
 ghost use Rattle.fixed_word.specs.Policies.{saturating};

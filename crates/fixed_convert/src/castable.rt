@@ -1,18 +1,18 @@
-//! Words and the integer of 128 bits in which words of each sign and width meet.
+//! Words, and the integer of 128 bits to which words of each sign and width convert.
 
 ghost use Rattle.std.specs.Prelude.{◌≡◌};
 ghost use Rattle.fixed_word.specs.Format.{InRange, wrap};
 
 use fixed_word::{RawWord, Valued, Word};
 
-/// A word that goes into an integer of 128 bits and comes back.
+/// A word that converts to an integer of 128 bits and back.
 pub trait Castable: Word {
-    /// The same value.
+    /// Returns the same value as an integer of 128 bits.
     fn to_wide(self) -> i128
         ensures value { result ≡ Self.value self }
         ensures in_range { InRange Self.SIGNED Self.BITS (Self.value self) };
 
-    /// The word whose value differs by a multiple of `2^n`.
+    /// Returns the number, wrapped to the word.
     fn from_wide(number: i128) -> Self
         ensures { Self.value result ≡ wrap Self.SIGNED Self.BITS number };
 }

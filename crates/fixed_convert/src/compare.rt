@@ -10,8 +10,8 @@ use crate::moved::raised;
 use fixed_word::{Outcome, RawWord, Side};
 use std::cmp::Ordering;
 
-/// How `a / 2^a_frac` stands to `b / 2^b_frac`. The number of the greater unit is brought to the format of the other,
-/// where it need not fit.
+/// Returns the order of `a / 2^a_frac` and `b / 2^b_frac`. The number with the larger unit is converted to the format
+/// of the other; it need not fit.
 #[inline(always)]
 pub fn compare_of<A: Castable, B: Castable>(a: A, a_frac: u32, b: B, b_frac: u32) -> Ordering
     ensures { result ≡ exact_order (A.value a) a_frac (B.value b) b_frac }
@@ -23,7 +23,7 @@ pub fn compare_of<A: Castable, B: Castable>(a: A, a_frac: u32, b: B, b_frac: u32
     }
 }
 
-/// How a word stands to the number of an outcome.
+/// Returns the order of a word and the number of an outcome.
 #[inline(always)]
 fn beside<T: Castable>(word: T, outcome: Outcome<T>) -> Ordering
     ensures { (x : ℤ) → StandsFor T.value T.SIGNED T.BITS x outcome

@@ -9,7 +9,7 @@ use crate::castable::Castable;
 use crate::moved::{lowered, lowered_clamped, lowered_round, raised};
 use fixed_word::{Outcome, Rounding, saturating_of};
 
-/// `a / 2^from` in units of `2^-to`, rounded down.
+/// Returns `a / 2^from` in units of `2^-to`, rounded down.
 #[inline]
 pub fn convert_of<S: Castable, T: Castable>(a: S, from: u32, to: u32) -> Outcome<T>
     ensures { StandsFor T.value T.SIGNED T.BITS (exact_convert (S.value a) from to) result }
@@ -21,7 +21,7 @@ pub fn convert_of<S: Castable, T: Castable>(a: S, from: u32, to: u32) -> Outcome
     }
 }
 
-/// `a / 2^from` in units of `2^-to`, rounded.
+/// Returns `a / 2^from` in units of `2^-to`, rounded as named.
 #[inline]
 pub fn convert_round_of<S: Castable, T: Castable>(
     a: S,
@@ -39,7 +39,7 @@ pub fn convert_round_of<S: Castable, T: Castable>(
     }
 }
 
-/// The word nearest to `a / 2^from` in units of `2^-to`, rounded.
+/// Returns the word nearest to `a / 2^from` in units of `2^-to`, rounded as named.
 #[inline]
 pub fn saturating_convert_of<S: Castable, T: Castable>(
     a: S,

@@ -1,7 +1,8 @@
 //! The outcome of a number that an integer of 128 bits holds.
 //!
-//! Both functions answer the same. In loops the first is faster for numbers that were moved up, where its ends become
-//! ends of what was moved; the second can become one instruction for those that were moved down.
+//! `fitted_by_ends` and `fitted_by_bits` return the same. In loops the first is faster for numbers that were shifted
+//! left, since the compiler compares what was shifted with the shifted ends. The second can become one instruction
+//! for numbers that were shifted right.
 
 ghost use Rattle.std.specs.Prelude.{◌≡◌, int_lt, if◌then◌else◌};
 ghost use Rattle.fixed_word.specs.Format.{clamp, wrap};
@@ -10,7 +11,7 @@ ghost use Rattle.fixed_word.specs.Standing.{StandsFor, side_of};
 use crate::castable::Castable;
 use fixed_word::{Outcome, RawWord, Side};
 
-/// The outcome, by the ends of the range.
+/// Returns the outcome, by the ends of the range.
 #[inline(always)]
 pub(crate) fn fitted_by_ends<T: Castable>(number: i128) -> Outcome<T>
     ensures { StandsFor T.value T.SIGNED T.BITS number result }
@@ -21,7 +22,7 @@ pub(crate) fn fitted_by_ends<T: Castable>(number: i128) -> Outcome<T>
     }
 }
 
-/// Where the number lies, by the ends of the range.
+/// Returns the side of the number, by the ends of the range.
 #[inline(always)]
 fn side_by_ends<T: Castable>(number: i128) -> Side
     ensures { result ≡ side_of T.SIGNED T.BITS number }
@@ -35,7 +36,7 @@ fn side_by_ends<T: Castable>(number: i128) -> Side
     }
 }
 
-/// The outcome, by what the word keeps of the number.
+/// Returns the outcome, by the number wrapped to the word.
 #[inline(always)]
 pub(crate) fn fitted_by_bits<T: Castable>(number: i128) -> Outcome<T>
     ensures { StandsFor T.value T.SIGNED T.BITS number result }
@@ -47,7 +48,7 @@ pub(crate) fn fitted_by_bits<T: Castable>(number: i128) -> Outcome<T>
     }
 }
 
-/// Where the number lies, by what the word keeps of it.
+/// Returns the side of the number, by the number wrapped to the word.
 #[inline(always)]
 fn side_by_bits<T: Castable>(number: i128, wrapped: T) -> Side
     requires { T.value wrapped ≡ wrap T.SIGNED T.BITS number }
@@ -62,7 +63,8 @@ fn side_by_bits<T: Castable>(number: i128, wrapped: T) -> Side
     }
 }
 
-/// The word nearest to the number. The number is clamped before it is cut, which loops do in one instruction.
+/// Returns the word nearest to the number. The number is clamped before it is truncated to the word; loops do both in
+/// one instruction.
 #[inline(always)]
 pub(crate) fn clamped<T: Castable>(number: i128) -> T
     ensures { T.value result ≡ clamp T.SIGNED T.BITS number }
@@ -70,7 +72,7 @@ pub(crate) fn clamped<T: Castable>(number: i128) -> T
     T::from_wide(nearest_from(number, T::MIN.to_wide(), T::MAX.to_wide()))
 }
 
-/// The nearest number from `least` to `most`.
+/// Returns the nearest number from `least` to `most`.
 #[inline(always)]
 fn nearest_from(number: i128, least: i128, most: i128) -> i128
     ensures { result ≡ (if int_lt number least then least

@@ -1,12 +1,13 @@
-//! Numbers of one format in another, whole numbers beside a number, and comparisons across formats: on bits, at run
-//! time.
+//! Conversions and comparisons across formats, and rounding to whole numbers, on bits. The numbers of fraction bits
+//! are arguments, known only at run time.
 //!
-//! A number is a word and a count of bits behind the point, from and to which it is moved: `a / 2^from` in units of
-//! `2^-to`. An integer is such a number with no bit behind the point. Each function `.._of` answers an
-//! [`Outcome`](fixed_word::Outcome) that stands for the exact number. No function takes memory.
+//! A number is a word and a number of fraction bits: a conversion returns `a / 2^from` in units of `2^-to`. An
+//! integer is a number without fraction bits. Each function `.._of` returns an [`Outcome`](fixed_word::Outcome) that
+//! stands for the exact result. No function allocates.
 //!
-//! Words of each sign and width meet in an integer of 128 bits, from which rustc takes all bits that no answer
-//! needs: a conversion becomes an extension of the sign, a shift and a test. All items are this project's own.
+//! Words of each sign and width are converted to an integer of 128 bits. rustc removes the bits that the result does
+//! not need: a conversion becomes a sign extension, a shift and a test. The Rust crate `fixed` does not have these
+//! functions.
 #![tactic(auto)]
 
 mod castable;

@@ -10,7 +10,7 @@ ghost use Rattle.fixed_convert.specs.Convert.{rounded_convert};
 use crate::castable::Castable;
 use fixed_word::{Outcome, RawWord, Rounding, outcome_of};
 
-/// The product of two words over `2^from` in units of `2^-to`, rounded.
+/// Returns the product of two words over `2^from` in units of `2^-to`, rounded as named.
 #[inline]
 pub(crate) fn long_product_of<A: Castable, B: Castable, T: Castable>(
     a: A,
@@ -35,8 +35,7 @@ pub(crate) fn long_product_of<A: Castable, B: Castable, T: Castable>(
     }
 }
 
-/// A magnitude of which every word keeps the same as of `magnitude 2^by`, and which lies past every word where that
-/// does.
+/// Returns a magnitude that has the same outcome as `magnitude 2^by` in every word.
 #[inline]
 fn raised_alike(magnitude: u128, by: u32) -> u128
     ensures { (below : Bool) → Alike (2 ^ 64) (with_sign below (magnitude * 2 ^ by)) (with_sign below result) }
@@ -52,7 +51,7 @@ fn raised_alike(magnitude: u128, by: u32) -> u128
     }
 }
 
-/// The magnitude of a number over `2^by`, rounded; the number lies below 0 where `below_zero`.
+/// Returns the magnitude of a number over `2^by`, rounded as named. The number is negative if `below_zero`.
 #[inline]
 fn lowered(below_zero: bool, magnitude: u128, by: u32, rounding: Rounding) -> u128
     requires { by ≤ 128 }
@@ -67,8 +66,8 @@ fn lowered(below_zero: bool, magnitude: u128, by: u32, rounding: Rounding) -> u1
     quotient + step(rounding, below_zero, quotient, remainder, unit - 1)
 }
 
-/// 1 where the rounding takes the magnitude past `quotient`, and otherwise 0. The divisor, which may be `2^128`, is one
-/// more than `last`.
+/// Returns 1 if the rounding makes the magnitude greater than `quotient`, and otherwise 0. The divisor, which may be
+/// `2^128`, is `last + 1`.
 #[inline]
 fn step(rounding: Rounding, below_zero: bool, quotient: u128, remainder: u128, last: u128) -> u128
     requires { remainder ≤ last }

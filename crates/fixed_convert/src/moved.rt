@@ -1,4 +1,4 @@
-//! Words times and over powers of two.
+//! Words multiplied and divided by powers of two.
 
 ghost use Rattle.std.specs.Prelude.{◌≡◌, ◌≤◌, ◌^◌, ◌*ℤ◌, ◌<ℤ◌, ℕ, pos};
 ghost use Rattle.fixed_word.specs.declared.outcome.Side.TheVariants.{Above, Below, Fits};
@@ -12,7 +12,7 @@ use crate::fitting::{clamped, fitted_by_bits, fitted_by_ends};
 use crate::quotients::rounded_at;
 use fixed_word::{Integer, Outcome, RawWord, Rounding, Side, Valued};
 
-/// The outcome of `a 2^by`.
+/// Returns the outcome of `a 2^by`.
 #[inline(always)]
 pub(crate) fn raised<S: Castable, T: Castable>(a: S, by: u32) -> Outcome<T>
     ensures { StandsFor T.value T.SIGNED T.BITS (S.value a *ℤ pos (2 ^ by)) result }
@@ -24,7 +24,7 @@ pub(crate) fn raised<S: Castable, T: Castable>(a: S, by: u32) -> Outcome<T>
     }
 }
 
-/// The same where `by` is at least the width, so that no bit of `a` is left.
+/// Returns the outcome of `a 2^by` if `by` is at least the width, so that no bit of `a` is left.
 #[inline]
 fn moved_out<S: Castable, T: Castable>(a: S) -> Outcome<T>
     ensures { (by : ℕ) → T.BITS ≤ by
@@ -36,7 +36,7 @@ fn moved_out<S: Castable, T: Castable>(a: S) -> Outcome<T>
     }
 }
 
-/// Where every multiple of `a` lies that is past the range.
+/// Returns the side of every multiple of `a` that is out of range; `Fits` if `a` is 0.
 #[inline]
 fn side_of_sign<S: Castable>(a: S) -> Side
     ensures zero { S.value a ≡ pos 0 → result ≡ Fits }
@@ -52,7 +52,7 @@ fn side_of_sign<S: Castable>(a: S) -> Side
     }
 }
 
-/// The outcome of `a / 2^by`, rounded down.
+/// Returns the outcome of `a / 2^by`, rounded down.
 #[inline]
 pub(crate) fn lowered<S: Castable, T: Castable>(a: S, by: u32) -> Outcome<T>
     ensures { StandsFor T.value T.SIGNED T.BITS (floor_quotient (S.value a) (2 ^ by)) result }
@@ -60,7 +60,7 @@ pub(crate) fn lowered<S: Castable, T: Castable>(a: S, by: u32) -> Outcome<T>
     fitted_by_bits(a.to_wide().floored(at_most(by)))
 }
 
-/// The outcome of `a / 2^by`, rounded.
+/// Returns the outcome of `a / 2^by`, rounded as named.
 #[inline]
 pub(crate) fn lowered_round<S: Castable, T: Castable>(
     a: S,
@@ -73,7 +73,7 @@ pub(crate) fn lowered_round<S: Castable, T: Castable>(
     fitted_by_bits(rounded_at(a.to_wide(), at_most(by), rounding))
 }
 
-/// The word nearest to `a / 2^by`, rounded.
+/// Returns the word nearest to `a / 2^by`, rounded as named.
 #[inline]
 pub(crate) fn lowered_clamped<S: Castable, T: Castable>(a: S, by: u32, rounding: Rounding) -> T
     ensures { T.value result
@@ -82,7 +82,8 @@ pub(crate) fn lowered_clamped<S: Castable, T: Castable>(a: S, by: u32, rounding:
     clamped(rounded_at(a.to_wide(), at_most(by), rounding))
 }
 
-/// As many places as leave the same of a word, 66 at most: a quotient by `2^66` or more is smaller than a quarter.
+/// Returns a shift, at most 66, with the same result for every word: a quotient by `2^66` or more is smaller than
+/// 1/4.
 #[inline]
 fn at_most(by: u32) -> u32
     ensures same { by ≤ 66 → result ≡ by }

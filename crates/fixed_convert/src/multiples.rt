@@ -1,4 +1,4 @@
-//! Multiples of powers of two beside a whole number, in an integer of 128 bits.
+//! Rounding of an integer of 128 bits to multiples of `2^by`.
 
 ghost use Rattle.std.specs.Prelude.{◌≡◌, ◌≤◌, ◌<◌, ◌^◌, nat_abs};
 ghost use Rattle.fixed_convert.specs.WholeNumber.{exact_ceil, exact_floor, exact_frac, exact_round, exact_round_ties_even};
@@ -6,7 +6,7 @@ ghost use Rattle.fixed_convert.specs.WholeNumber.{exact_ceil, exact_floor, exact
 use crate::quotients::{nearest_at, rounded_at};
 use fixed_word::{Integer, Rounding};
 
-/// The greatest that is at most the number.
+/// Returns the largest multiple of `2^by` that is at most the number.
 #[inline]
 pub(crate) fn floor_at(number: i128, by: u32) -> i128
     requires by { by ≤ 64 }
@@ -16,7 +16,7 @@ pub(crate) fn floor_at(number: i128, by: u32) -> i128
     number.floored(by).scaled(by)
 }
 
-/// What the number is above that.
+/// Returns the number minus the largest multiple of `2^by` that is at most it.
 #[inline]
 pub(crate) fn frac_at(number: i128, by: u32) -> i128
     requires by { by ≤ 64 }
@@ -26,7 +26,7 @@ pub(crate) fn frac_at(number: i128, by: u32) -> i128
     number - floor_at(number, by)
 }
 
-/// The least that is at least the number.
+/// Returns the smallest multiple of `2^by` that is at least the number.
 #[inline]
 pub(crate) fn ceil_at(number: i128, by: u32) -> i128
     requires by { by ≤ 64 }
@@ -36,7 +36,7 @@ pub(crate) fn ceil_at(number: i128, by: u32) -> i128
     -floor_at(-number, by)
 }
 
-/// The nearest, and where two are nearest the one further from 0.
+/// Returns the nearest multiple of `2^by`, ties away from 0.
 #[inline]
 pub(crate) fn round_at(number: i128, by: u32) -> i128
     requires by { by ≤ 64 }
@@ -46,7 +46,7 @@ pub(crate) fn round_at(number: i128, by: u32) -> i128
     nearest_at(number, by).scaled(by)
 }
 
-/// The nearest, and where two are nearest the even one.
+/// Returns the nearest multiple of `2^by`, ties to even.
 #[inline]
 pub(crate) fn round_ties_even_at(number: i128, by: u32) -> i128
     requires by { by ≤ 64 }

@@ -1,4 +1,4 @@
-//! Products of words of any two formats, in a third.
+//! Products of words of any two formats, in a third format.
 
 ghost use Rattle.std.specs.Prelude.{◌≡◌, ◌≤◌, ◌<◌, ◌+◌, ◌*ℤ◌, IsTrue, pos};
 ghost use Rattle.fixed_word.specs.Standing.{StandsFor};
@@ -34,7 +34,7 @@ pub fn mul_into_of<A: Castable, B: Castable, T: Castable>(
     }
 }
 
-/// How many bits the magnitudes of words have at most, but for the least number of a signed word.
+/// Returns the largest number of bits of the magnitudes of a word, without the smallest number of a signed word.
 #[inline]
 fn digits<T: Castable>() -> u32
     ensures digits { result ≡ digits_of T.SIGNED T.BITS }
@@ -43,7 +43,7 @@ fn digits<T: Castable>() -> u32
     if T::SIGNED { T::BITS - 1 } else { T::BITS }
 }
 
-/// The product, which loops take side by side.
+/// Returns the product of two short words, which loops compute for several pairs at once.
 #[inline]
 fn short_product<A: Castable, B: Castable>(a: A, b: B) -> i64
     requires { digits_of A.SIGNED A.BITS + digits_of B.SIGNED B.BITS < 63 }

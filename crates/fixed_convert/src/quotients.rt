@@ -1,4 +1,4 @@
-//! Quotients of whole numbers by powers of two, in an integer of 128 bits.
+//! Quotients of integers of 128 bits by powers of two.
 
 ghost use Rattle.std.specs.Prelude.{◌≡◌, ◌≤◌, ◌<◌, ◌*◌, ◌^◌, ◌≤ℤ◌, ◌+ℤ◌, ◌-ℤ◌, ◌*ℤ◌, pos, negsuc, nat_abs, int_lt, if◌then◌else◌};
 ghost use Rattle.fixed_word.specs.Quotient.{floor_quotient};
@@ -8,7 +8,7 @@ ghost use Rattle.fixed_convert.specs.WholeNumber.{nearest_or_further};
 
 use fixed_word::{Integer, Rounding};
 
-/// `number / 2^by`, rounded.
+/// Returns `number / 2^by`, rounded as named.
 #[inline]
 pub(crate) fn rounded_at(number: i128, by: u32, rounding: Rounding) -> i128
     requires by { by ≤ 66 }
@@ -22,7 +22,7 @@ pub(crate) fn rounded_at(number: i128, by: u32, rounding: Rounding) -> i128
     }
 }
 
-/// `number / 2^by`, toward zero.
+/// Returns `number / 2^by`, rounded toward zero.
 #[inline]
 fn to_zero_at(number: i128, by: u32) -> i128
     requires by { by ≤ 66 }
@@ -37,8 +37,8 @@ fn to_zero_at(number: i128, by: u32) -> i128
     }
 }
 
-/// Whether the quotient toward zero is the number above the one that is rounded down: whether a number below 0 is no
-/// multiple of `2^by`.
+/// Returns whether the quotient rounded toward zero is greater than `low`, the one rounded down. This is so if a
+/// negative number is not a multiple of `2^by`.
 #[inline]
 fn is_nearer_to_zero(number: i128, low: i128, by: u32) -> bool
     requires by { by ≤ 66 }
@@ -53,7 +53,7 @@ fn is_nearer_to_zero(number: i128, low: i128, by: u32) -> bool
     }
 }
 
-/// `number / 2^by` to the nearest, and where two are nearest the even one: less than a half is added to even quotients.
+/// Returns `number / 2^by`, rounded to the nearest, ties to even. To even quotients it adds a little less than 1/2.
 #[inline]
 fn to_even_at(number: i128, by: u32) -> i128
     requires by { by ≤ 66 }
@@ -63,7 +63,7 @@ fn to_even_at(number: i128, by: u32) -> i128
     half_added(number, parity(number.floored(by)).plus(-1), by)
 }
 
-/// 1 where the number is odd, and otherwise 0.
+/// Returns 1 if the number is odd, and otherwise 0.
 #[inline]
 fn parity(number: i128) -> i128
     requires { nat_abs number ≤ 2 ^ 64 }
@@ -72,8 +72,8 @@ fn parity(number: i128) -> i128
     number - number.floored(1).scaled(1)
 }
 
-/// The nearest to `number / 2^by`, and where two are nearest the one further from 0: less than a half is added to numbers
-/// below 0.
+/// Returns `number / 2^by`, rounded to the nearest, ties away from 0. To negative numbers it adds a little less than
+/// 1/2.
 #[inline]
 pub(crate) fn nearest_at(number: i128, by: u32) -> i128
     requires by { by ≤ 66 }
@@ -83,7 +83,7 @@ pub(crate) fn nearest_at(number: i128, by: u32) -> i128
     half_added(number, sign_of(number), by)
 }
 
-/// -1 where the number lies below 0, and otherwise 0.
+/// Returns -1 if the number is negative, and otherwise 0.
 #[inline]
 fn sign_of(number: i128) -> i128
     ensures { result ≡ (if int_lt number (pos 0) then negsuc 0 else pos 0) }
@@ -91,8 +91,8 @@ fn sign_of(number: i128) -> i128
     if number < 0 { -1 } else { 0 }
 }
 
-/// `number / 2^by` and a half, rounded down, or a little less than a half where `more` is -1. Loops take a sum and a
-/// shift side by side.
+/// Returns `number / 2^by` plus 1/2, or plus a little less than 1/2 if `more` is -1, rounded down. Loops compute a
+/// sum and a shift for several numbers at once.
 #[inline]
 fn half_added(number: i128, more: i128, by: u32) -> i128
     requires by { by ≤ 66 }

@@ -1,4 +1,4 @@
-//! The whole numbers beside a number, in its own format.
+//! Rounding of a number to whole numbers, in its own format.
 
 ghost use Rattle.std.specs.Prelude.{◌≤◌};
 ghost use Rattle.fixed_word.specs.Standing.{StandsFor};
@@ -9,7 +9,7 @@ use crate::fitting::fitted_by_ends;
 use crate::multiples::{ceil_at, floor_at, frac_at, round_at, round_ties_even_at};
 use fixed_word::Outcome;
 
-/// The greatest whole number that is at most the number.
+/// Returns the largest whole number that is at most the number. Precondition: `frac` is at most the width.
 #[inline]
 pub fn floor_of<T: Castable>(a: T, frac: u32) -> Outcome<T>
     requires { frac ≤ T.BITS }
@@ -18,7 +18,7 @@ pub fn floor_of<T: Castable>(a: T, frac: u32) -> Outcome<T>
     fitted_by_ends(floor_at(a.to_wide(), frac))
 }
 
-/// What the number is above that.
+/// Returns the number minus its floor. Precondition: `frac` is at most the width.
 #[inline]
 pub fn frac_of<T: Castable>(a: T, frac: u32) -> Outcome<T>
     requires { frac ≤ T.BITS }
@@ -27,7 +27,7 @@ pub fn frac_of<T: Castable>(a: T, frac: u32) -> Outcome<T>
     fitted_by_ends(frac_at(a.to_wide(), frac))
 }
 
-/// The least whole number that is at least the number.
+/// Returns the smallest whole number that is at least the number. Precondition: `frac` is at most the width.
 #[inline]
 pub fn ceil_of<T: Castable>(a: T, frac: u32) -> Outcome<T>
     requires { frac ≤ T.BITS }
@@ -36,7 +36,7 @@ pub fn ceil_of<T: Castable>(a: T, frac: u32) -> Outcome<T>
     fitted_by_ends(ceil_at(a.to_wide(), frac))
 }
 
-/// The nearest whole number, and where two are nearest the one further from 0.
+/// Returns the nearest whole number, ties away from 0. Precondition: `frac` is at most the width.
 #[inline]
 pub fn round_of<T: Castable>(a: T, frac: u32) -> Outcome<T>
     requires { frac ≤ T.BITS }
@@ -45,7 +45,7 @@ pub fn round_of<T: Castable>(a: T, frac: u32) -> Outcome<T>
     fitted_by_ends(round_at(a.to_wide(), frac))
 }
 
-/// The nearest whole number, and where two are nearest the even one.
+/// Returns the nearest whole number, ties to even. Precondition: `frac` is at most the width.
 #[inline]
 pub fn round_ties_even_of<T: Castable>(a: T, frac: u32) -> Outcome<T>
     requires { frac ≤ T.BITS }

@@ -1,8 +1,8 @@
-//! Laws over the rows: which exact numbers fit, which operations are undefined and where, and what
-//! multiples, powers and whole numbers are. These functions do nothing: each contract is the law.
+//! Laws of the exact results: which of them fit, which operations have none and when, and what multiples, powers and
+//! whole numbers are. These functions do nothing: the contract of each is the law.
 //!
-//! A number of the format is a whole number in the range of its word; n is the width and f the
-//! fraction.
+//! A number of the format is an integer in the range of its word. In contracts, n is the width and f the number of
+//! fraction bits.
 
 ghost use Rattle.std.specs.Prelude.{◌-ℤ◌, ◌≡◌, ◌≢◌, ◌↔◌, ◌⊎◌, ◌-◌, ◌^◌, ◌≤◌, ◌≤ℤ◌, ◌<ℤ◌, ◌+ℤ◌, ◌*ℤ◌, ℕ, ℤ, Bool, true, false, pos, negsuc, unsigned_abs, neg_ℤ};
 ghost use Rattle.fixed_word.specs.Format.{InRange, IsWidth, lowest};
@@ -15,9 +15,9 @@ ghost use Rattle.fixed_kernel.specs.Rounded.{IsRounded, rounded};
 ghost use Rattle.fixed_kernel.specs.RoundedRows.{rounded_add_prod, rounded_div, rounded_mul, rounded_mul_add, rounded_recip};
 ghost use Rattle.fixed_kernel.specs.Rows.{by_divisor, by_sign, exact_abs, exact_add_prod, exact_div, exact_div_euclid, exact_mul, exact_mul_add, exact_next_multiple_of, exact_next_power_of_two, exact_recip, exact_rem, exact_signum, units};
 
-/// `rem`, `rem_int` and `rem_euclid` fit on every word, though the integer of `rem_int` may be far outside
-/// the range as a number of units; a Euclidean remainder is at least 0 and below the magnitude of its
-/// divisor. (`rem_euclid_int` fits on unsigned words.)
+/// The results of `rem`, `rem_int` and `rem_euclid` fit every word, even if the integer of `rem_int` in units is out
+/// of range. A Euclidean remainder is at least 0 and below the magnitude of its divisor. (`rem_euclid_int` fits
+/// unsigned words.)
 pub fn remainder_law()
     ensures rem { (s : Bool) (n : ℕ) (a b : ℤ) → InRange s n a → b ≢ pos 0
         → InRange s n (exact_rem a b) }
@@ -29,7 +29,7 @@ pub fn remainder_law()
     ensures small { (a b : ℤ) → b ≢ pos 0 → euclidean_remainder a b <ℤ pos (unsigned_abs b) }
 {}
 
-/// On unsigned words distances, roots, and quotients and remainders by an integer fit.
+/// For unsigned words, distances, roots, and quotients and remainders by an integer fit.
 pub fn unsigned_law()
     ensures sqrt { (n f : ℕ) (a : ℤ)
         → f ≤ n → InRange false n a → InRange false n (root_of a f) }
@@ -43,7 +43,7 @@ pub fn unsigned_law()
         → InRange false n (euclidean_remainder a (units k f)) }
 {}
 
-/// On signed words these fail to fit at the named operands alone.
+/// For signed words, these results do not fit at the named operands alone.
 pub fn signed_law()
     ensures neg { (n : ℕ) (a : ℤ) → InRange true n a
         → Misses true n (neg_ℤ a) ↔ (a ≡ lowest true n) }
@@ -58,7 +58,7 @@ pub fn signed_law()
         → Misses true n (root_of a f) ↔ ((f ≡ n) × (pos (2 ^ (n - 2)) ≤ℤ a)) }
 {}
 
-/// Where the fraction is 0, numbers behave as whole numbers.
+/// If there are no fraction bits, numbers behave as integers.
 pub fn integer_law()
     ensures mul { (a b : ℤ) → exact_mul a b 0 ≡ a *ℤ b }
     ensures div { (a b : ℤ) → exact_div a b 0 ≡ truncated_quotient a b }
@@ -68,35 +68,34 @@ pub fn integer_law()
     ensures rem_euclid_int { (a k : ℤ) → euclidean_remainder a (units k 0) ≡ euclidean_remainder a k }
 {}
 
-/// The next multiple of b above 0 is the least that is at least a, and of b below 0 the greatest
-/// that is at most a. There is no other.
+/// The next multiple of a positive b is the smallest one that is at least a, and of a negative b the largest one that
+/// is at most a. No other number is the next multiple.
 pub fn multiple_law()
     ensures is { (a b : ℤ) → b ≢ pos 0 → IsNextMultiple a b (exact_next_multiple_of a b) }
     ensures unique { (a b m : ℤ) → b ≢ pos 0 → IsNextMultiple a b m
         → exact_next_multiple_of a b ≡ m }
 {}
 
-/// The next power of two is the least that is at least a.
+/// The next power of two is the smallest one that is at least a.
 pub fn power_law()
     ensures { (a : ℤ) → pos 0 ≤ℤ a → IsNextPower a (exact_next_power_of_two a) }
 {}
 
-/// A row with a divisor has no number exactly where that is 0, and the row of a root where its operand is
-/// below 0.
+/// An operation with a divisor has no exact result if and only if the divisor is 0. A root has none if and only if
+/// its operand is negative.
 pub fn row_law()
     ensures divisor { (d x : ℤ) → IsOffZero d x (by_divisor d x) }
     ensures sign { (a x : ℤ) → IsFromZero a x (by_sign a x) }
 {}
 
-/// The rounded quotient meets the equation of its rounding, and nothing else does.
+/// The rounded quotient meets the equation of its rounding, and no other number does.
 pub fn rounded_law()
     ensures is { (x d : ℤ) (r : Rounding) → d ≢ pos 0 → IsRounded x d r (rounded x d r) }
     ensures unique { (x d q : ℤ) (r : Rounding) → d ≢ pos 0 → IsRounded x d r q
         → rounded x d r ≡ q }
 {}
 
-/// The rows without a named rounding are those that round down, of products, and toward zero, of
-/// quotients.
+/// Without a named rounding, products are rounded down and quotients toward zero.
 pub fn default_law()
     ensures mul { (a b : ℤ) (f : ℕ) → rounded_mul a b f Down ≡ exact_mul a b f }
     ensures div { (a b : ℤ) (f : ℕ) → rounded_div a b f Zero ≡ exact_div a b f }

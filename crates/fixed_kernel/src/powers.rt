@@ -9,7 +9,7 @@ use crate::wide::Wide;
 use fixed_root::root;
 use fixed_word::{Outcome, RawWord, Silent, Steps, Word, outcome_of};
 
-/// The root of `a 2^frac`, rounded down, for `a` not below 0.
+/// Returns the root of `a 2^frac`, rounded down. Preconditions: `frac` is at most the width, and `a` is not negative.
 pub fn sqrt_of<T: Word>(a: T, frac: u32) -> Outcome<T>
     requires frac { frac ≤ T.BITS }
     requires sign { pos 0 ≤ℤ T.value a }
@@ -20,7 +20,7 @@ pub fn sqrt_of<T: Word>(a: T, frac: u32) -> Outcome<T>
     outcome_of(false, found.magnitude() as u128)
 }
 
-/// The least power of two that is at least `number`.
+/// Returns the smallest power of two that is at least `number`.
 fn power_over_of(number: u128) -> u128
     requires { number < 2 ^ 64 }
     ensures { result ≡ power_over number }
@@ -28,7 +28,7 @@ fn power_over_of(number: u128) -> u128
     number.next_power_of_two()
 }
 
-/// The least power of two that is at least `a`, on an unsigned word.
+/// Returns the smallest power of two that is at least `a`. Precondition: the word is unsigned.
 pub fn next_power_of_two_of<T: Word>(a: T) -> Outcome<T>
     requires { T.SIGNED ≡ false }
     ensures { StandsFor T.value T.SIGNED T.BITS (exact_next_power_of_two (T.value a)) result }

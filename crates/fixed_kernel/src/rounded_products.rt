@@ -1,4 +1,4 @@
-//! Products whose rounding is named.
+//! Products with a named rounding.
 
 ghost use Rattle.std.specs.Prelude.{◌≡◌, ◌<◌, ◌≤◌, ◌*◌, ◌≤ℤ◌, pos, neg_ℤ};
 ghost use Rattle.fixed_word.specs.Standing.{StandsFor};
@@ -8,7 +8,7 @@ use crate::products::add_prod_of;
 use crate::wide::Wide;
 use fixed_word::{Outcome, Rounding, Word};
 
-/// `a b / 2^frac`, rounded.
+/// Returns `a b / 2^frac`, rounded as named. Precondition: `frac` is at most the width.
 pub fn mul_round_of<T: Word>(a: T, b: T, frac: u32, rounding: Rounding) -> Outcome<T>
     requires { frac ≤ T.BITS }
     ensures { StandsFor T.value T.SIGNED T.BITS
@@ -17,7 +17,7 @@ pub fn mul_round_of<T: Word>(a: T, b: T, frac: u32, rounding: Rounding) -> Outco
     Wide::product(a, b).rounded_at(frac, rounding).outcome()
 }
 
-/// `a mul / 2^mul_frac`, rounded, plus `add`.
+/// Returns `a mul / 2^mul_frac`, rounded as named, plus `add`. Precondition: `mul_frac` is at most the width.
 pub fn mul_add_round_of<T: Word>(
     a: T,
     mul: T,
@@ -35,8 +35,9 @@ pub fn mul_add_round_of<T: Word>(
         .outcome()
 }
 
-/// `c` plus the product of `a` and `b`, which is brought to the fraction of `c` and rounded. A product
-/// that moves up has nothing to round; it may need 192 bits, and is never held.
+/// Returns `c` plus the product of `a` and `b`, which is rounded as named to the fraction bits of `c`. A product that
+/// is shifted left is not rounded; it may need 192 bits, and is never held. Precondition: each number of fraction
+/// bits is at most the width.
 pub fn add_prod_round_of<T: Word>(
     c: T,
     a: T,
@@ -59,7 +60,7 @@ pub fn add_prod_round_of<T: Word>(
     }
 }
 
-/// `c` plus the product of `a` and `b` over `2^by`, rounded.
+/// Returns `c` plus the product of `a` and `b` over `2^by`, rounded as named.
 fn add_prod_rounded<T: Word>(c: T, a: T, b: T, by: u32, rounding: Rounding) -> Outcome<T>
     requires { by ≤ 128 }
     ensures { StandsFor T.value T.SIGNED T.BITS

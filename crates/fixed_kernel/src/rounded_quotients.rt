@@ -1,4 +1,4 @@
-//! Quotients whose rounding is named.
+//! Quotients with a named rounding.
 
 ghost use Rattle.std.specs.Prelude.{◌≡◌, ◌≢◌, ◌≤◌, ◌<◌, ◌+◌, ◌*◌, ◌/◌, ◌%◌, ◌^◌, pos};
 ghost use Rattle.fixed_word.specs.Standing.{StandsFor};
@@ -8,7 +8,7 @@ ghost use Rattle.fixed_kernel.specs.Rounded.{rounded};
 use crate::wide::{Wide, step};
 use fixed_word::{Outcome, Rounding, Word};
 
-/// `a 2^frac / b`, rounded.
+/// Returns `a 2^frac / b`, rounded as named. Preconditions: `frac` is at most the width, and `b` is not 0.
 pub fn div_round_of<T: Word>(a: T, b: T, frac: u32, rounding: Rounding) -> Outcome<T>
     requires frac { frac ≤ T.BITS }
     requires divisor { T.value b ≢ pos 0 }
@@ -21,7 +21,7 @@ pub fn div_round_of<T: Word>(a: T, b: T, frac: u32, rounding: Rounding) -> Outco
         .outcome()
 }
 
-/// `a / k`, rounded, for an integer `k`.
+/// Returns `a / k`, rounded as named, for an integer `k`. Precondition: `k` is not 0.
 pub fn div_int_round_of<T: Word>(a: T, k: T, rounding: Rounding) -> Outcome<T>
     requires { T.value k ≢ pos 0 }
     ensures { StandsFor T.value T.SIGNED T.BITS
@@ -30,7 +30,7 @@ pub fn div_int_round_of<T: Word>(a: T, k: T, rounding: Rounding) -> Outcome<T>
     Wide::of(a).rounded(Wide::of(k), rounding).outcome()
 }
 
-/// `2^(2 frac) / a`, rounded.
+/// Returns `2^(2 frac) / a`, rounded as named. Preconditions: `frac` is at most the width, and `a` is not 0.
 pub fn recip_round_of<T: Word>(a: T, frac: u32, rounding: Rounding) -> Outcome<T>
     requires frac { frac ≤ T.BITS }
     requires divisor { T.value a ≢ pos 0 }
@@ -61,8 +61,8 @@ pub fn recip_round_of<T: Word>(a: T, frac: u32, rounding: Rounding) -> Outcome<T
     }
 }
 
-/// The quotient and the remainder of `2^128` by the divisor; in place of the quotient `2^128` itself,
-/// `2^127`, of which every word keeps the same.
+/// Returns the quotient and the remainder of `2^128` by the divisor. Instead of the quotient `2^128` it returns
+/// `2^127`, which has the same outcome in every word.
 fn whole_over(divisor: u128) -> (u128, u128)
     requires { 0 < divisor }
     ensures one { divisor ≡ 1 → (result.0 ≡ 2 ^ 127) × (result.1 ≡ 0) }

@@ -1,10 +1,10 @@
-//! Bases of logarithms, as the crate's.
+//! Bases of logarithms.
 
 ghost use Rattle.std.specs.Prelude.{◌≡◌, ◌<◌, ◌≤◌, ℕ, MatchOption};
 
 use std::marker::Model;
 
-/// A base, which is at least 2. Contracts see it as the number.
+/// A base of at least 2. Contracts see it as the number.
 #[derive(Clone, Copy, PartialEq, Eq, Hash, Debug)]
 pub struct Base {
     base: u32,
@@ -21,17 +21,17 @@ impl Model for Base {
 }
 
 impl Base {
-    /// Ten.
+    /// Base 10.
     pub(crate) const TEN: Base = Base { base: 10 };
 
-    /// The base; None exactly where it is below 2.
+    /// Returns the base, or `None` if it is below 2.
     pub fn new(base: u32) -> Option<Base>
         ensures { MatchOption result (base < 2) (λ b. (2 ≤ base) × (b ≡ base)) }
     {
         if base < 2 { None } else { Some(Base { base }) }
     }
 
-    /// The base as a number.
+    /// Returns the base as a number.
     pub fn get(self) -> u32
         ensures value { result ≡ self }
         ensures at_least_two { 2 ≤ self }

@@ -1,8 +1,8 @@
-//! Logarithms of unsigned words, rounded down to whole numbers, within a proved count of steps.
+//! Logarithms of unsigned words, rounded down to integers, within a proved number of steps.
 //!
-//! A word of n bits is read as a whole number by the `int` calls, and as a fraction, the word over
-//! `2^n`, by the `frac` calls. Each call of [`Digits`](fixed_word::Digits) is one step, and a logarithm
-//! takes at most `4 log2(n) + 4` of them. In docstrings "the crate" is the Rust crate `fixed`.
+//! The `int` calls read a word of n bits as an integer, and the `frac` calls read it as a fraction, the word over
+//! `2^n`. Each call of [`Digits`](fixed_word::Digits) is one step, and a logarithm takes at most `4 log2(n) + 4`
+//! steps.
 #![tactic(auto)]
 
 mod base;

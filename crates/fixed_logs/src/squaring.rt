@@ -1,4 +1,4 @@
-//! Logarithms by repeated squaring of the base: the crate's, counted.
+//! Logarithms by repeated squaring of the base. They are those of the Rust crate `fixed`, and count their steps.
 
 ghost use Rattle.std.specs.Prelude.{◌≡◌, ◌≢◌, ◌+◌, ◌*◌, ◌^◌, ◌<◌, ◌≤◌, ℕ, pos, nat_abs};
 ghost use Rattle.fixed_word.specs.Ticks.{RisesAtMost};
@@ -9,7 +9,7 @@ use crate::base::Base;
 use crate::exact::{Power, below_zero, is_at_most, product, product_within, whole, word_of};
 use fixed_word::{Digits, Ledger, Steps};
 
-/// The greatest power of the base that is at most a number, by way of that of the base's square.
+/// Returns the largest power of the base that is at most a number, from that of the base's square.
 fn greatest_power<L: Ledger, D: Digits<L>>(val: D, base: D, steps: &mut Steps<L>) -> Power<D>
     requires at_least_one { 1 ≤ nat_abs (D.value val) }
     requires fits { nat_abs (D.value val) < 2 ^ D.BITS }
@@ -51,8 +51,8 @@ fn greatest_power<L: Ledger, D: Digits<L>>(val: D, base: D, steps: &mut Steps<L>
     }
 }
 
-/// The greatest product of a number and a power of the base that fits the word, by way of that of
-/// the base's square.
+/// Returns the largest product of a number and a power of the base that fits the word, from that of the base's
+/// square.
 fn greatest_product<L: Ledger, D: Digits<L>>(val: D, base: D, steps: &mut Steps<L>) -> Power<D>
     requires at_least_one { 1 ≤ nat_abs (D.value val) }
     requires at_least_two { 2 ≤ nat_abs (D.value base) }
@@ -93,8 +93,8 @@ fn greatest_product<L: Ledger, D: Digits<L>>(val: D, base: D, steps: &mut Steps<
     }
 }
 
-/// The k with `base^k <= val < base^(k+1)`, for a whole number `val` that is not 0; 0 where the base
-/// exceeds the word. The count of steps rises by at most `4 log2(n) + 4`.
+/// Returns the integer k with `base^k <= val < base^(k+1)`. It is 0 if the base does not fit the word. Precondition:
+/// `val` is not 0. The count of steps rises by at most `4 log2(n) + 4`, where n is the width.
 pub fn int_part<L: Ledger, D: Digits<L>>(val: D, base: Base, steps: &mut Steps<L>) -> i32
     requires { D.value val ≢ pos 0 }
     ensures value { IsLog (nat_abs (D.value val)) 0 base result }
@@ -110,8 +110,8 @@ pub fn int_part<L: Ledger, D: Digits<L>>(val: D, base: Base, steps: &mut Steps<L
     }
 }
 
-/// The k, which is below 0, with `base^k <= val / 2^n < base^(k+1)`, for `val` that is not 0; -1 where
-/// the base exceeds the word. The count of steps rises by at most `4 log2(n) + 4`.
+/// Returns the negative integer k with `base^k <= val / 2^n < base^(k+1)`. It is -1 if the base does not fit the
+/// word. Precondition: `val` is not 0. The count of steps rises by at most `4 log2(n) + 4`, where n is the width.
 pub fn frac_part<L: Ledger, D: Digits<L>>(val: D, base: Base, steps: &mut Steps<L>) -> i32
     requires { D.value val ≢ pos 0 }
     ensures value { IsLog (nat_abs (D.value val)) D.BITS base result }

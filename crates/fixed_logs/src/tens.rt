@@ -1,4 +1,4 @@
-//! Logarithms to the base ten, by a table of powers of ten.
+//! Logarithms to base 10, by a table of powers of 10.
 
 ghost use Rattle.std.specs.Prelude.{◌≡◌, ◌≢◌, ◌+◌, ◌*◌, ◌^◌, ◌<◌, ◌≤◌, ℕ, pos, nat_abs};
 ghost use Rattle.fixed_word.specs.Ticks.{RisesAtMost};
@@ -10,13 +10,13 @@ use crate::exact::{Power, below_zero, is_at_most, product, word_of};
 use crate::squaring::int_part;
 use fixed_word::{Digits, Ledger, Steps};
 
-/// A power of ten.
+/// A power of 10.
 struct Ten {
     exponent: u32,
     power: u64,
 }
 
-/// The powers of ten by which a fraction is raised, each the square of the next.
+/// The powers of 10 by which a fraction is multiplied. Each is the square of the next.
 const TENS: [Ten; 5] = [
     Ten {
         exponent: 16,
@@ -40,7 +40,7 @@ const TENS: [Ten; 5] = [
     },
 ];
 
-/// The product, raised by a power of ten where that fits the word.
+/// Returns the product, multiplied by a power of 10 if the result fits the word.
 fn raised<L: Ledger, D: Digits<L>>(from: Power<D>, ten: &Ten, steps: &mut Steps<L>) -> Power<D>
     requires power { ten.now.power ≡ 10 ^ ten.now.exponent }
     requires at_least_one { 1 ≤ nat_abs (D.value from.power) }
@@ -62,8 +62,8 @@ fn raised<L: Ledger, D: Digits<L>>(from: Power<D>, ten: &Ten, steps: &mut Steps<
     }
 }
 
-/// The k, which is below 0, with `10^k <= val / 2^n < 10^(k+1)`, for `val` that is not 0. The count of
-/// steps rises by at most `4 log2(n) + 4` (the crate's, counted).
+/// Returns the negative integer k with `10^k <= val / 2^n < 10^(k+1)`. Precondition: `val` is not 0. The count of
+/// steps rises by at most `4 log2(n) + 4`, where n is the width.
 pub fn frac_log10_part<L: Ledger, D: Digits<L>>(val: D, steps: &mut Steps<L>) -> i32
     requires { D.value val ≢ pos 0 }
     ensures value { IsLog (nat_abs (D.value val)) D.BITS 10 result }
@@ -80,8 +80,8 @@ pub fn frac_log10_part<L: Ledger, D: Digits<L>>(val: D, steps: &mut Steps<L>) ->
     below_zero(found.exponent)
 }
 
-/// The k with `10^k <= val < 10^(k+1)`, for a whole number `val` that is not 0. The count of steps
-/// rises by at most `4 log2(n) + 4` (this project's own, in place of std's `ilog10`).
+/// Returns the integer k with `10^k <= val < 10^(k+1)`, as std's `ilog10` does. Precondition: `val` is not 0. The
+/// count of steps rises by at most `4 log2(n) + 4`, where n is the width.
 pub fn int_log10_part<L: Ledger, D: Digits<L>>(val: D, steps: &mut Steps<L>) -> i32
     requires { D.value val ≢ pos 0 }
     ensures value { IsLog (nat_abs (D.value val)) 0 10 result }

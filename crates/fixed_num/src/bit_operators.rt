@@ -1,6 +1,6 @@
-//! The operators on bits: each bit by itself, and shifts.
+//! The bitwise operators and shifts.
 //!
-//! The assigning forms store the same answer.
+//! The assigning forms store the same result.
 
 ghost use Rattle.std.specs.Prelude.{◌≡◌, ◌<◌, ◌^◌, ◌*ℤ◌, max, min, pos};
 ghost use Rattle.fixed_word.specs.Format.{wrap};
@@ -20,7 +20,7 @@ impl<T: BitWord, const F: u32> Not for Fixed<T, F> {
 
     ghost not_gives = { λ a r. bit_list T.BITS (T.value r.bits) ≡ complement (bit_list T.BITS (T.value a.bits)) };
 
-    /// Each bit turned into the other.
+    /// Returns the number with each bit inverted.
     fn not(self) -> Self {
         self.const_not()
     }
@@ -32,7 +32,7 @@ impl<T: BitWord, const F: u32> BitAnd for Fixed<T, F> {
     ghost bitand_gives = { λ a b r. bit_list T.BITS (T.value r.bits)
         ≡ zip_with min (bit_list T.BITS (T.value a.bits)) (bit_list T.BITS (T.value b.bits)) };
 
-    /// Each bit 1 where it is 1 in both numbers.
+    /// Returns the bitwise AND: a bit is 1 if it is 1 in both numbers.
     fn bitand(self, rhs: Self) -> Self {
         self.const_bitand(rhs)
     }
@@ -42,7 +42,7 @@ impl<T: BitWord, const F: u32> BitAndAssign for Fixed<T, F> {
     ghost bitand_assign_gives = { λ a b r. bit_list T.BITS (T.value r.bits)
         ≡ zip_with min (bit_list T.BITS (T.value a.bits)) (bit_list T.BITS (T.value b.bits)) };
 
-    /// Stores what `&` answers.
+    /// Stores the result of `&`.
     fn bitand_assign(&mut self, rhs: Self) {
         *self = self.const_bitand(rhs);
     }
@@ -54,7 +54,7 @@ impl<T: BitWord, const F: u32> BitOr for Fixed<T, F> {
     ghost bitor_gives = { λ a b r. bit_list T.BITS (T.value r.bits)
         ≡ zip_with max (bit_list T.BITS (T.value a.bits)) (bit_list T.BITS (T.value b.bits)) };
 
-    /// Each bit 1 where it is 1 in either number.
+    /// Returns the bitwise OR: a bit is 1 if it is 1 in either number.
     fn bitor(self, rhs: Self) -> Self {
         self.const_bitor(rhs)
     }
@@ -64,7 +64,7 @@ impl<T: BitWord, const F: u32> BitOrAssign for Fixed<T, F> {
     ghost bitor_assign_gives = { λ a b r. bit_list T.BITS (T.value r.bits)
         ≡ zip_with max (bit_list T.BITS (T.value a.bits)) (bit_list T.BITS (T.value b.bits)) };
 
-    /// Stores what `|` answers.
+    /// Stores the result of `|`.
     fn bitor_assign(&mut self, rhs: Self) {
         *self = self.const_bitor(rhs);
     }
@@ -76,7 +76,7 @@ impl<T: BitWord, const F: u32> BitXor for Fixed<T, F> {
     ghost bitxor_gives = { λ a b r. bit_list T.BITS (T.value r.bits)
         ≡ zip_with differ (bit_list T.BITS (T.value a.bits)) (bit_list T.BITS (T.value b.bits)) };
 
-    /// Each bit 1 where it differs between the numbers.
+    /// Returns the bitwise XOR: a bit is 1 if it differs between the numbers.
     fn bitxor(self, rhs: Self) -> Self {
         self.const_bitxor(rhs)
     }
@@ -86,7 +86,7 @@ impl<T: BitWord, const F: u32> BitXorAssign for Fixed<T, F> {
     ghost bitxor_assign_gives = { λ a b r. bit_list T.BITS (T.value r.bits)
         ≡ zip_with differ (bit_list T.BITS (T.value a.bits)) (bit_list T.BITS (T.value b.bits)) };
 
-    /// Stores what `^` answers.
+    /// Stores the result of `^`.
     fn bitxor_assign(&mut self, rhs: Self) {
         *self = self.const_bitxor(rhs);
     }
@@ -99,8 +99,7 @@ impl<T: BitWord, const F: u32> Shl<u32> for Fixed<T, F> {
 
     ghost shl_gives = { λ a by r. T.value r.bits ≡ wrap T.SIGNED T.BITS (T.value a.bits *ℤ pos (2 ^ by)) };
 
-    /// The bits moved up by `rhs` places, without what lies past the width; condition that `rhs` is below
-    /// n.
+    /// Returns the bits shifted left by `rhs`; bits shifted out are lost. Precondition: `rhs` is below the width.
     fn shl(self, rhs: u32) -> Self {
         Fixed {
             bits: self.bits.shift_left(rhs),
@@ -113,7 +112,7 @@ impl<T: BitWord, const F: u32> ShlAssign<u32> for Fixed<T, F> {
 
     ghost shl_assign_gives = { λ a by r. T.value r.bits ≡ wrap T.SIGNED T.BITS (T.value a.bits *ℤ pos (2 ^ by)) };
 
-    /// Stores what `<<` answers, under its condition.
+    /// Stores the result of `<<`. Precondition: `rhs` is below the width.
     fn shl_assign(&mut self, rhs: u32) {
         *self = *self << rhs;
     }
@@ -126,7 +125,7 @@ impl<T: BitWord, const F: u32> Shr<u32> for Fixed<T, F> {
 
     ghost shr_gives = { λ a by r. T.value r.bits ≡ floor_quotient (T.value a.bits) (2 ^ by) };
 
-    /// The bits moved down by `rhs` places, rounded down; condition that `rhs` is below n.
+    /// Returns the bits shifted right by `rhs`, rounded down. Precondition: `rhs` is below the width.
     fn shr(self, rhs: u32) -> Self {
         Fixed {
             bits: self.bits.shift_right(rhs),
@@ -139,7 +138,7 @@ impl<T: BitWord, const F: u32> ShrAssign<u32> for Fixed<T, F> {
 
     ghost shr_assign_gives = { λ a by r. T.value r.bits ≡ floor_quotient (T.value a.bits) (2 ^ by) };
 
-    /// Stores what `>>` answers, under its condition.
+    /// Stores the result of `>>`. Precondition: `rhs` is below the width.
     fn shr_assign(&mut self, rhs: u32) {
         *self = *self >> rhs;
     }

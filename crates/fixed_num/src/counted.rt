@@ -1,4 +1,4 @@
-//! The root, under the caller's count of steps.
+//! The square root, which counts its steps.
 
 ghost use Rattle.std.specs.Prelude.{◌≡◌, ◌≤◌, ◌*◌, ◌+◌, ◌≤ℤ◌, pos};
 ghost use Rattle.fixed_word.specs.Format.{highest};
@@ -10,8 +10,8 @@ use fixed_root::root;
 use fixed_word::{Digits, Ledger, RawWord, Steps, Word};
 
 impl<T: Word, const F: u32> Fixed<T, F> {
-    /// The square root, rounded down (this project's own). Conditions: `F` is at most n, the number is
-    /// not below 0, and the root fits. The count of steps rises by at most `16 n + 32`.
+    /// Returns the square root, rounded down. Preconditions: F is at most the width n, the number is not negative,
+    /// and the root fits. The count of steps rises by at most `16 n + 32`. (`fixed` does not have this call.)
     pub fn sqrt_counted<L: Ledger>(self, steps: &mut Steps<L>) -> Self
     where
         T::Unsigned: Digits<L>,

@@ -11,9 +11,9 @@ use fixed_decimal::{pad_number, shortest_places, write_decimal};
 use fixed_word::{RawWord, Rounding, Word};
 use std::{fmt, str};
 
-/// The shortest text that is read as the number, or as many digits behind the point as the precision says, to the
-/// nearest and to the even one of two. Sign, width and fill are those of integers. A fraction past the width is an
-/// error.
+/// Writes the shortest decimal that is read back as the number. With a precision, writes that many digits after the
+/// point, rounded to the nearest, ties to even. Sign, width and fill work as for integers. Fails if F is greater than
+/// the width.
 impl<T: Word, const F: u32> fmt::Display for Fixed<T, F> {
     ghost output = { λ x. plain_text (T.value x.bits) F T.BITS };
 
@@ -37,7 +37,7 @@ impl<T: Word, const F: u32> fmt::Display for Fixed<T, F> {
     }
 }
 
-/// The value, as `{}` prints it.
+/// Writes the value, as `{}` does.
 impl<T: Word, const F: u32> fmt::Debug for Fixed<T, F> {
     ghost debug_output = { λ x. plain_text (T.value x.bits) F T.BITS };
 
@@ -46,10 +46,11 @@ impl<T: Word, const F: u32> fmt::Debug for Fixed<T, F> {
     }
 }
 
-/// Text without a formatter (this project's own). The text is at the end of the buffer, and each call returns where it
-/// begins.
+/// Text without a formatter. Each call writes the text at the end of the buffer, and returns the index at which it
+/// begins. (`fixed` does not have these calls.)
 impl<T: Word, const F: u32> Fixed<T, F> {
-    /// Writes the shortest text that is read as the number. Precondition: F is at most the width.
+    /// Writes the shortest decimal that is read back as the number, and returns where it begins. Precondition: F is
+    /// at most the width.
     pub fn write_decimal(self, buffer: &mut [u8; 86]) -> usize
         requires { F ≤ T.BITS }
         ensures within { result ≤ 86 }
@@ -59,8 +60,8 @@ impl<T: Word, const F: u32> Fixed<T, F> {
         write_decimal(self.bits, F, places, Rounding::Even, buffer)
     }
 
-    /// Writes so many digits behind the point, rounded as named. Preconditions: F is at most the width, and there are
-    /// at most 64 digits behind the point.
+    /// Writes that many digits after the point, rounded as named, and returns where the text begins. Preconditions: F
+    /// is at most the width, and at most 64 digits after the point are requested.
     pub fn write_decimal_places(
         self,
         places: usize,
@@ -76,7 +77,7 @@ impl<T: Word, const F: u32> Fixed<T, F> {
     }
 }
 
-/// How many digits behind the point a number shows with that precision.
+/// Returns how many digits after the point a number has with that precision.
 fn places_for<T: Word>(bits: T, frac: u32, precision: Option<usize>) -> usize
     requires { frac ≤ T.BITS }
     ensures { result ≡ places_of precision (T.value bits) frac }

@@ -1,4 +1,4 @@
-//! The number type, its constants, and what the traits of calls name of it.
+//! The number type, its constants, and the traits by which generic calls name its parts.
 
 ghost use Rattle.std.specs.Prelude.{◌≡◌, ◌≤◌, ◌-◌, ◌^◌, ◌↔◌, ℕ, ℤ, Bool, IsTrue, false, neg_ℤ, pos, refl, true};
 ghost use Rattle.std.proofs.Common.{ap};
@@ -6,40 +6,41 @@ ghost use Rattle.fixed_word.specs.Format.{InRange};
 
 use fixed_word::{RawWord, Word};
 
-/// The number `bits * 2^-F` (the crate's `FixedI8` and its kin in one type).
+/// The number `bits * 2^-F`: a word of bits, of which F are fraction bits. `FixedI32::<16>::from_bits(98304)` is
+/// `1.5`. (`fixed` has a type for each word: `FixedI8` and so on.)
 #[derive(Clone, Copy, PartialEq, Eq, PartialOrd, Ord, Hash)]
 pub struct Fixed<T: RawWord, const F: u32> {
     /// The number in units of `2^-F`.
     pub bits: T,
 }
 
-/// A number in 8 bits with a sign.
+/// A signed number of 8 bits, F of them fraction bits.
 pub type FixedI8<const F: u32> = Fixed<i8, F>;
 
-/// A number in 16 bits with a sign.
+/// A signed number of 16 bits, F of them fraction bits.
 pub type FixedI16<const F: u32> = Fixed<i16, F>;
 
-/// A number in 32 bits with a sign.
+/// A signed number of 32 bits, F of them fraction bits.
 pub type FixedI32<const F: u32> = Fixed<i32, F>;
 
-/// A number in 64 bits with a sign.
+/// A signed number of 64 bits, F of them fraction bits.
 pub type FixedI64<const F: u32> = Fixed<i64, F>;
 
-/// A number in 8 bits, at least 0.
+/// An unsigned number of 8 bits, F of them fraction bits.
 pub type FixedU8<const F: u32> = Fixed<u8, F>;
 
-/// A number in 16 bits, at least 0.
+/// An unsigned number of 16 bits, F of them fraction bits.
 pub type FixedU16<const F: u32> = Fixed<u16, F>;
 
-/// A number in 32 bits, at least 0.
+/// An unsigned number of 32 bits, F of them fraction bits.
 pub type FixedU32<const F: u32> = Fixed<u32, F>;
 
-/// A number in 64 bits, at least 0.
+/// An unsigned number of 64 bits, F of them fraction bits.
 pub type FixedU64<const F: u32> = Fixed<u64, F>;
 
-/// A type that holds the bits of a word (this project's own).
+/// A type that holds the bits of a word. (`fixed` does not have this trait.)
 pub trait Held: Copy {
-    /// The word.
+    /// The word that holds the bits.
     type Bits: RawWord;
 
     // the bits, and the bits as a whole number
@@ -47,11 +48,11 @@ pub trait Held: Copy {
 
     ghost number: { Self → ℤ };
 
-    /// The number with these bits.
+    /// Returns the number with these bits, in units of `2^-F`.
     fn from_bits(bits: Self::Bits) -> Self
         ensures { held result ≡ bits };
 
-    /// The bits.
+    /// Returns the bits: the number in units of `2^-F`.
     fn to_bits(self) -> Self::Bits
         ensures { result ≡ held self };
 
@@ -80,15 +81,16 @@ impl<T: RawWord, const F: u32> Held for Fixed<T, F> {
     ghost equal_law = { λ x y e. ap (λ b. record { bits = b }) e };
 }
 
-/// What the traits of calls name of a number beside its bits (this project's own).
+/// The related types and the fraction of a number, by which generic calls name them. It has its own signedness and
+/// width, since a law cannot cite one of a supertrait. (`fixed` does not have this trait.)
 pub trait Number: Held {
-    /// The number of the same fraction over the unsigned word of the same width.
+    /// The unsigned number type of the same width and fraction.
     type Unsigned: Held;
 
-    /// The number of the same fraction over the signed word of the same width.
+    /// The signed number type of the same width and fraction.
     type Signed: Held;
 
-    /// How many bits stand behind the point, as `Constants::FRAC_NBITS`.
+    /// The number of fraction bits, F; the same as `Constants::FRAC_NBITS`.
     const FRACTION: u32;
 
     ghost FRACTION: { ℕ };
@@ -112,14 +114,14 @@ pub trait Number: Held {
 }
 
 impl<T: RawWord, const F: u32> Fixed<T, F> {
-    /// The number with these bits.
+    /// Returns the number with these bits, in units of `2^-F`.
     pub const fn from_bits(bits: T) -> Self
         ensures { result.bits ≡ bits }
     {
         Fixed { bits }
     }
 
-    /// The bits.
+    /// Returns the bits: the number in units of `2^-F`.
     pub const fn to_bits(self) -> T
         ensures { result ≡ self.bits }
     {
@@ -162,25 +164,24 @@ impl<T: RawWord, const F: u32> Default for Fixed<T, F> {
     }
 }
 
-/// The constants of a format. They stand in a trait, since contracts see no inherent constant of a
-/// generic type.
+/// The constants of a format. They are in a trait since contracts cannot name inherent constants of a generic type.
 pub trait Constants: Sized {
     /// The number 0.
     const ZERO: Self;
 
-    /// The least number above 0: bits 1.
+    /// The smallest positive number: one unit, `2^-F`.
     const DELTA: Self;
 
-    /// The least number.
+    /// The smallest number.
     const MIN: Self;
 
-    /// The greatest number.
+    /// The largest number.
     const MAX: Self;
 
-    /// Whether the format holds numbers below 0.
+    /// Whether the format has negative numbers.
     const IS_SIGNED: bool;
 
-    /// How many bits stand behind the point.
+    /// The number of fraction bits, F.
     const FRAC_NBITS: u32;
 
     ghost ZERO: { Self };
@@ -223,8 +224,8 @@ impl<T: Word, const F: u32> Constants for Fixed<T, F> {
 }
 
 impl<T: Word, const F: u32> Fixed<T, F> {
-    /// How many bits stand before the point: `n - F`. Condition: `F` is at most n. (The crate's
-    /// constant `INT_NBITS`.)
+    /// Returns the number of integer bits: the width minus F. Precondition: F is at most the width. (This is the
+    /// constant `INT_NBITS` of `fixed`.)
     pub fn int_nbits() -> u32
         requires { F ≤ T.BITS }
         ensures { result ≡ T.BITS - F }
@@ -232,7 +233,7 @@ impl<T: Word, const F: u32> Fixed<T, F> {
         T::BITS - F
     }
 
-    /// The number 1: bits `2^F`. Condition: it fits. (The crate's constant `ONE`.)
+    /// Returns the number 1, whose bits are `2^F`. Precondition: it fits. (This is the constant `ONE` of `fixed`.)
     pub fn one() -> Self
         requires { InRange T.SIGNED T.BITS (pos (2 ^ F)) }
         ensures { T.value result.bits ≡ pos (2 ^ F) }
@@ -242,7 +243,8 @@ impl<T: Word, const F: u32> Fixed<T, F> {
         }
     }
 
-    /// The number -1: bits `-2^F`. Condition: it fits. (The crate's constant `NEG_ONE`.)
+    /// Returns the number -1, whose bits are `-2^F`. Precondition: it fits. (This is the constant `NEG_ONE` of
+    /// `fixed`.)
     pub fn neg_one() -> Self
         requires { InRange T.SIGNED T.BITS (neg_ℤ (pos (2 ^ F))) }
         ensures { T.value result.bits ≡ neg_ℤ (pos (2 ^ F)) }
@@ -252,7 +254,7 @@ impl<T: Word, const F: u32> Fixed<T, F> {
         }
     }
 
-    /// Whether the number is 0.
+    /// Returns whether the number is 0.
     pub fn is_zero(self) -> bool
         ensures { IsTrue result ↔ (T.value self.bits ≡ pos 0) }
     {

@@ -14,71 +14,71 @@ use fixed_word::{
 };
 use std::str::FromStr;
 
-/// Numbers from decimals, rounded to the nearest unit and to the even one of two, or in the forms `.._round` as named.
-/// Each call returns an error if the text is no decimal, and has the precondition that F is at most the width.
+/// Numbers from decimals. They are rounded to the nearest unit, ties to even, or as named in the forms `.._round`.
+/// Each call returns an error if the text is not a decimal. Precondition of each call: F is at most the width.
 pub trait FromDecimal: Number {
-    /// The number, or Overflow exactly if it does not fit. (This project's own name for the crate's `from_str`.)
+    /// Returns the number, or the error `Overflow` if it does not fit. (This is `from_str` of `fixed`.)
     fn checked_from_str(text: &str) -> Result<Self, DecimalError>
         requires { Self.FRACTION ≤ Self.BITS }
         ensures { result_map Self.number result
             ≡ checked_decimal Self.SIGNED Self.BITS (decimal_row text.now Self.FRACTION Even) };
 
-    /// The nearest number that fits.
+    /// Returns the nearest number that fits.
     fn saturating_from_str(text: &str) -> Result<Self, DecimalError>
         requires { Self.FRACTION ≤ Self.BITS }
         ensures { result_map Self.number result
             ≡ saturating_decimal Self.SIGNED Self.BITS (decimal_row text.now Self.FRACTION Even) };
 
-    /// The number that fits and differs by a multiple of `2^n`.
+    /// Returns the number, wrapped.
     fn wrapping_from_str(text: &str) -> Result<Self, DecimalError>
         requires { Self.FRACTION ≤ Self.BITS }
         ensures { result_map Self.number result
             ≡ wrapping_decimal Self.SIGNED Self.BITS (decimal_row text.now Self.FRACTION Even) };
 
-    /// The same, and whether the number does not fit.
+    /// Returns the number, wrapped, and whether it does not fit.
     fn overflowing_from_str(text: &str) -> Result<(Self, bool), DecimalError>
         requires { Self.FRACTION ≤ Self.BITS }
         ensures { result_map (λ r. (Self.number r.0, r.1)) result
             ≡ overflowing_decimal Self.SIGNED Self.BITS (decimal_row text.now Self.FRACTION Even) };
 
-    /// The number, which has to fit.
+    /// Returns the number. Precondition: it fits.
     fn strict_from_str(text: &str) -> Result<Self, DecimalError>
         requires fraction { Self.FRACTION ≤ Self.BITS }
         requires fits { IfOk (decimal_row text.now Self.FRACTION Even) (InRange Self.SIGNED Self.BITS) }
         ensures { result_map Self.number result ≡ decimal_row text.now Self.FRACTION Even };
 
-    /// The number, which has to fit.
+    /// Returns the number. Precondition: it fits.
     fn unwrapped_from_str(text: &str) -> Result<Self, DecimalError>
         requires fraction { Self.FRACTION ≤ Self.BITS }
         requires fits { IfOk (decimal_row text.now Self.FRACTION Even) (InRange Self.SIGNED Self.BITS) }
         ensures { result_map Self.number result ≡ decimal_row text.now Self.FRACTION Even };
 
-    /// The number without rounding: Inexact if the text's number lies between two numbers of the format, and otherwise
-    /// Overflow exactly if it does not fit (this project's own).
+    /// Returns the number without rounding. Fails with `Inexact` if the decimal lies between two multiples of the
+    /// unit, and otherwise with `Overflow` if it does not fit. (`fixed` does not have this call.)
     fn from_str_exact(text: &str) -> Result<Self, DecimalError>
         requires { Self.FRACTION ≤ Self.BITS }
         ensures { result_map Self.number result
             ≡ checked_decimal Self.SIGNED Self.BITS (exact_row text.now Self.FRACTION) };
 
-    /// As `checked_from_str`, rounded as named.
+    /// Returns the number, rounded as named, or the error `Overflow` if it does not fit.
     fn checked_from_str_round(text: &str, rounding: Rounding) -> Result<Self, DecimalError>
         requires { Self.FRACTION ≤ Self.BITS }
         ensures { result_map Self.number result
             ≡ checked_decimal Self.SIGNED Self.BITS (decimal_row text.now Self.FRACTION rounding) };
 
-    /// As `saturating_from_str`, rounded as named.
+    /// Returns the nearest number that fits, rounded as named.
     fn saturating_from_str_round(text: &str, rounding: Rounding) -> Result<Self, DecimalError>
         requires { Self.FRACTION ≤ Self.BITS }
         ensures { result_map Self.number result
             ≡ saturating_decimal Self.SIGNED Self.BITS (decimal_row text.now Self.FRACTION rounding) };
 
-    /// As `wrapping_from_str`, rounded as named.
+    /// Returns the number, rounded as named and wrapped.
     fn wrapping_from_str_round(text: &str, rounding: Rounding) -> Result<Self, DecimalError>
         requires { Self.FRACTION ≤ Self.BITS }
         ensures { result_map Self.number result
             ≡ wrapping_decimal Self.SIGNED Self.BITS (decimal_row text.now Self.FRACTION rounding) };
 
-    /// As `overflowing_from_str`, rounded as named.
+    /// Returns the number, rounded as named and wrapped, and whether it does not fit.
     fn overflowing_from_str_round(
         text: &str,
         rounding: Rounding,
@@ -87,13 +87,13 @@ pub trait FromDecimal: Number {
         ensures { result_map (λ r. (Self.number r.0, r.1)) result
             ≡ overflowing_decimal Self.SIGNED Self.BITS (decimal_row text.now Self.FRACTION rounding) };
 
-    /// As `strict_from_str`, rounded as named.
+    /// Returns the number, rounded as named. Precondition: it fits.
     fn strict_from_str_round(text: &str, rounding: Rounding) -> Result<Self, DecimalError>
         requires fraction { Self.FRACTION ≤ Self.BITS }
         requires fits { IfOk (decimal_row text.now Self.FRACTION rounding) (InRange Self.SIGNED Self.BITS) }
         ensures { result_map Self.number result ≡ decimal_row text.now Self.FRACTION rounding };
 
-    /// As `unwrapped_from_str`, rounded as named.
+    /// Returns the number, rounded as named. Precondition: it fits.
     fn unwrapped_from_str_round(text: &str, rounding: Rounding) -> Result<Self, DecimalError>
         requires fraction { Self.FRACTION ≤ Self.BITS }
         requires fits { IfOk (decimal_row text.now Self.FRACTION rounding) (InRange Self.SIGNED Self.BITS) }
@@ -184,7 +184,7 @@ impl<T: Word, const F: u32> FromDecimal for Fixed<T, F> {
     }
 }
 
-/// The number of an outcome, or Overflow if it does not fit.
+/// Returns the number of an outcome, or `Overflow` if it does not fit.
 #[inline]
 fn fitting<T: Word, const F: u32>(outcome: Outcome<T>) -> Result<Fixed<T, F>, DecimalError>
     ensures { (x : ℤ) → StandsFor T.value T.SIGNED T.BITS x outcome
@@ -196,7 +196,7 @@ fn fitting<T: Word, const F: u32>(outcome: Outcome<T>) -> Result<Fixed<T, F>, De
     }
 }
 
-/// As `checked_from_str`. A fraction past the width is an Overflow.
+/// Returns the same as `checked_from_str`. Fails with `Overflow` if F is greater than the width.
 impl<T: Word, const F: u32> FromStr for Fixed<T, F> {
     type Err = DecimalError;
 

@@ -1,7 +1,7 @@
-//! The operators between a number and an integer, which is a word on either side.
+//! The operators between a number and an integer. The integer, on either side, has the number's word type.
 //!
-//! Each gives the number of its row under the condition that the row is defined and its number fits.
-//! The assigning forms store the same answer.
+//! Each operator returns the exact result. Precondition: there is one, and it fits. The assigning forms store the
+//! same result.
 
 ghost use Rattle.std.specs.Prelude.{◌≡◌, ◌≢◌, ◌≤◌, false, pos, true, ◌*ℤ◌};
 ghost use Rattle.fixed_word.specs.Format.{InRange};
@@ -21,7 +21,7 @@ impl<T: Word, const F: u32> Mul<T> for Fixed<T, F> {
 
     ghost mul_gives = { λ a k r. T.value r.bits ≡ T.value a.bits *ℤ T.value k };
 
-    /// The product by an integer; condition that it fits.
+    /// Returns the product by an integer. Precondition: it fits.
     fn mul(self, rhs: T) -> Self {
         exact_number(mul_int_of(self.bits, rhs))
     }
@@ -32,7 +32,7 @@ impl<T: Word, const F: u32> MulAssign<T> for Fixed<T, F> {
 
     ghost mul_assign_gives = { λ a k r. T.value r.bits ≡ T.value a.bits *ℤ T.value k };
 
-    /// Stores the product by an integer; condition that it fits.
+    /// Stores the product by an integer. Precondition: it fits.
     fn mul_assign(&mut self, rhs: T) {
         *self = exact_number(mul_int_of(self.bits, rhs));
     }
@@ -46,8 +46,8 @@ impl<T: Word, const F: u32> Div<T> for Fixed<T, F> {
 
     ghost div_gives = { λ a k r. T.value r.bits ≡ truncated_quotient (T.value a.bits) (T.value k) };
 
-    /// The quotient by an integer, rounded toward zero; conditions that the divisor is not 0 and that the
-    /// quotient fits.
+    /// Returns the quotient by an integer, rounded toward zero. Preconditions: the divisor is not 0, and the quotient
+    /// fits.
     fn div(self, rhs: T) -> Self {
         exact_number(div_int_of(self.bits, rhs))
     }
@@ -59,7 +59,8 @@ impl<T: Word, const F: u32> DivAssign<T> for Fixed<T, F> {
 
     ghost div_assign_gives = { λ a k r. T.value r.bits ≡ truncated_quotient (T.value a.bits) (T.value k) };
 
-    /// Stores the quotient by an integer; the conditions of `/`.
+    /// Stores the quotient by an integer, rounded toward zero. Preconditions: the divisor is not 0, and the quotient
+    /// fits.
     fn div_assign(&mut self, rhs: T) {
         *self = exact_number(div_int_of(self.bits, rhs));
     }
@@ -73,8 +74,8 @@ impl<T: Word, const F: u32> Rem<T> for Fixed<T, F> {
 
     ghost rem_gives = { λ a k r. T.value r.bits ≡ exact_rem (T.value a.bits) (units (T.value k) F) };
 
-    /// The remainder by an integer, of the quotient that is rounded toward zero; conditions that `F` is at
-    /// most n, that the divisor is not 0 and that the remainder fits, which it always does.
+    /// Returns the remainder by an integer, of the quotient that is rounded toward zero. It always fits.
+    /// Preconditions: F is at most the width, and the divisor is not 0.
     fn rem(self, rhs: T) -> Self {
         exact_number(rem_int_of(self.bits, rhs, F))
     }
@@ -86,7 +87,7 @@ impl<T: Word, const F: u32> RemAssign<T> for Fixed<T, F> {
 
     ghost rem_assign_gives = { λ a k r. T.value r.bits ≡ exact_rem (T.value a.bits) (units (T.value k) F) };
 
-    /// Stores the remainder by an integer; the conditions of `%`.
+    /// Stores the remainder by an integer. Preconditions: F is at most the width, and the divisor is not 0.
     fn rem_assign(&mut self, rhs: T) {
         *self = exact_number(rem_int_of(self.bits, rhs, F));
     }
@@ -99,7 +100,7 @@ impl<const F: u32> Mul<Fixed<i8, F>> for i8 {
 
     ghost mul_gives = { λ k a r. r.bits ≡ a.bits *ℤ k };
 
-    /// The product of an integer and a number; condition that it fits.
+    /// Returns the product of an integer and a number. Precondition: it fits.
     fn mul(self, rhs: Fixed<i8, F>) -> Fixed<i8, F> {
         rhs * self
     }
@@ -112,7 +113,7 @@ impl<const F: u32> Mul<Fixed<i16, F>> for i16 {
 
     ghost mul_gives = { λ k a r. r.bits ≡ a.bits *ℤ k };
 
-    /// The product of an integer and a number; condition that it fits.
+    /// Returns the product of an integer and a number. Precondition: it fits.
     fn mul(self, rhs: Fixed<i16, F>) -> Fixed<i16, F> {
         rhs * self
     }
@@ -125,7 +126,7 @@ impl<const F: u32> Mul<Fixed<i32, F>> for i32 {
 
     ghost mul_gives = { λ k a r. r.bits ≡ a.bits *ℤ k };
 
-    /// The product of an integer and a number; condition that it fits.
+    /// Returns the product of an integer and a number. Precondition: it fits.
     fn mul(self, rhs: Fixed<i32, F>) -> Fixed<i32, F> {
         rhs * self
     }
@@ -138,7 +139,7 @@ impl<const F: u32> Mul<Fixed<i64, F>> for i64 {
 
     ghost mul_gives = { λ k a r. r.bits ≡ a.bits *ℤ k };
 
-    /// The product of an integer and a number; condition that it fits.
+    /// Returns the product of an integer and a number. Precondition: it fits.
     fn mul(self, rhs: Fixed<i64, F>) -> Fixed<i64, F> {
         rhs * self
     }
@@ -151,7 +152,7 @@ impl<const F: u32> Mul<Fixed<u8, F>> for u8 {
 
     ghost mul_gives = { λ k a r. pos r.bits ≡ pos a.bits *ℤ pos k };
 
-    /// The product of an integer and a number; condition that it fits.
+    /// Returns the product of an integer and a number. Precondition: it fits.
     fn mul(self, rhs: Fixed<u8, F>) -> Fixed<u8, F> {
         rhs * self
     }
@@ -164,7 +165,7 @@ impl<const F: u32> Mul<Fixed<u16, F>> for u16 {
 
     ghost mul_gives = { λ k a r. pos r.bits ≡ pos a.bits *ℤ pos k };
 
-    /// The product of an integer and a number; condition that it fits.
+    /// Returns the product of an integer and a number. Precondition: it fits.
     fn mul(self, rhs: Fixed<u16, F>) -> Fixed<u16, F> {
         rhs * self
     }
@@ -177,7 +178,7 @@ impl<const F: u32> Mul<Fixed<u32, F>> for u32 {
 
     ghost mul_gives = { λ k a r. pos r.bits ≡ pos a.bits *ℤ pos k };
 
-    /// The product of an integer and a number; condition that it fits.
+    /// Returns the product of an integer and a number. Precondition: it fits.
     fn mul(self, rhs: Fixed<u32, F>) -> Fixed<u32, F> {
         rhs * self
     }
@@ -190,7 +191,7 @@ impl<const F: u32> Mul<Fixed<u64, F>> for u64 {
 
     ghost mul_gives = { λ k a r. pos r.bits ≡ pos a.bits *ℤ pos k };
 
-    /// The product of an integer and a number; condition that it fits.
+    /// Returns the product of an integer and a number. Precondition: it fits.
     fn mul(self, rhs: Fixed<u64, F>) -> Fixed<u64, F> {
         rhs * self
     }

@@ -1,9 +1,8 @@
-//! Fixed-point numbers: a word of bits, of which a fixed count stands behind the point.
+//! Fixed-point numbers: words of bits with a fixed number of fraction bits.
 //!
-//! `Fixed<T, F>` stands for its bits times `2^-F`. The calls speak of the bits as a whole number, in
-//! units of `2^-F`. Below, n is the width of the word T. The calls are the crate's of the same names,
-//! but where one is said to be this project's own. No call takes memory. In docstrings "the crate" is the
-//! Rust crate `fixed`.
+//! `Fixed<T, F>` is its bits times the unit `2^-F`: `98304` is `1.5` in `FixedI32<16>`. The width of a number is the
+//! number of bits of its word T. The calls are those of the same names of the Rust crate `fixed`, unless a comment
+//! says that it does not have the call. No call allocates.
 #![tactic(auto)]
 
 mod bit_calls;

@@ -1,4 +1,7 @@
 //! Constants from decimals.
+//!
+//! A `const fn` can call no method of a trait, and has no slicing. So each word has its own `lit`, which calls one of
+//! two kernels without type parameters.
 
 ghost use Rattle.std.specs.Prelude.{◌≡◌, IsSome, Some, false, pos, true};
 ghost use Rattle.fixed_decimal.specs.Rows.{literal};
@@ -7,7 +10,7 @@ use crate::format::Fixed;
 use fixed_decimal::{signed_literal, unsigned_literal};
 
 impl<const F: u32> Fixed<i8, F> {
-    /// The number of a decimal, rounded to the nearest unit and to the even one of two. Precondition: the text is a
+    /// Returns the number of a decimal, rounded to the nearest unit, ties to even. Preconditions: the text is a
     /// decimal, its number fits, and F is at most the width.
     pub const fn lit(text: &str) -> Self
         requires { IsSome (literal true 8 F text.now) }
@@ -20,7 +23,7 @@ impl<const F: u32> Fixed<i8, F> {
 }
 
 impl<const F: u32> Fixed<i16, F> {
-    /// The number of a decimal, rounded to the nearest unit and to the even one of two. Precondition: the text is a
+    /// Returns the number of a decimal, rounded to the nearest unit, ties to even. Preconditions: the text is a
     /// decimal, its number fits, and F is at most the width.
     pub const fn lit(text: &str) -> Self
         requires { IsSome (literal true 16 F text.now) }
@@ -33,7 +36,7 @@ impl<const F: u32> Fixed<i16, F> {
 }
 
 impl<const F: u32> Fixed<i32, F> {
-    /// The number of a decimal, rounded to the nearest unit and to the even one of two. Precondition: the text is a
+    /// Returns the number of a decimal, rounded to the nearest unit, ties to even. Preconditions: the text is a
     /// decimal, its number fits, and F is at most the width.
     pub const fn lit(text: &str) -> Self
         requires { IsSome (literal true 32 F text.now) }
@@ -46,7 +49,7 @@ impl<const F: u32> Fixed<i32, F> {
 }
 
 impl<const F: u32> Fixed<i64, F> {
-    /// The number of a decimal, rounded to the nearest unit and to the even one of two. Precondition: the text is a
+    /// Returns the number of a decimal, rounded to the nearest unit, ties to even. Preconditions: the text is a
     /// decimal, its number fits, and F is at most the width.
     pub const fn lit(text: &str) -> Self
         requires { IsSome (literal true 64 F text.now) }
@@ -59,7 +62,7 @@ impl<const F: u32> Fixed<i64, F> {
 }
 
 impl<const F: u32> Fixed<u8, F> {
-    /// The number of a decimal, rounded to the nearest unit and to the even one of two. Precondition: the text is a
+    /// Returns the number of a decimal, rounded to the nearest unit, ties to even. Preconditions: the text is a
     /// decimal, its number fits, and F is at most the width.
     pub const fn lit(text: &str) -> Self
         requires { IsSome (literal false 8 F text.now) }
@@ -72,7 +75,7 @@ impl<const F: u32> Fixed<u8, F> {
 }
 
 impl<const F: u32> Fixed<u16, F> {
-    /// The number of a decimal, rounded to the nearest unit and to the even one of two. Precondition: the text is a
+    /// Returns the number of a decimal, rounded to the nearest unit, ties to even. Preconditions: the text is a
     /// decimal, its number fits, and F is at most the width.
     pub const fn lit(text: &str) -> Self
         requires { IsSome (literal false 16 F text.now) }
@@ -85,7 +88,7 @@ impl<const F: u32> Fixed<u16, F> {
 }
 
 impl<const F: u32> Fixed<u32, F> {
-    /// The number of a decimal, rounded to the nearest unit and to the even one of two. Precondition: the text is a
+    /// Returns the number of a decimal, rounded to the nearest unit, ties to even. Preconditions: the text is a
     /// decimal, its number fits, and F is at most the width.
     pub const fn lit(text: &str) -> Self
         requires { IsSome (literal false 32 F text.now) }
@@ -98,7 +101,7 @@ impl<const F: u32> Fixed<u32, F> {
 }
 
 impl<const F: u32> Fixed<u64, F> {
-    /// The number of a decimal, rounded to the nearest unit and to the even one of two. Precondition: the text is a
+    /// Returns the number of a decimal, rounded to the nearest unit, ties to even. Preconditions: the text is a
     /// decimal, its number fits, and F is at most the width.
     pub const fn lit(text: &str) -> Self
         requires { IsSome (literal false 64 F text.now) }

@@ -1,4 +1,4 @@
-//! Logarithms of numbers, rounded down to whole numbers.
+//! Logarithms of numbers, rounded down to integers.
 
 ghost use Rattle.std.specs.Prelude.{◌≡◌, ◌⊎◌, ◌+◌, ◌*◌, ◌<◌, ◌≤◌, ◌↔◌, ◌<ℤ◌, ◌≤ℤ◌, pos, nat_abs, IfSome, IsNone, IsTrue};
 ghost use Rattle.fixed_word.specs.Ticks.{RisesAtMost};
@@ -9,7 +9,7 @@ use crate::part::{Part, part_of};
 use fixed_logs::{Base, frac_log10_part, frac_part, int_log10_part, int_part};
 use fixed_word::{Digits, Ledger, RawWord, Silent, Steps, Word};
 
-/// The logarithm of a number above 0.
+/// Returns the logarithm of a positive number, rounded down.
 fn log_of<L: Ledger, D: Digits<L>>(val: D, frac: u32, base: Base, steps: &mut Steps<L>) -> i32
     requires above_zero { 1 ≤ nat_abs (D.value val) }
     requires fraction { frac ≤ D.BITS }
@@ -23,7 +23,7 @@ fn log_of<L: Ledger, D: Digits<L>>(val: D, frac: u32, base: Base, steps: &mut St
     }
 }
 
-/// The logarithm of a number above 0 to the base ten.
+/// Returns the logarithm of a positive number to base 10, rounded down.
 fn log10_of<L: Ledger, D: Digits<L>>(val: D, frac: u32, steps: &mut Steps<L>) -> i32
     requires above_zero { 1 ≤ nat_abs (D.value val) }
     requires fraction { frac ≤ D.BITS }
@@ -35,14 +35,14 @@ fn log10_of<L: Ledger, D: Digits<L>>(val: D, frac: u32, steps: &mut Steps<L>) ->
     }
 }
 
-/// Whether a word is above 0.
+/// Returns whether a word is positive.
 fn is_above_zero<T: Word>(bits: T) -> bool
     ensures { IsTrue result ↔ (pos 0 <ℤ T.value bits) }
 {
     !bits.is_below_zero() && bits != T::ZERO
 }
 
-/// A word above 0, as an unsigned word.
+/// Returns a positive word as an unsigned word.
 fn above_zero<T: Word>(bits: T) -> T::Unsigned
     requires { pos 0 <ℤ T.value bits }
     ensures same { T.Unsigned.value result ≡ T.value bits }
@@ -53,8 +53,8 @@ fn above_zero<T: Word>(bits: T) -> T::Unsigned
 }
 
 impl<T: Word, const F: u32> Fixed<T, F> {
-    /// The logarithm to the base 2, rounded down: the k with `2^k <= bits / 2^F < 2^(k+1)`.
-    /// Conditions: the number is above 0, and `F` is at most n.
+    /// Returns the logarithm to base 2, rounded down: the integer k with `2^k <= bits / 2^F < 2^(k+1)`.
+    /// Preconditions: the number is positive, and F is at most the width.
     pub fn int_log2(self) -> i32
         requires above_zero { pos 0 <ℤ T.value self.bits }
         requires fraction { F ≤ T.BITS }
@@ -63,8 +63,8 @@ impl<T: Word, const F: u32> Fixed<T, F> {
         self.int_log(2)
     }
 
-    /// The logarithm to the base ten, rounded down: the k with `10^k <= bits / 2^F < 10^(k+1)`.
-    /// Conditions: the number is above 0, and `F` is at most n.
+    /// Returns the logarithm to base 10, rounded down: the integer k with `10^k <= bits / 2^F < 10^(k+1)`.
+    /// Preconditions: the number is positive, and F is at most the width.
     pub fn int_log10(self) -> i32
         requires above_zero { pos 0 <ℤ T.value self.bits }
         requires fraction { F ≤ T.BITS }
@@ -73,8 +73,8 @@ impl<T: Word, const F: u32> Fixed<T, F> {
         log10_of(above_zero(self.bits), F, &mut Steps::new(Silent::new()))
     }
 
-    /// The logarithm to a base, rounded down: the k with `base^k <= bits / 2^F < base^(k+1)`.
-    /// Conditions: the number is above 0, `F` is at most n, and the base is at least 2.
+    /// Returns the logarithm to a base, rounded down: the integer k with `base^k <= bits / 2^F < base^(k+1)`.
+    /// Preconditions: the number is positive, F is at most the width, and the base is at least 2.
     pub fn int_log(self, base: u32) -> i32
         requires above_zero { pos 0 <ℤ T.value self.bits }
         requires fraction { F ≤ T.BITS }
@@ -84,9 +84,9 @@ impl<T: Word, const F: u32> Fixed<T, F> {
         self.int_log_counted(base, &mut Steps::new(Silent::new()))
     }
 
-    /// The logarithm to a base, rounded down, as `int_log` (this project's own). Conditions: the number
-    /// is above 0, `F` is at most n, and the base is at least 2. The count of steps rises by at most
-    /// `12 log2(n) + 16`.
+    /// Returns the same as `int_log`, and counts its steps. Preconditions: the number is positive, F is at most the
+    /// width n, and the base is at least 2. The count of steps rises by at most `12 log2(n) + 16`. (`fixed` does not
+    /// have this call.)
     pub fn int_log_counted<L: Ledger>(self, base: u32, steps: &mut Steps<L>) -> i32
     where
         T::Unsigned: Digits<L>,
@@ -103,8 +103,8 @@ impl<T: Word, const F: u32> Fixed<T, F> {
         }
     }
 
-    /// The logarithm to the base 2, rounded down; None exactly where the number is not above 0.
-    /// Condition: `F` is at most n.
+    /// Returns the logarithm to base 2, rounded down, or `None` if the number is not positive. Precondition: F is at
+    /// most the width.
     pub fn checked_int_log2(self) -> Option<i32>
         requires { F ≤ T.BITS }
         ensures none { IsNone result ↔ (T.value self.bits ≤ℤ pos 0) }
@@ -117,8 +117,8 @@ impl<T: Word, const F: u32> Fixed<T, F> {
         }
     }
 
-    /// The logarithm to the base ten, rounded down; None exactly where the number is not above 0.
-    /// Condition: `F` is at most n.
+    /// Returns the logarithm to base 10, rounded down, or `None` if the number is not positive. Precondition: F is at
+    /// most the width.
     pub fn checked_int_log10(self) -> Option<i32>
         requires { F ≤ T.BITS }
         ensures none { IsNone result ↔ (T.value self.bits ≤ℤ pos 0) }
@@ -131,8 +131,8 @@ impl<T: Word, const F: u32> Fixed<T, F> {
         }
     }
 
-    /// The logarithm to a base, rounded down; None exactly where the number is not above 0 or the base
-    /// is below 2. Condition: `F` is at most n.
+    /// Returns the logarithm to a base, rounded down, or `None` if the number is not positive or the base is below 2.
+    /// Precondition: F is at most the width.
     pub fn checked_int_log(self, base: u32) -> Option<i32>
         requires { F ≤ T.BITS }
         ensures none { IsNone result ↔ ((T.value self.bits ≤ℤ pos 0) ⊎ (base < 2)) }

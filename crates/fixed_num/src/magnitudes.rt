@@ -1,4 +1,4 @@
-//! Calls on the number itself: its magnitude, its sign, its mean with another, and its shifts.
+//! Calls on the magnitude, the sign, the mean and the shifts of numbers.
 
 ghost use Rattle.std.specs.Prelude.{◌≡◌, ◌≤◌, ◌^◌, ◌↔◌, ◌<ℤ◌, ◌+ℤ◌, ◌-ℤ◌, ◌*ℤ◌, ℕ, IsTrue, pos, unsigned_abs};
 ghost use Rattle.fixed_word.specs.Format.{wrap};
@@ -12,7 +12,7 @@ use fixed_kernel::round_to_zero_of;
 use fixed_word::{Arithmetic, Integer, RawWord, SignedWord, UnsignedWord, Word};
 
 impl<T: Word, const F: u32> Fixed<T, F> {
-    /// The magnitude of the difference, which always fits the unsigned number.
+    /// Returns the magnitude of the difference, as an unsigned number. It always fits.
     pub fn abs_diff(self, other: Self) -> Fixed<T::Unsigned, F>
         ensures { T.Unsigned.value result.bits
             ≡ pos (unsigned_abs (T.value self.bits -ℤ T.value other.bits)) }
@@ -22,7 +22,7 @@ impl<T: Word, const F: u32> Fixed<T, F> {
         }
     }
 
-    /// Half the sum, rounded down, which always fits.
+    /// Returns half the sum, rounded down. It always fits.
     pub fn mean(self, other: Self) -> Self
         ensures { T.value result.bits ≡ mean_of (T.value self.bits) (T.value other.bits) }
     {
@@ -32,7 +32,8 @@ impl<T: Word, const F: u32> Fixed<T, F> {
         }
     }
 
-    /// The bits times `2^rhs`, without what lies past the width: 0 for a shift by n or more.
+    /// Returns the bits shifted left by `rhs`; bits shifted out are lost. The result is 0 if `rhs` is the width or
+    /// more.
     pub fn unbounded_shl(self, rhs: u32) -> Self
         ensures { T.value result.bits ≡ wrap T.SIGNED T.BITS (T.value self.bits *ℤ pos (2 ^ rhs)) }
     {
@@ -44,7 +45,8 @@ impl<T: Word, const F: u32> Fixed<T, F> {
         }
     }
 
-    /// The bits over `2^rhs`, rounded down: 0 or bits -1 for a shift by n or more.
+    /// Returns the bits shifted right by `rhs`, rounded down. If `rhs` is the width or more, the bits are 0, or -1 if
+    /// the number is negative.
     pub fn unbounded_shr(self, rhs: u32) -> Self
         ensures { T.value result.bits ≡ floor_quotient (T.value self.bits) (2 ^ rhs) }
     {
@@ -54,7 +56,7 @@ impl<T: Word, const F: u32> Fixed<T, F> {
         }
     }
 
-    /// The number with what stands behind the point dropped toward zero. Condition: `F` is at most n.
+    /// Returns the number, rounded toward zero to a whole number. Precondition: F is at most the width.
     pub fn round_to_zero(self) -> Self
         requires { F ≤ T.BITS }
         ensures { T.value result.bits
@@ -67,21 +69,22 @@ impl<T: Word, const F: u32> Fixed<T, F> {
 }
 
 impl<T: SignedWord, const F: u32> Fixed<T, F> {
-    /// Whether the number is above 0.
+    /// Returns whether the number is positive.
     pub fn is_positive(self) -> bool
         ensures { IsTrue result ↔ (pos 0 <ℤ T.value self.bits) }
     {
         !self.bits.is_below_zero() && self.bits.magnitude() > 0
     }
 
-    /// Whether the number is below 0.
+    /// Returns whether the number is negative.
     pub fn is_negative(self) -> bool
         ensures { IsTrue result ↔ (T.value self.bits <ℤ pos 0) }
     {
         self.bits.is_below_zero()
     }
 
-    /// The least m of at least 1 with `-2^(m-1) <= bits < 2^(m-1)`.
+    /// Returns how many bits the number needs as a signed integer: the smallest m of at least 1 with
+    /// `-2^(m-1) <= bits < 2^(m-1)`.
     pub fn signed_bits(self) -> u32
         ensures { IsLeast (HasSignedSize (T.value self.bits)) result }
     {
@@ -92,7 +95,7 @@ impl<T: SignedWord, const F: u32> Fixed<T, F> {
         }
     }
 
-    /// The magnitude of the number, which always fits the unsigned number.
+    /// Returns the magnitude, as an unsigned number. It always fits.
     pub fn unsigned_abs(self) -> Fixed<T::Unsigned, F>
         ensures { T.Unsigned.value result.bits ≡ pos (unsigned_abs (T.value self.bits)) }
     {
@@ -101,7 +104,7 @@ impl<T: SignedWord, const F: u32> Fixed<T, F> {
         }
     }
 
-    /// The magnitude of the difference, which always fits the unsigned number.
+    /// Returns the magnitude of the difference, as an unsigned number. It always fits.
     pub fn unsigned_dist(self, other: Self) -> Fixed<T::Unsigned, F>
         ensures { T.Unsigned.value result.bits
             ≡ pos (unsigned_abs (T.value self.bits -ℤ T.value other.bits)) }
@@ -111,14 +114,14 @@ impl<T: SignedWord, const F: u32> Fixed<T, F> {
 }
 
 impl<T: UnsignedWord, const F: u32> Fixed<T, F> {
-    /// The least m with `bits < 2^m`.
+    /// Returns how many bits the number needs: the smallest m with `bits < 2^m`.
     pub fn significant_bits(self) -> u32
         ensures { IsLeast (HasSize (T.value self.bits)) result }
     {
         bit_length(self.bits.magnitude())
     }
 
-    /// Whether the bits are a power of 2.
+    /// Returns whether the bits are a power of 2.
     pub fn is_power_of_two(self) -> bool
         ensures { IsTrue result ↔ IsPower (T.value self.bits) }
     {
@@ -126,7 +129,7 @@ impl<T: UnsignedWord, const F: u32> Fixed<T, F> {
         magnitude > 0 && magnitude == highest_power(magnitude)
     }
 
-    /// The greatest power of 2 that is at most the bits, or 0 for 0.
+    /// Returns the number with only the highest bit that is 1, or 0 for 0.
     pub fn highest_one(self) -> Self
         ensures { IsHighestOne (T.value self.bits) (T.value result.bits) }
     {

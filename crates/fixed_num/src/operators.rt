@@ -1,7 +1,7 @@
 //! The operators between numbers of one format.
 //!
-//! Each gives the number of its row under the condition that the row is defined and its number fits.
-//! The assigning forms store the same answer.
+//! Each operator returns the exact result. Precondition: there is one, and it fits. The assigning forms store the
+//! same result.
 
 ghost use Rattle.std.specs.Prelude.{◌≡◌, ◌≢◌, ◌≤◌, pos, neg_ℤ, ◌+ℤ◌, ◌-ℤ◌};
 ghost use Rattle.fixed_word.specs.Format.{InRange};
@@ -22,7 +22,7 @@ impl<T: SignedWord, const F: u32> Neg for Fixed<T, F> {
 
     ghost neg_gives = { λ a r. T.value r.bits ≡ neg_ℤ (T.value a.bits) };
 
-    /// The negated number; condition that it fits.
+    /// Returns the negated number. Precondition: it fits.
     fn neg(self) -> Self {
         exact_number(neg_of(self.bits))
     }
@@ -35,7 +35,7 @@ impl<T: Word, const F: u32> Add for Fixed<T, F> {
 
     ghost add_gives = { λ a b r. T.value r.bits ≡ T.value a.bits +ℤ T.value b.bits };
 
-    /// The sum; condition that it fits.
+    /// Returns the sum. Precondition: it fits.
     fn add(self, rhs: Self) -> Self {
         exact_number(add_of(self.bits, rhs.bits))
     }
@@ -46,7 +46,7 @@ impl<T: Word, const F: u32> AddAssign for Fixed<T, F> {
 
     ghost add_assign_gives = { λ a b r. T.value r.bits ≡ T.value a.bits +ℤ T.value b.bits };
 
-    /// Stores the sum; condition that it fits.
+    /// Stores the sum. Precondition: it fits.
     fn add_assign(&mut self, rhs: Self) {
         *self = *self + rhs;
     }
@@ -59,7 +59,7 @@ impl<T: Word, const F: u32> Sub for Fixed<T, F> {
 
     ghost sub_gives = { λ a b r. T.value r.bits ≡ T.value a.bits -ℤ T.value b.bits };
 
-    /// The difference; condition that it fits.
+    /// Returns the difference. Precondition: it fits.
     fn sub(self, rhs: Self) -> Self {
         exact_number(sub_of(self.bits, rhs.bits))
     }
@@ -70,7 +70,7 @@ impl<T: Word, const F: u32> SubAssign for Fixed<T, F> {
 
     ghost sub_assign_gives = { λ a b r. T.value r.bits ≡ T.value a.bits -ℤ T.value b.bits };
 
-    /// Stores the difference; condition that it fits.
+    /// Stores the difference. Precondition: it fits.
     fn sub_assign(&mut self, rhs: Self) {
         *self = *self - rhs;
     }
@@ -84,7 +84,7 @@ impl<T: Word, const F: u32> Mul for Fixed<T, F> {
 
     ghost mul_gives = { λ a b r. T.value r.bits ≡ exact_mul (T.value a.bits) (T.value b.bits) F };
 
-    /// The product, rounded down; conditions that `F` is at most n and that the product fits.
+    /// Returns the product, rounded down. Preconditions: F is at most the width, and the product fits.
     fn mul(self, rhs: Self) -> Self {
         exact_number(mul_of(self.bits, rhs.bits, F))
     }
@@ -96,8 +96,8 @@ impl<T: Word, const F: u32, const G: u32> MulAssign<Fixed<T, G>> for Fixed<T, F>
 
     ghost mul_assign_gives = { λ a b r. T.value r.bits ≡ exact_mul (T.value a.bits) (T.value b.bits) G };
 
-    /// Stores the product by a factor of any fraction G, rounded down; conditions that G is at most n
-    /// and that the product fits.
+    /// Stores the product by a factor with any number G of fraction bits, rounded down. Preconditions: G is at most
+    /// the width, and the product fits.
     fn mul_assign(&mut self, rhs: Fixed<T, G>) {
         *self = exact_number(mul_of(self.bits, rhs.bits, G));
     }
@@ -111,8 +111,8 @@ impl<T: Word, const F: u32> Div for Fixed<T, F> {
 
     ghost div_gives = { λ a b r. T.value r.bits ≡ exact_div (T.value a.bits) (T.value b.bits) F };
 
-    /// The quotient, rounded toward zero; conditions that `F` is at most n, that the divisor is not 0
-    /// and that the quotient fits.
+    /// Returns the quotient, rounded toward zero. Preconditions: F is at most the width, the divisor is not 0, and
+    /// the quotient fits.
     fn div(self, rhs: Self) -> Self {
         exact_number(div_of(self.bits, rhs.bits, F))
     }
@@ -124,7 +124,8 @@ impl<T: Word, const F: u32> DivAssign for Fixed<T, F> {
 
     ghost div_assign_gives = { λ a b r. T.value r.bits ≡ exact_div (T.value a.bits) (T.value b.bits) F };
 
-    /// Stores the quotient, rounded toward zero; the conditions of `/`.
+    /// Stores the quotient, rounded toward zero. Preconditions: F is at most the width, the divisor is not 0, and the
+    /// quotient fits.
     fn div_assign(&mut self, rhs: Self) {
         *self = *self / rhs;
     }
@@ -138,8 +139,8 @@ impl<T: Word, const F: u32> Rem for Fixed<T, F> {
 
     ghost rem_gives = { λ a b r. T.value r.bits ≡ exact_rem (T.value a.bits) (T.value b.bits) };
 
-    /// The remainder of the quotient that is rounded toward zero; conditions that the divisor is not 0
-    /// and that the remainder fits, which it always does.
+    /// Returns the remainder of the quotient that is rounded toward zero. It always fits. Precondition: the divisor
+    /// is not 0.
     fn rem(self, rhs: Self) -> Self {
         exact_number(rem_of(self.bits, rhs.bits))
     }
@@ -151,7 +152,7 @@ impl<T: Word, const F: u32> RemAssign for Fixed<T, F> {
 
     ghost rem_assign_gives = { λ a b r. T.value r.bits ≡ exact_rem (T.value a.bits) (T.value b.bits) };
 
-    /// Stores the remainder; the conditions of `%`.
+    /// Stores the remainder of the quotient that is rounded toward zero. Precondition: the divisor is not 0.
     fn rem_assign(&mut self, rhs: Self) {
         *self = *self % rhs;
     }

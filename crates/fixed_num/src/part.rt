@@ -6,13 +6,14 @@ ghost use Rattle.fixed_num.specs.inside.Parts.{IsPart};
 
 use fixed_word::{Digits, Ledger, Steps};
 
-/// The whole part of a number, where that is not 0, or the number raised to all digits of its word.
+/// The whole part of a number if that is not 0, and otherwise the number as a fraction that uses all bits of its
+/// word.
 pub(crate) enum Part<D> {
     Whole(D),
     Raised(D),
 }
 
-/// The part of a number above 0 that has its logarithm.
+/// Returns the part of a positive number that has its logarithm.
 pub(crate) fn part_of<L: Ledger, D: Digits<L>>(val: D, frac: u32, steps: &mut Steps<L>) -> Part<D>
     requires above_zero { 1 ≤ nat_abs (D.value val) }
     requires fraction { frac ≤ D.BITS }
@@ -30,7 +31,7 @@ pub(crate) fn part_of<L: Ledger, D: Digits<L>>(val: D, frac: u32, steps: &mut St
     }
 }
 
-/// Whether a word is at least 1.
+/// Returns whether a word is at least 1.
 fn is_at_least_one<L: Ledger, D: Digits<L>>(a: D, steps: &mut Steps<L>) -> bool
     ensures value { IsTrue result ↔ (1 ≤ nat_abs (D.value a)) }
     ensures ticks { RisesAtMost 1 (L.count steps.old) (L.count steps.new) }
@@ -38,7 +39,7 @@ fn is_at_least_one<L: Ledger, D: Digits<L>>(a: D, steps: &mut Steps<L>) -> bool
     D::ONE.at_most(a, steps)
 }
 
-/// The quotient by a power of 2, rounded down.
+/// Returns the quotient by a power of 2, rounded down.
 fn lowered<L: Ledger, D: Digits<L>>(a: D, by: u32, steps: &mut Steps<L>) -> D
     requires { by < D.BITS }
     ensures value { nat_abs (D.value result) ≡ nat_abs (D.value a) / 2 ^ by }
@@ -47,7 +48,7 @@ fn lowered<L: Ledger, D: Digits<L>>(a: D, by: u32, steps: &mut Steps<L>) -> D
     a.shr(by, steps)
 }
 
-/// The product by a power of 2.
+/// Returns the product by a power of 2.
 fn raised<L: Ledger, D: Digits<L>>(a: D, by: u32, steps: &mut Steps<L>) -> D
     requires by { by < D.BITS }
     requires fits { nat_abs (D.value a) * 2 ^ by < 2 ^ D.BITS }

@@ -1,4 +1,4 @@
-//! Small computations by sign and magnitude, and by magnitude alone.
+//! Computations by sign and magnitude, and by magnitude alone.
 
 ghost use Rattle.std.specs.Prelude.{◌≡◌, ◌+◌, ◌<◌, ◌≤◌, ◌*◌, ◌^◌, ◌-ℤ◌, unsigned_abs};
 ghost use Rattle.fixed_word.specs.Format.{InRange};
@@ -6,7 +6,7 @@ ghost use Rattle.fixed_num.specs.inside.Powers.{IsHighestPower};
 
 use fixed_word::RawWord;
 
-/// How far two words are apart.
+/// Returns the distance between two words.
 pub(crate) fn distance<T: RawWord>(a: T, b: T) -> u64
     ensures value { result ≡ unsigned_abs (T.value a -ℤ T.value b) }
     ensures a_in_range { InRange T.SIGNED T.BITS (T.value a) }
@@ -19,7 +19,7 @@ pub(crate) fn distance<T: RawWord>(a: T, b: T) -> u64
     }
 }
 
-/// The least m with `magnitude < 2^m`.
+/// Returns the smallest m with `magnitude < 2^m`.
 pub(crate) fn bit_length(magnitude: u64) -> u32
     ensures below { magnitude < 2 ^ result }
     ensures least { 2 ^ result ≤ 2 * magnitude + 1 }
@@ -28,7 +28,7 @@ pub(crate) fn bit_length(magnitude: u64) -> u32
     64 - magnitude.leading_zeros()
 }
 
-/// The greatest power of 2 that is at most the magnitude.
+/// Returns the largest power of 2 that is at most the magnitude.
 pub(crate) fn highest_power(magnitude: u64) -> u64
     requires { 0 < magnitude }
     ensures { IsHighestPower magnitude result }

@@ -1,4 +1,4 @@
-//! Products and quotients in a word of twice the width, where no bit is lost.
+//! Products and quotients in a word of twice the width.
 
 ghost use Rattle.std.specs.Prelude.{◌≡◌, ◌≢◌, ◌≤◌, ◌+◌, ◌*◌, ◌-◌, ◌<◌, ◌^◌, ◌*ℤ◌, ◌⊎◌, ℕ, ℤ, negsuc, pos, true};
 ghost use Rattle.fixed_word.specs.Format.{InRange, lowest, wrap};
@@ -7,7 +7,7 @@ ghost use Rattle.fixed_word.specs.Quotient.{truncated_quotient};
 use crate::format::Fixed;
 use fixed_word::{Narrow, RawWord, SignedWord, UnsignedWord, Valued, Word};
 
-/// The product of two words, as far as it fits a third.
+/// Returns the product of two words, wrapped to a third.
 fn product<A: RawWord, B: RawWord, R: RawWord>(a: A, b: B) -> R
     ensures value { R.value result ≡ wrap R.SIGNED R.BITS (A.value a *ℤ B.value b) }
     ensures a_in_range { InRange A.SIGNED A.BITS (A.value a) }
@@ -17,7 +17,7 @@ fn product<A: RawWord, B: RawWord, R: RawWord>(a: A, b: B) -> R
     R::residue(a.is_below_zero() != b.is_below_zero(), magnitude)
 }
 
-/// `a 2^by / b`, rounded toward zero, as far as it fits a third word.
+/// Returns `a 2^by / b`, rounded toward zero and wrapped to a third word.
 fn quotient<A: RawWord, B: RawWord, R: RawWord>(a: A, b: B, by: u32) -> R
     requires by { by ≤ 32 }
     requires divisor { B.value b ≢ pos 0 }
@@ -31,7 +31,8 @@ fn quotient<A: RawWord, B: RawWord, R: RawWord>(a: A, b: B, by: u32) -> R
 }
 
 impl<T: Narrow, const F: u32> Fixed<T, F> {
-    /// The product, which always fits. Conditions: both fractions are at most n, and H is their sum.
+    /// Returns the exact product, which always fits. Preconditions: F and G are at most the width, and H is their
+    /// sum.
     pub fn wide_mul<const G: u32, const H: u32>(self, rhs: Fixed<T, G>) -> Fixed<T::Double, H>
         requires f { F ≤ T.BITS }
         requires g { G ≤ T.BITS }
@@ -43,8 +44,9 @@ impl<T: Narrow, const F: u32> Fixed<T, F> {
         }
     }
 
-    /// The quotient, rounded toward zero: bits `a 2^n / b`. Conditions: the fractions are at most the
-    /// widths, H + G is n + F, the divisor is not 0, and a signed dividend is not `MIN` by bits -1.
+    /// Returns the quotient, rounded toward zero: its bits are `a 2^n / b`, where n is the width of the operands.
+    /// Preconditions: each fraction is at most the width of its word, H + G is n + F, and the divisor is not 0. For
+    /// signed numbers, the quotient is not that of `MIN` by bits -1.
     pub fn wide_div<const G: u32, const H: u32>(self, rhs: Fixed<T, G>) -> Fixed<T::Double, H>
         requires f { F ≤ T.BITS }
         requires g { G ≤ T.BITS }
@@ -63,8 +65,8 @@ impl<T: Narrow, const F: u32> Fixed<T, F> {
 }
 
 impl<T: SignedWord + Narrow, const F: u32> Fixed<T, F> {
-    /// The product by an unsigned number, which always fits. Conditions: both fractions are at most n,
-    /// and H is their sum.
+    /// Returns the exact product by an unsigned number, which always fits. Preconditions: F and G are at most the
+    /// width, and H is their sum.
     pub fn wide_mul_unsigned<const G: u32, const H: u32>(
         self,
         rhs: Fixed<T::Unsigned, G>,
@@ -79,9 +81,9 @@ impl<T: SignedWord + Narrow, const F: u32> Fixed<T, F> {
         }
     }
 
-    /// The quotient, rounded toward zero, with one bit behind the point less: bits `a 2^(n-1) / b`,
-    /// which always fits. Conditions: the fractions are at most the widths, H + G + 1 is n + F, and the
-    /// divisor is not 0.
+    /// Returns the quotient, rounded toward zero, with one fraction bit less than `wide_div`. Its bits are
+    /// `a 2^(n-1) / b`, where n is the width of the operands. It always fits. Preconditions: each fraction is at most
+    /// the width of its word, H + G + 1 is n + F, and the divisor is not 0.
     pub fn wide_sdiv<const G: u32, const H: u32>(self, rhs: Fixed<T, G>) -> Fixed<T::Double, H>
         requires f { F ≤ T.BITS }
         requires g { G ≤ T.BITS }
@@ -96,8 +98,9 @@ impl<T: SignedWord + Narrow, const F: u32> Fixed<T, F> {
         }
     }
 
-    /// The quotient by an unsigned number, rounded toward zero: bits `a 2^n / b`, which always fits.
-    /// Conditions: the fractions are at most the widths, H + G is n + F, and the divisor is not 0.
+    /// Returns the quotient by an unsigned number, rounded toward zero: its bits are `a 2^n / b`, where n is the
+    /// width of the operands. It always fits. Preconditions: each fraction is at most the width of its word, H + G is
+    /// n + F, and the divisor is not 0.
     pub fn wide_div_unsigned<const G: u32, const H: u32>(
         self,
         rhs: Fixed<T::Unsigned, G>,
@@ -117,8 +120,8 @@ impl<T: SignedWord + Narrow, const F: u32> Fixed<T, F> {
 }
 
 impl<T: UnsignedWord + Narrow, const F: u32> Fixed<T, F> {
-    /// The product by a signed number, which always fits. Conditions: both fractions are at most n, and
-    /// H is their sum.
+    /// Returns the exact product by a signed number, which always fits. Preconditions: F and G are at most the width,
+    /// and H is their sum.
     pub fn wide_mul_signed<const G: u32, const H: u32>(
         self,
         rhs: Fixed<T::Signed, G>,
@@ -133,8 +136,9 @@ impl<T: UnsignedWord + Narrow, const F: u32> Fixed<T, F> {
         }
     }
 
-    /// The quotient by a signed number, rounded toward zero: bits `a 2^(n-1) / b`, which always fits.
-    /// Conditions: the fractions are at most the widths, H + G + 1 is n + F, and the divisor is not 0.
+    /// Returns the quotient by a signed number, rounded toward zero: its bits are `a 2^(n-1) / b`, where n is the
+    /// width of the operands. It always fits. Preconditions: each fraction is at most the width of its word, H + G +
+    /// 1 is n + F, and the divisor is not 0.
     pub fn wide_sdiv_signed<const G: u32, const H: u32>(
         self,
         rhs: Fixed<T::Signed, G>,

@@ -1,10 +1,10 @@
-//! Laws of the definitions. These functions do nothing: each contract is the law.
+//! Laws of the definitions. These functions do nothing: the contract of each is the law.
 
 ghost use Rattle.std.specs.Prelude.{◌↔◌, ◌<◌, ◌≤◌, Bool, List, fold, length, take, ℕ, ℤ};
 ghost use Rattle.fixed_word.specs.Format.{InRange};
 ghost use Rattle.fixed_ops.specs.Folds.{EachFits};
 
-/// Each result of a walk fits exactly where the fold over each first part of the list fits.
+/// Each partial result of a walk fits if and only if the fold over each prefix of the list fits.
 pub fn fold_law()
     ensures { (s : Bool) (n : ℕ) (step : ℤ → ℤ → ℤ) (from : ℤ) (xs : List ℤ)
         → EachFits s n step from xs

@@ -1,9 +1,7 @@
 //! Operations of fixed-point numbers by their plain names, and sums and products of slices.
 //!
-//! Each call gives the number of its row under the condition that the row is defined and its number
-//! fits. The calls are those of the same names of the Rust crate `fixed`, below "the crate"; the
-//! operators between numbers stand with the number type. Below, n is the width of the word. No call
-//! takes memory.
+//! Each call returns the exact result. Precondition: there is one, and it fits. The Rust crate `fixed` has calls with
+//! the same names. The operators between numbers are in [`fixed_num`](fixed_num). No call allocates.
 #![tactic(auto)]
 
 pub mod laws;

@@ -1,4 +1,4 @@
-//! Operations by their plain names, for numbers that fit.
+//! Operations by their plain names. Their precondition is that the exact result fits.
 
 ghost use Rattle.std.specs.Prelude.{◌≡◌, ◌≤◌, ◌≢◌, ◌≤ℤ◌, pos, ◌+ℤ◌, ◌-ℤ◌};
 ghost use Rattle.fixed_word.specs.Format.{InRange};
@@ -14,11 +14,10 @@ use fixed_kernel::{
 use fixed_num::{Fixed, Held, Number, exact_number};
 use fixed_word::{RawWord, SignedWord, UnsignedWord, Word};
 
-/// The plain forms of all numbers. Answers are bits, in units of `2^-F`; an integer
-/// operand is a whole number. A call that uses F has the condition that it is at most the width.
+/// The plain forms of all numbers. Precondition of each call: the exact result fits. Results are in units of `2^-F`,
+/// and integer operands are whole numbers. Precondition of each call that uses F: F is at most the width.
 pub trait Plain: Number {
-    /// One over the number, rounded toward zero; condition that the number is not zero and the
-    /// answer fits.
+    /// Returns 1 over the number, rounded toward zero. Preconditions: the number is not 0, and the result fits.
     fn recip(self) -> Self
         requires fraction { Self.FRACTION ≤ Self.BITS }
         requires divisor { Self.number self ≢ pos 0 }
@@ -26,15 +25,15 @@ pub trait Plain: Number {
             (exact_recip (Self.number self) Self.FRACTION) }
         ensures { Self.number result ≡ exact_recip (Self.number self) Self.FRACTION };
 
-    /// The Euclidean remainder; condition that the divisor is not zero and the answer fits.
+    /// Returns the Euclidean remainder, which is at least 0. It always fits. Precondition: the divisor is not 0.
     fn rem_euclid(self, rhs: Self) -> Self
         requires divisor { Self.number rhs ≢ pos 0 }
         requires fits { InRange Self.SIGNED Self.BITS
             (euclidean_remainder (Self.number self) (Self.number rhs)) }
         ensures { Self.number result ≡ euclidean_remainder (Self.number self) (Self.number rhs) };
 
-    /// The Euclidean quotient, a whole number; condition that the divisor is not zero and the
-    /// answer fits.
+    /// Returns the Euclidean quotient, which is a whole number. Preconditions: the divisor is not 0, and the result
+    /// fits.
     fn div_euclid(self, rhs: Self) -> Self
         requires fraction { Self.FRACTION ≤ Self.BITS }
         requires divisor { Self.number rhs ≢ pos 0 }
@@ -43,14 +42,14 @@ pub trait Plain: Number {
         ensures { Self.number result
             ≡ exact_div_euclid (Self.number self) (Self.number rhs) Self.FRACTION };
 
-    /// The distance of both numbers; condition that the answer fits.
+    /// Returns the distance between the numbers. Precondition: it fits.
     fn dist(self, other: Self) -> Self
         requires { InRange Self.SIGNED Self.BITS
             (exact_abs (Self.number self -ℤ Self.number other)) }
         ensures { Self.number result ≡ exact_abs (Self.number self -ℤ Self.number other) };
 
-    /// The next multiple of `other`, upward where it is above zero and downward where it is below;
-    /// condition that `other` is not zero and the answer fits.
+    /// Returns the next multiple of `other`, upward if `other` is positive and downward if it is negative.
+    /// Preconditions: `other` is not 0, and the result fits.
     fn next_multiple_of(self, other: Self) -> Self
         requires divisor { Self.number other ≢ pos 0 }
         requires fits { InRange Self.SIGNED Self.BITS
@@ -58,8 +57,7 @@ pub trait Plain: Number {
         ensures { Self.number result
             ≡ exact_next_multiple_of (Self.number self) (Self.number other) };
 
-    /// The Euclidean remainder by an integer; condition that the divisor is not zero and the answer
-    /// fits.
+    /// Returns the Euclidean remainder by an integer. Preconditions: the divisor is not 0, and the result fits.
     fn rem_euclid_int(self, rhs: Self::Bits) -> Self
         requires fraction { Self.FRACTION ≤ Self.BITS }
         requires divisor { Self.Bits.value rhs ≢ pos 0 }
@@ -68,8 +66,8 @@ pub trait Plain: Number {
         ensures { Self.number result
             ≡ euclidean_remainder (Self.number self) (units (Self.Bits.value rhs) Self.FRACTION) };
 
-    /// The Euclidean quotient by an integer, a whole number; condition that the divisor is not zero
-    /// and the answer fits.
+    /// Returns the Euclidean quotient by an integer, which is a whole number. Preconditions: the divisor is not 0,
+    /// and the result fits.
     fn div_euclid_int(self, rhs: Self::Bits) -> Self
         requires fraction { Self.FRACTION ≤ Self.BITS }
         requires divisor { Self.Bits.value rhs ≢ pos 0 }
@@ -78,8 +76,7 @@ pub trait Plain: Number {
         ensures { Self.number result
             ≡ exact_div_euclid (Self.number self) (units (Self.Bits.value rhs) Self.FRACTION) Self.FRACTION };
 
-    /// The square root, rounded down; condition that the number is not below zero and the answer
-    /// fits.
+    /// Returns the square root, rounded down. Preconditions: the number is not negative, and the root fits.
     fn sqrt(self) -> Self
         requires fraction { Self.FRACTION ≤ Self.BITS }
         requires sign { pos 0 ≤ℤ Self.number self }
@@ -124,25 +121,25 @@ impl<T: Word, const F: u32> Plain for Fixed<T, F> {
 
 /// The plain forms of signed numbers.
 pub trait PlainSigned: Plain {
-    /// The magnitude; condition that the answer fits.
+    /// Returns the magnitude. Precondition: it fits.
     fn abs(self) -> Self
         requires { InRange Self.SIGNED Self.BITS (exact_abs (Self.number self)) }
         ensures { Self.number result ≡ exact_abs (Self.number self) };
 
-    /// One by the sign of the number: 1, 0 or -1; condition that the answer fits.
+    /// Returns the sign as a number: 1, 0 or -1. Precondition: it fits.
     fn signum(self) -> Self
         requires fraction { Self.FRACTION ≤ Self.BITS }
         requires fits { InRange Self.SIGNED Self.BITS
             (exact_signum (Self.number self) Self.FRACTION) }
         ensures { Self.number result ≡ exact_signum (Self.number self) Self.FRACTION };
 
-    /// The sum with an unsigned number; condition that the answer fits.
+    /// Returns the sum with an unsigned number. Precondition: it fits.
     fn add_unsigned(self, rhs: Self::Unsigned) -> Self
         requires { InRange Self.SIGNED Self.BITS
             (Self.number self +ℤ Self.Unsigned.number rhs) }
         ensures { Self.number result ≡ Self.number self +ℤ Self.Unsigned.number rhs };
 
-    /// The number minus an unsigned one; condition that the answer fits.
+    /// Returns the number minus an unsigned number. Precondition: it fits.
     fn sub_unsigned(self, rhs: Self::Unsigned) -> Self
         requires { InRange Self.SIGNED Self.BITS
             (Self.number self -ℤ Self.Unsigned.number rhs) }
@@ -169,19 +166,18 @@ impl<T: SignedWord, const F: u32> PlainSigned for Fixed<T, F> {
 
 /// The plain forms of unsigned numbers.
 pub trait PlainUnsigned: Plain {
-    /// The least power of two, in units, that is at least the number; condition that the answer
-    /// fits.
+    /// Returns the least number, not below this one, whose bits are a power of two. Precondition: it fits.
     fn next_power_of_two(self) -> Self
         requires { InRange Self.SIGNED Self.BITS (exact_next_power_of_two (Self.number self)) }
         ensures { Self.number result ≡ exact_next_power_of_two (Self.number self) };
 
-    /// The sum with a signed number; condition that the answer fits.
+    /// Returns the sum with a signed number. Precondition: it fits.
     fn add_signed(self, rhs: Self::Signed) -> Self
         requires { InRange Self.SIGNED Self.BITS
             (Self.number self +ℤ Self.Signed.number rhs) }
         ensures { Self.number result ≡ Self.number self +ℤ Self.Signed.number rhs };
 
-    /// The number minus a signed one; condition that the answer fits.
+    /// Returns the number minus a signed number. Precondition: it fits.
     fn sub_signed(self, rhs: Self::Signed) -> Self
         requires { InRange Self.SIGNED Self.BITS
             (Self.number self -ℤ Self.Signed.number rhs) }

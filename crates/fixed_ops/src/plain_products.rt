@@ -1,4 +1,4 @@
-//! The plain forms of multiply-add and of sums of products, of factors of other fractions.
+//! The plain forms of multiply-add and of sums of products. The factors may have other fractions.
 
 ghost use Rattle.std.specs.Prelude.{◌≡◌, ◌≤◌};
 ghost use Rattle.fixed_word.specs.Format.{InRange};
@@ -8,10 +8,10 @@ use fixed_kernel::{add_prod_of, mul_add_of};
 use fixed_num::{Fixed, Held, Number, exact_number};
 use fixed_word::{RawWord, Word};
 
-/// Multiply-add by a factor of G fraction bits.
+/// Multiply-add by a factor with G fraction bits. Precondition of each call: G is at most the width.
 pub trait PlainMulAdd<const G: u32>: Number {
-    /// The product by `mul`, rounded down, plus `add`; condition that the sum fits. The product
-    /// alone may lie outside. Condition: G is at most the width.
+    /// Returns the product by `mul`, rounded down, plus `add`. Precondition: the sum fits. The product alone may be
+    /// out of range.
     fn mul_add(self, mul: Fixed<Self::Bits, G>, add: Self) -> Self
         requires fraction { G ≤ Self.BITS }
         requires fits { InRange Self.SIGNED Self.BITS
@@ -32,10 +32,11 @@ impl<T: Word, const F: u32, const G: u32> PlainMulAdd<G> for Fixed<T, F> {
     }
 }
 
-/// Sums with a product of factors of A and B fraction bits.
+/// Sums with a product of factors with A and B fraction bits. Precondition of each call: F, A and B are at most the
+/// width.
 pub trait PlainProducts<const A: u32, const B: u32>: Number {
-    /// The number plus the product of `a` and `b`, which is brought to the number's fraction and
-    /// rounded down; condition that the sum fits. Condition: every fraction is at most the width.
+    /// Returns the number plus the product of `a` and `b`, which is rounded down to the number's fraction bits.
+    /// Precondition: the sum fits.
     fn add_prod(self, a: Fixed<Self::Bits, A>, b: Fixed<Self::Bits, B>) -> Self
         requires fraction { Self.FRACTION ≤ Self.BITS }
         requires a { A ≤ Self.BITS }
@@ -45,7 +46,7 @@ pub trait PlainProducts<const A: u32, const B: u32>: Number {
         ensures { Self.number result ≡ exact_add_prod (Self.number self)
             (Self.Bits.value a.bits) (Self.Bits.value b.bits) Self.FRACTION A B };
 
-    /// Stores what `add_prod` answers, under its condition.
+    /// Stores the result of `add_prod` in the number. Precondition: the result fits.
     fn mul_acc(&mut self, a: Fixed<Self::Bits, A>, b: Fixed<Self::Bits, B>)
         requires fraction { Self.FRACTION ≤ Self.BITS }
         requires a { A ≤ Self.BITS }

@@ -6,8 +6,8 @@ ghost use Rattle.fixed_ops.specs.Folds.{EachFits, ProductsFit, SumsFit, product_
 use fixed_num::{Constants, Fixed};
 use fixed_word::{RawWord, Valued, Word};
 
-/// The sum of the numbers, from 0 on and in their order; condition that each partial sum fits (the crate's
-/// `Sum`).
+/// Returns the sum of the numbers, added to 0 in order. Precondition: each partial sum fits. (This is `Sum` of
+/// `fixed`.)
 pub fn sum<T: Word, const F: u32>(items: &[Fixed<T, F>]) -> Fixed<T, F>
     requires { SumsFit T.SIGNED T.BITS (map (λ x. T.value x.bits) items.now) }
     ensures { T.value result.bits ≡ sum_of (map (λ x. T.value x.bits) items.now) }
@@ -19,9 +19,9 @@ pub fn sum<T: Word, const F: u32>(items: &[Fixed<T, F>]) -> Fixed<T, F>
     total
 }
 
-/// The product of the numbers, each step rounded down, from the first on and in their order; of no numbers
-/// the number 1. Conditions: `F` is at most n, and each partial product fits, or 1 where there are no
-/// numbers (the crate's `Product`).
+/// Returns the product of the numbers, multiplied in order, with each step rounded down. Returns 1 if there are no
+/// numbers. Preconditions: F is at most the width, and each partial product fits, or 1 if there are no numbers. (This
+/// is `Product` of `fixed`.)
 pub fn product<T: Word, const F: u32>(items: &[Fixed<T, F>]) -> Fixed<T, F>
     requires fraction { F ≤ T.BITS }
     requires fits { ProductsFit T.SIGNED T.BITS F (map (λ x. T.value x.bits) items.now) }
@@ -33,7 +33,7 @@ pub fn product<T: Word, const F: u32>(items: &[Fixed<T, F>]) -> Fixed<T, F>
     }
 }
 
-/// The product of a number and all of the others.
+/// Returns the product of a number and all numbers of a slice.
 fn product_from<T: Word, const F: u32>(first: Fixed<T, F>, rest: &[Fixed<T, F>]) -> Fixed<T, F>
     requires fraction { F ≤ T.BITS }
     requires fits { EachFits T.SIGNED T.BITS

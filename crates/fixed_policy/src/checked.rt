@@ -1,4 +1,4 @@
-//! Operations whose number is answered where it fits, and None where it does not.
+//! Operations that return `None` if the exact result does not fit.
 
 ghost use Rattle.std.specs.Prelude.{◌<◌, ◌%◌, ◌^◌, ◌*ℤ◌, ◌↔◌, IsNone, ◌≡◌, ◌≤◌, ◌≢◌, ◌≤ℤ◌, pos, Some, option_map, neg_ℤ, ◌+ℤ◌, ◌-ℤ◌};
 ghost use Rattle.fixed_word.specs.Format.{wrap};
@@ -16,54 +16,55 @@ use fixed_kernel::{
 use fixed_num::{Fixed, Held, Number};
 use fixed_word::{RawWord, SignedWord, UnsignedWord, Word};
 
-/// The `checked_` forms of all numbers. Answers are bits, in units of `2^-F`; an integer
-/// operand is a whole number. A call that uses F has the condition that it is at most the width.
+/// The `checked_` forms of all numbers. If the exact result does not fit, they return `None`. Results are in units of
+/// `2^-F`, and integer operands are whole numbers. Precondition of each call that uses F: F is at most the width.
 pub trait Checked: Number {
-    /// The negated number; None exactly where it does not fit.
+    /// Returns the negated number, or `None` if it does not fit.
     fn checked_neg(self) -> Option<Self>
         ensures { option_map Self.number result
             ≡ checked Self.SIGNED Self.BITS (Some (neg_ℤ (Self.number self))) };
 
-    /// The sum; None exactly where it does not fit.
+    /// Returns the sum, or `None` if it does not fit.
     fn checked_add(self, rhs: Self) -> Option<Self>
         ensures { option_map Self.number result ≡ checked Self.SIGNED Self.BITS
             (Some (Self.number self +ℤ Self.number rhs)) };
 
-    /// The difference; None exactly where it does not fit.
+    /// Returns the difference, or `None` if it does not fit.
     fn checked_sub(self, rhs: Self) -> Option<Self>
         ensures { option_map Self.number result ≡ checked Self.SIGNED Self.BITS
             (Some (Self.number self -ℤ Self.number rhs)) };
 
-    /// The product, rounded down; None exactly where it does not fit.
+    /// Returns the product, rounded down, or `None` if it does not fit.
     fn checked_mul(self, rhs: Self) -> Option<Self>
         requires { Self.FRACTION ≤ Self.BITS }
         ensures { option_map Self.number result ≡ checked Self.SIGNED Self.BITS
             (Some (exact_mul (Self.number self) (Self.number rhs) Self.FRACTION)) };
 
-    /// The quotient, rounded toward zero; None exactly on a zero divisor or where it does not fit.
+    /// Returns the quotient, rounded toward zero, or `None` if the divisor is 0 or the result does not fit.
     fn checked_div(self, rhs: Self) -> Option<Self>
         requires { Self.FRACTION ≤ Self.BITS }
         ensures { option_map Self.number result ≡ checked Self.SIGNED Self.BITS
             (by_divisor (Self.number rhs) (exact_div (Self.number self) (Self.number rhs) Self.FRACTION)) };
 
-    /// One over the number, rounded toward zero; None exactly on zero or where it does not fit.
+    /// Returns 1 over the number, rounded toward zero, or `None` if the number is 0 or the result does not fit.
     fn checked_recip(self) -> Option<Self>
         requires { Self.FRACTION ≤ Self.BITS }
         ensures { option_map Self.number result ≡ checked Self.SIGNED Self.BITS
             (by_divisor (Self.number self) (exact_recip (Self.number self) Self.FRACTION)) };
 
-    /// The remainder of the quotient that is rounded toward zero; None exactly on a zero divisor or
-    /// where it does not fit.
+    /// Returns the remainder of the quotient that is rounded toward zero, or `None` if the divisor is 0. The
+    /// remainder always fits.
     fn checked_rem(self, rhs: Self) -> Option<Self>
         ensures { option_map Self.number result ≡ checked Self.SIGNED Self.BITS
             (by_divisor (Self.number rhs) (exact_rem (Self.number self) (Self.number rhs))) };
 
-    /// The Euclidean remainder; None exactly on a zero divisor or where it does not fit.
+    /// Returns the Euclidean remainder, which is at least 0, or `None` if the divisor is 0. The remainder always
+    /// fits.
     fn checked_rem_euclid(self, rhs: Self) -> Option<Self>
         ensures { option_map Self.number result ≡ checked Self.SIGNED Self.BITS
             (by_divisor (Self.number rhs) (euclidean_remainder (Self.number self) (Self.number rhs))) };
 
-    /// The Euclidean quotient, a whole number; None exactly on a zero divisor or where it does not
+    /// Returns the Euclidean quotient, which is a whole number, or `None` if the divisor is 0 or the result does not
     /// fit.
     fn checked_div_euclid(self, rhs: Self) -> Option<Self>
         requires { Self.FRACTION ≤ Self.BITS }
@@ -71,67 +72,65 @@ pub trait Checked: Number {
             (by_divisor (Self.number rhs)
             (exact_div_euclid (Self.number self) (Self.number rhs) Self.FRACTION)) };
 
-    /// The distance of both numbers; None exactly where it does not fit.
+    /// Returns the distance between the numbers, or `None` if it does not fit.
     fn checked_dist(self, other: Self) -> Option<Self>
         ensures { option_map Self.number result ≡ checked Self.SIGNED Self.BITS
             (Some (exact_abs (Self.number self -ℤ Self.number other))) };
 
-    /// The next multiple of `other`, upward where it is above zero and downward where it is below;
-    /// None exactly on a zero `other` or where it does not fit.
+    /// Returns the next multiple of `other`, upward if `other` is positive and downward if it is negative, or `None`
+    /// if `other` is 0 or the result does not fit.
     fn checked_next_multiple_of(self, other: Self) -> Option<Self>
         ensures { option_map Self.number result ≡ checked Self.SIGNED Self.BITS
             (by_divisor (Self.number other) (exact_next_multiple_of (Self.number self) (Self.number other))) };
 
-    /// The product by an integer; None exactly where it does not fit.
+    /// Returns the product by an integer, or `None` if it does not fit.
     fn checked_mul_int(self, rhs: Self::Bits) -> Option<Self>
         ensures { option_map Self.number result ≡ checked Self.SIGNED Self.BITS
             (Some (Self.number self *ℤ Self.Bits.value rhs)) };
 
-    /// The quotient by an integer, rounded toward zero; None exactly on a zero divisor or where it
-    /// does not fit.
+    /// Returns the quotient by an integer, rounded toward zero, or `None` if the divisor is 0 or the result does not
+    /// fit.
     fn checked_div_int(self, rhs: Self::Bits) -> Option<Self>
         ensures { option_map Self.number result ≡ checked Self.SIGNED Self.BITS
             (by_divisor (Self.Bits.value rhs) (truncated_quotient (Self.number self) (Self.Bits.value rhs))) };
 
-    /// The remainder by an integer, of the quotient that is rounded toward zero; None exactly on a
-    /// zero divisor or where it does not fit.
+    /// Returns the remainder by an integer, of the quotient that is rounded toward zero, or `None` if the divisor is
+    /// 0. The remainder always fits.
     fn checked_rem_int(self, rhs: Self::Bits) -> Option<Self>
         requires { Self.FRACTION ≤ Self.BITS }
         ensures { option_map Self.number result ≡ checked Self.SIGNED Self.BITS
             (by_divisor (Self.Bits.value rhs)
             (exact_rem (Self.number self) (units (Self.Bits.value rhs) Self.FRACTION))) };
 
-    /// The Euclidean remainder by an integer; None exactly on a zero divisor or where it does not
-    /// fit.
+    /// Returns the Euclidean remainder by an integer, or `None` if the divisor is 0 or the result does not fit.
     fn checked_rem_euclid_int(self, rhs: Self::Bits) -> Option<Self>
         requires { Self.FRACTION ≤ Self.BITS }
         ensures { option_map Self.number result ≡ checked Self.SIGNED Self.BITS
             (by_divisor (Self.Bits.value rhs)
             (euclidean_remainder (Self.number self) (units (Self.Bits.value rhs) Self.FRACTION))) };
 
-    /// The Euclidean quotient by an integer, a whole number; None exactly on a zero divisor or
-    /// where it does not fit.
+    /// Returns the Euclidean quotient by an integer, which is a whole number, or `None` if the divisor is 0 or the
+    /// result does not fit.
     fn checked_div_euclid_int(self, rhs: Self::Bits) -> Option<Self>
         requires { Self.FRACTION ≤ Self.BITS }
         ensures { option_map Self.number result ≡ checked Self.SIGNED Self.BITS
             (by_divisor (Self.Bits.value rhs)
             (exact_div_euclid (Self.number self) (units (Self.Bits.value rhs) Self.FRACTION) Self.FRACTION)) };
 
-    /// The square root, rounded down; None exactly on a number below zero or where it does not fit.
+    /// Returns the square root, rounded down, or `None` if the number is negative or the root does not fit.
     fn checked_sqrt(self) -> Option<Self>
         requires { Self.FRACTION ≤ Self.BITS }
         ensures { option_map Self.number result ≡ checked Self.SIGNED Self.BITS
             (by_sign (Self.number self) (root_of (Self.number self) Self.FRACTION)) };
 
-    /// The bits moved up by `rhs` places, without what lies past the width; None exactly where
-    /// `rhs` is the width or more.
+    /// Returns the bits shifted left by `rhs`; bits shifted out are lost. Returns `None` if `rhs` is the width or
+    /// more.
     fn checked_shl(self, rhs: u32) -> Option<Self>
         ensures some { rhs < Self.BITS → option_map Self.number result ≡ Some
             (wrap Self.SIGNED Self.BITS (Self.number self *ℤ pos (2 ^ rhs))) }
         ensures none { IsNone result ↔ (Self.BITS ≤ rhs) };
 
-    /// The bits moved down by `rhs` places, rounded down; None exactly where `rhs` is the width or
-    /// more.
+    /// Returns the bits shifted right by `rhs`, rounded down. Returns `None` if `rhs` is the width or more.
     fn checked_shr(self, rhs: u32) -> Option<Self>
         ensures some { rhs < Self.BITS
             → option_map Self.number result ≡ Some (floor_quotient (Self.number self) (2 ^ rhs)) }
@@ -259,23 +258,23 @@ impl<T: Word, const F: u32> Checked for Fixed<T, F> {
 
 /// The `checked_` forms of signed numbers.
 pub trait CheckedSigned: Checked {
-    /// The magnitude; None exactly where it does not fit.
+    /// Returns the magnitude, or `None` if it does not fit.
     fn checked_abs(self) -> Option<Self>
         ensures { option_map Self.number result
             ≡ checked Self.SIGNED Self.BITS (Some (exact_abs (Self.number self))) };
 
-    /// One by the sign of the number: 1, 0 or -1; None exactly where it does not fit.
+    /// Returns the sign as a number: 1, 0 or -1, or `None` if it does not fit.
     fn checked_signum(self) -> Option<Self>
         requires { Self.FRACTION ≤ Self.BITS }
         ensures { option_map Self.number result ≡ checked Self.SIGNED Self.BITS
             (Some (exact_signum (Self.number self) Self.FRACTION)) };
 
-    /// The sum with an unsigned number; None exactly where it does not fit.
+    /// Returns the sum with an unsigned number, or `None` if it does not fit.
     fn checked_add_unsigned(self, rhs: Self::Unsigned) -> Option<Self>
         ensures { option_map Self.number result ≡ checked Self.SIGNED Self.BITS
             (Some (Self.number self +ℤ Self.Unsigned.number rhs)) };
 
-    /// The number minus an unsigned one; None exactly where it does not fit.
+    /// Returns the number minus an unsigned number, or `None` if it does not fit.
     fn checked_sub_unsigned(self, rhs: Self::Unsigned) -> Option<Self>
         ensures { option_map Self.number result ≡ checked Self.SIGNED Self.BITS
             (Some (Self.number self -ℤ Self.Unsigned.number rhs)) };
@@ -301,18 +300,17 @@ impl<T: SignedWord, const F: u32> CheckedSigned for Fixed<T, F> {
 
 /// The `checked_` forms of unsigned numbers.
 pub trait CheckedUnsigned: Checked {
-    /// The least power of two, in units, that is at least the number; None exactly where it does
-    /// not fit.
+    /// Returns the least number, not below this one, whose bits are a power of two, or `None` if it does not fit.
     fn checked_next_power_of_two(self) -> Option<Self>
         ensures { option_map Self.number result
             ≡ checked Self.SIGNED Self.BITS (Some (exact_next_power_of_two (Self.number self))) };
 
-    /// The sum with a signed number; None exactly where it does not fit.
+    /// Returns the sum with a signed number, or `None` if it does not fit.
     fn checked_add_signed(self, rhs: Self::Signed) -> Option<Self>
         ensures { option_map Self.number result ≡ checked Self.SIGNED Self.BITS
             (Some (Self.number self +ℤ Self.Signed.number rhs)) };
 
-    /// The number minus a signed one; None exactly where it does not fit.
+    /// Returns the number minus a signed number, or `None` if it does not fit.
     fn checked_sub_signed(self, rhs: Self::Signed) -> Option<Self>
         ensures { option_map Self.number result ≡ checked Self.SIGNED Self.BITS
             (Some (Self.number self -ℤ Self.Signed.number rhs)) };

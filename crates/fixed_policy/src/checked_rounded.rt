@@ -1,4 +1,4 @@
-//! The `checked_` calls with a named rounding. They are this project's own.
+//! The `checked_` calls with a named rounding. `fixed` does not have them.
 
 ghost use Rattle.std.specs.Prelude.{◌≡◌, ◌≤◌, Some, option_map};
 ghost use Rattle.fixed_word.specs.Policies.{checked};
@@ -11,29 +11,30 @@ use fixed_kernel::{div_int_round_of, div_round_of, mul_round_of, recip_round_of}
 use fixed_num::{Fixed, Held, Number};
 use fixed_word::{RawWord, Rounding, Word};
 
-/// The `checked_` calls of all numbers that round as the caller says. Operands and results are bits, in
-/// units of `2^-F`; an integer operand is a whole number. Every fraction has to be at most the width.
+/// The `checked_` calls that round as the caller names. If the exact result does not fit, they return `None`. Results
+/// are in units of `2^-F`, and integer operands are whole numbers. Precondition of each call that uses F: F is at
+/// most the width.
 pub trait CheckedRounded: Number {
-    /// The product, rounded; None exactly if it does not fit.
+    /// Returns the product, rounded as named, or `None` if it does not fit.
     fn checked_mul_round(self, rhs: Self, rounding: Rounding) -> Option<Self>
         requires { Self.FRACTION ≤ Self.BITS }
         ensures { option_map Self.number result ≡ checked Self.SIGNED Self.BITS
             (Some (rounded_mul (Self.number self) (Self.number rhs) Self.FRACTION rounding)) };
 
-    /// The quotient, rounded; None exactly if the divisor is 0 or the quotient does not fit.
+    /// Returns the quotient, rounded as named, or `None` if the divisor is 0 or the result does not fit.
     fn checked_div_round(self, rhs: Self, rounding: Rounding) -> Option<Self>
         requires { Self.FRACTION ≤ Self.BITS }
         ensures { option_map Self.number result ≡ checked Self.SIGNED Self.BITS
             (by_divisor (Self.number rhs)
             (rounded_div (Self.number self) (Self.number rhs) Self.FRACTION rounding)) };
 
-    /// One over the number, rounded; None exactly if the number is 0 or the result does not fit.
+    /// Returns 1 over the number, rounded as named, or `None` if the number is 0 or the result does not fit.
     fn checked_recip_round(self, rounding: Rounding) -> Option<Self>
         requires { Self.FRACTION ≤ Self.BITS }
         ensures { option_map Self.number result ≡ checked Self.SIGNED Self.BITS
             (by_divisor (Self.number self) (rounded_recip (Self.number self) Self.FRACTION rounding)) };
 
-    /// The quotient by an integer, rounded; None exactly if the divisor is 0 or the quotient does not
+    /// Returns the quotient by an integer, rounded as named, or `None` if the divisor is 0 or the result does not
     /// fit.
     fn checked_div_int_round(self, rhs: Self::Bits, rounding: Rounding) -> Option<Self>
         ensures { option_map Self.number result ≡ checked Self.SIGNED Self.BITS

@@ -1,10 +1,9 @@
-//! The policies that answer every number: checked, overflowing and wrapping.
+//! The checked, overflowing and wrapping policies, which take every exact result.
 //!
-//! The functions `.._of` are those of [`fixed_word`](fixed_word), offered again: they read an
-//! [`Outcome`](fixed_word::Outcome). The traits have the typed calls of
-//! [`Fixed`](fixed_num::Fixed), each named by its policy and its operation. The calls are those of
-//! the same names of the Rust crate `fixed`, but where one is said to be this project's own. Below,
-//! n is the width of the word. No function takes memory.
+//! The functions `.._of` are re-exports of [`fixed_word`](fixed_word); they read an [`Outcome`](fixed_word::Outcome).
+//! The traits have the typed calls of [`Fixed`](fixed_num::Fixed), each named by its policy and its operation. The
+//! calls are those of the same names of the Rust crate `fixed`, unless a comment says that it does not have the call.
+//! No function allocates.
 #![tactic(auto)]
 
 mod checked;

@@ -1,4 +1,4 @@
-//! The policies on numbers: what the typed calls stand on.
+//! What each policy makes of an outcome, as a number of a format.
 
 ghost use Rattle.std.specs.Prelude.{◌≡◌, ℤ, Some, option_map};
 ghost use Rattle.fixed_word.specs.Standing.{StandsFor};
@@ -8,7 +8,7 @@ use crate::{checked_of, overflowing_of, wrapping_of};
 use fixed_num::Fixed;
 use fixed_word::{Outcome, Word};
 
-/// The number, and None exactly where it does not fit.
+/// Returns the number, or `None` if it does not fit.
 pub(crate) fn checked_number<T: Word, const F: u32>(outcome: Outcome<T>) -> Option<Fixed<T, F>>
     ensures { (x : ℤ) → StandsFor T.value T.SIGNED T.BITS x outcome
         → option_map (λ r. T.value r.bits) result ≡ checked T.SIGNED T.BITS (Some x) }
@@ -19,7 +19,7 @@ pub(crate) fn checked_number<T: Word, const F: u32>(outcome: Outcome<T>) -> Opti
     }
 }
 
-/// The wrapped number, and whether the number does not fit.
+/// Returns the wrapped number, and whether the exact number does not fit.
 pub(crate) fn overflowing_number<T: Word, const F: u32>(outcome: Outcome<T>) -> (Fixed<T, F>, bool)
     ensures { (x : ℤ) → StandsFor T.value T.SIGNED T.BITS x outcome
         → Some (T.value result.0.bits, result.1) ≡ overflowing T.SIGNED T.BITS (Some x) }
@@ -28,7 +28,7 @@ pub(crate) fn overflowing_number<T: Word, const F: u32>(outcome: Outcome<T>) -> 
     (Fixed { bits }, overflows)
 }
 
-/// The wrapped number.
+/// Returns the wrapped number.
 pub(crate) fn wrapping_number<T: Word, const F: u32>(outcome: Outcome<T>) -> Fixed<T, F>
     ensures { (x : ℤ) → StandsFor T.value T.SIGNED T.BITS x outcome
         → Some (T.value result.bits) ≡ wrapping T.SIGNED T.BITS (Some x) }

@@ -1,4 +1,4 @@
-//! The `overflowing_` forms of multiply-add and of sums of products, of factors of other fractions.
+//! The `overflowing_` forms of multiply-add and of sums of products. The factors may have other fractions.
 
 ghost use Rattle.std.specs.Prelude.{◌≡◌, ◌≤◌, Some};
 ghost use Rattle.fixed_word.specs.Policies.{overflowing};
@@ -10,16 +10,17 @@ use fixed_kernel::{add_prod_of, add_prod_round_of, mul_add_of, mul_add_round_of}
 use fixed_num::{Fixed, Held, Number};
 use fixed_word::{RawWord, Rounding, Word};
 
-/// Multiply-add by a factor of G fraction bits.
+/// Multiply-add by a factor with G fraction bits. Precondition of each call: G is at most the width.
 pub trait OverflowingMulAdd<const G: u32>: Number {
-    /// The product by `mul`, rounded down, plus `add`, wrapped, and whether the sum does not fit.
-    /// The product alone may lie outside. Condition: G is at most the width.
+    /// Returns the product by `mul`, rounded down, plus `add`, wrapped, and whether the exact result does not fit.
+    /// The product alone may be out of range.
     fn overflowing_mul_add(self, mul: Fixed<Self::Bits, G>, add: Self) -> (Self, bool)
         requires { G ≤ Self.BITS }
         ensures { Some (Self.number result.0, result.1) ≡ overflowing Self.SIGNED Self.BITS (Some
             (exact_mul_add (Self.number self) (Self.Bits.value mul.bits) (Self.number add) G)) };
 
-    /// The product by `mul`, rounded, plus `add`, wrapped, and whether the sum does not fit.
+    /// Returns the product by `mul`, rounded as named, plus `add`, wrapped, and whether the exact result does not
+    /// fit.
     fn overflowing_mul_add_round(
         self,
         mul: Fixed<Self::Bits, G>,
@@ -55,11 +56,11 @@ impl<T: Word, const F: u32, const G: u32> OverflowingMulAdd<G> for Fixed<T, F> {
     }
 }
 
-/// Sums with a product of factors of A and B fraction bits.
+/// Sums with a product of factors with A and B fraction bits. Precondition of each call: F, A and B are at most the
+/// width.
 pub trait OverflowingProducts<const A: u32, const B: u32>: Number {
-    /// The number plus the product of `a` and `b`, which is brought to the number's fraction and
-    /// rounded down, wrapped, and whether the sum does not fit. Condition: every fraction is at
-    /// most the width.
+    /// Returns the number plus the product of `a` and `b`, which is rounded down to the number's fraction bits,
+    /// wrapped, and whether the exact result does not fit.
     fn overflowing_add_prod(self, a: Fixed<Self::Bits, A>, b: Fixed<Self::Bits, B>) -> (Self, bool)
         requires fraction { Self.FRACTION ≤ Self.BITS }
         requires a { A ≤ Self.BITS }
@@ -68,8 +69,8 @@ pub trait OverflowingProducts<const A: u32, const B: u32>: Number {
             ≡ overflowing Self.SIGNED Self.BITS (Some (exact_add_prod (Self.number self)
             (Self.Bits.value a.bits) (Self.Bits.value b.bits) Self.FRACTION A B)) };
 
-    /// The number plus the product of `a` and `b`, which is rounded to the number's fraction bits,
-    /// wrapped, and whether the sum does not fit.
+    /// Returns the number plus the product of `a` and `b`, which is rounded as named to the number's fraction bits,
+    /// wrapped, and whether the exact result does not fit.
     fn overflowing_add_prod_round(
         self,
         a: Fixed<Self::Bits, A>,
@@ -83,7 +84,8 @@ pub trait OverflowingProducts<const A: u32, const B: u32>: Number {
             (Some (rounded_add_prod (Self.number self) (Self.Bits.value a.bits) (Self.Bits.value b.bits)
             Self.FRACTION A B rounding)) };
 
-    /// Stores what `overflowing_add_prod` answers, under its condition, and answers its verdict.
+    /// Stores the wrapped result of `overflowing_add_prod` in the number, and returns whether the exact sum does not
+    /// fit.
     fn overflowing_mul_acc(&mut self, a: Fixed<Self::Bits, A>, b: Fixed<Self::Bits, B>) -> bool
         requires fraction { Self.FRACTION ≤ Self.BITS }
         requires a { A ≤ Self.BITS }

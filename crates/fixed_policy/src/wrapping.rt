@@ -1,4 +1,4 @@
-//! Operations answered with the wrapped number.
+//! Operations that return the wrapped result.
 
 ghost use Rattle.std.specs.Prelude.{◌<◌, ◌%◌, ◌^◌, ◌*ℤ◌, ◌≡◌, ◌≤◌, ◌≢◌, ◌≤ℤ◌, pos, Some, neg_ℤ, ◌+ℤ◌, ◌-ℤ◌};
 ghost use Rattle.fixed_word.specs.Format.{wrap};
@@ -16,103 +16,103 @@ use fixed_kernel::{
 use fixed_num::{Fixed, Held, Number};
 use fixed_word::{RawWord, SignedWord, UnsignedWord, Word};
 
-/// The `wrapping_` forms of all numbers. Answers are bits, in units of `2^-F`; an integer
-/// operand is a whole number. A call that uses F has the condition that it is at most the width.
+/// The `wrapping_` forms of all numbers. If the exact result does not fit, they return the number that fits and
+/// differs from it by a multiple of `2^n` units, where n is the width. Results are in units of `2^-F`, and integer
+/// operands are whole numbers. Precondition of each call that uses F: F is at most the width.
 pub trait Wrapping: Number {
-    /// The negated number, wrapped.
+    /// Returns the negated number, wrapped.
     fn wrapping_neg(self) -> Self
         ensures { Some (Self.number result)
             ≡ wrapping Self.SIGNED Self.BITS (Some (neg_ℤ (Self.number self))) };
 
-    /// The sum, wrapped.
+    /// Returns the sum, wrapped.
     fn wrapping_add(self, rhs: Self) -> Self
         ensures { Some (Self.number result) ≡ wrapping Self.SIGNED Self.BITS
             (Some (Self.number self +ℤ Self.number rhs)) };
 
-    /// The difference, wrapped.
+    /// Returns the difference, wrapped.
     fn wrapping_sub(self, rhs: Self) -> Self
         ensures { Some (Self.number result) ≡ wrapping Self.SIGNED Self.BITS
             (Some (Self.number self -ℤ Self.number rhs)) };
 
-    /// The product, rounded down, wrapped.
+    /// Returns the product, rounded down and wrapped.
     fn wrapping_mul(self, rhs: Self) -> Self
         requires { Self.FRACTION ≤ Self.BITS }
         ensures { Some (Self.number result) ≡ wrapping Self.SIGNED Self.BITS
             (Some (exact_mul (Self.number self) (Self.number rhs) Self.FRACTION)) };
 
-    /// The quotient, rounded toward zero, wrapped; condition that the divisor is not zero.
+    /// Returns the quotient, rounded toward zero and wrapped. Precondition: the divisor is not 0.
     fn wrapping_div(self, rhs: Self) -> Self
         requires fraction { Self.FRACTION ≤ Self.BITS }
         requires divisor { Self.number rhs ≢ pos 0 }
         ensures { Some (Self.number result) ≡ wrapping Self.SIGNED Self.BITS
             (Some (exact_div (Self.number self) (Self.number rhs) Self.FRACTION)) };
 
-    /// One over the number, rounded toward zero, wrapped; condition that the number is not zero.
+    /// Returns 1 over the number, rounded toward zero and wrapped. Precondition: the number is not 0.
     fn wrapping_recip(self) -> Self
         requires fraction { Self.FRACTION ≤ Self.BITS }
         requires divisor { Self.number self ≢ pos 0 }
         ensures { Some (Self.number result) ≡ wrapping Self.SIGNED Self.BITS
             (Some (exact_recip (Self.number self) Self.FRACTION)) };
 
-    /// The Euclidean quotient, a whole number, wrapped; condition that the divisor is not zero.
+    /// Returns the Euclidean quotient, which is a whole number, wrapped. Precondition: the divisor is not 0.
     fn wrapping_div_euclid(self, rhs: Self) -> Self
         requires fraction { Self.FRACTION ≤ Self.BITS }
         requires divisor { Self.number rhs ≢ pos 0 }
         ensures { Some (Self.number result) ≡ wrapping Self.SIGNED Self.BITS
             (Some (exact_div_euclid (Self.number self) (Self.number rhs) Self.FRACTION)) };
 
-    /// The distance of both numbers, wrapped.
+    /// Returns the distance between the numbers, wrapped.
     fn wrapping_dist(self, other: Self) -> Self
         ensures { Some (Self.number result) ≡ wrapping Self.SIGNED Self.BITS
             (Some (exact_abs (Self.number self -ℤ Self.number other))) };
 
-    /// The next multiple of `other`, upward where it is above zero and downward where it is below,
-    /// wrapped; condition that `other` is not zero.
+    /// Returns the next multiple of `other`, upward if `other` is positive and downward if it is negative, wrapped.
+    /// Precondition: `other` is not 0.
     fn wrapping_next_multiple_of(self, other: Self) -> Self
         requires { Self.number other ≢ pos 0 }
         ensures { Some (Self.number result) ≡ wrapping Self.SIGNED Self.BITS
             (Some (exact_next_multiple_of (Self.number self) (Self.number other))) };
 
-    /// The product by an integer, wrapped.
+    /// Returns the product by an integer, wrapped.
     fn wrapping_mul_int(self, rhs: Self::Bits) -> Self
         ensures { Some (Self.number result) ≡ wrapping Self.SIGNED Self.BITS
             (Some (Self.number self *ℤ Self.Bits.value rhs)) };
 
-    /// The quotient by an integer, rounded toward zero, wrapped; condition that the divisor is not
-    /// zero.
+    /// Returns the quotient by an integer, rounded toward zero and wrapped. Precondition: the divisor is not 0.
     fn wrapping_div_int(self, rhs: Self::Bits) -> Self
         requires { Self.Bits.value rhs ≢ pos 0 }
         ensures { Some (Self.number result) ≡ wrapping Self.SIGNED Self.BITS
             (Some (truncated_quotient (Self.number self) (Self.Bits.value rhs))) };
 
-    /// The Euclidean remainder by an integer, wrapped; condition that the divisor is not zero.
+    /// Returns the Euclidean remainder by an integer, wrapped. Precondition: the divisor is not 0.
     fn wrapping_rem_euclid_int(self, rhs: Self::Bits) -> Self
         requires fraction { Self.FRACTION ≤ Self.BITS }
         requires divisor { Self.Bits.value rhs ≢ pos 0 }
         ensures { Some (Self.number result) ≡ wrapping Self.SIGNED Self.BITS
             (Some (euclidean_remainder (Self.number self) (units (Self.Bits.value rhs) Self.FRACTION))) };
 
-    /// The Euclidean quotient by an integer, a whole number, wrapped; condition that the divisor is
-    /// not zero.
+    /// Returns the Euclidean quotient by an integer, which is a whole number, wrapped. Precondition: the divisor is
+    /// not 0.
     fn wrapping_div_euclid_int(self, rhs: Self::Bits) -> Self
         requires fraction { Self.FRACTION ≤ Self.BITS }
         requires divisor { Self.Bits.value rhs ≢ pos 0 }
         ensures { Some (Self.number result) ≡ wrapping Self.SIGNED Self.BITS
             (Some (exact_div_euclid (Self.number self) (units (Self.Bits.value rhs) Self.FRACTION) Self.FRACTION)) };
 
-    /// The square root, rounded down, wrapped; condition that the number is not below zero.
+    /// Returns the square root, rounded down and wrapped. Precondition: the number is not negative.
     fn wrapping_sqrt(self) -> Self
         requires fraction { Self.FRACTION ≤ Self.BITS }
         requires sign { pos 0 ≤ℤ Self.number self }
         ensures { Some (Self.number result)
             ≡ wrapping Self.SIGNED Self.BITS (Some (root_of (Self.number self) Self.FRACTION)) };
 
-    /// The bits moved up by `rhs` modulo the width, without what lies past the width.
+    /// Returns the bits shifted left by `rhs` modulo the width; bits shifted out are lost.
     fn wrapping_shl(self, rhs: u32) -> Self
         ensures { Self.number result
             ≡ wrap Self.SIGNED Self.BITS (Self.number self *ℤ pos (2 ^ (rhs % Self.BITS))) };
 
-    /// The bits moved down by `rhs` modulo the width, rounded down.
+    /// Returns the bits shifted right by `rhs` modulo the width, rounded down.
     fn wrapping_shr(self, rhs: u32) -> Self
         ensures { Self.number result ≡ floor_quotient (Self.number self) (2 ^ (rhs % Self.BITS)) };
 }
@@ -185,23 +185,23 @@ impl<T: Word, const F: u32> Wrapping for Fixed<T, F> {
 
 /// The `wrapping_` forms of signed numbers.
 pub trait WrappingSigned: Wrapping {
-    /// The magnitude, wrapped.
+    /// Returns the magnitude, wrapped.
     fn wrapping_abs(self) -> Self
         ensures { Some (Self.number result)
             ≡ wrapping Self.SIGNED Self.BITS (Some (exact_abs (Self.number self))) };
 
-    /// One by the sign of the number: 1, 0 or -1, wrapped.
+    /// Returns the sign as a number: 1, 0 or -1, wrapped.
     fn wrapping_signum(self) -> Self
         requires { Self.FRACTION ≤ Self.BITS }
         ensures { Some (Self.number result) ≡ wrapping Self.SIGNED Self.BITS
             (Some (exact_signum (Self.number self) Self.FRACTION)) };
 
-    /// The sum with an unsigned number, wrapped.
+    /// Returns the sum with an unsigned number, wrapped.
     fn wrapping_add_unsigned(self, rhs: Self::Unsigned) -> Self
         ensures { Some (Self.number result) ≡ wrapping Self.SIGNED Self.BITS
             (Some (Self.number self +ℤ Self.Unsigned.number rhs)) };
 
-    /// The number minus an unsigned one, wrapped.
+    /// Returns the number minus an unsigned number, wrapped.
     fn wrapping_sub_unsigned(self, rhs: Self::Unsigned) -> Self
         ensures { Some (Self.number result) ≡ wrapping Self.SIGNED Self.BITS
             (Some (Self.number self -ℤ Self.Unsigned.number rhs)) };
@@ -227,17 +227,17 @@ impl<T: SignedWord, const F: u32> WrappingSigned for Fixed<T, F> {
 
 /// The `wrapping_` forms of unsigned numbers.
 pub trait WrappingUnsigned: Wrapping {
-    /// The least power of two, in units, that is at least the number, wrapped.
+    /// Returns the least number, not below this one, whose bits are a power of two, wrapped.
     fn wrapping_next_power_of_two(self) -> Self
         ensures { Some (Self.number result)
             ≡ wrapping Self.SIGNED Self.BITS (Some (exact_next_power_of_two (Self.number self))) };
 
-    /// The sum with a signed number, wrapped.
+    /// Returns the sum with a signed number, wrapped.
     fn wrapping_add_signed(self, rhs: Self::Signed) -> Self
         ensures { Some (Self.number result) ≡ wrapping Self.SIGNED Self.BITS
             (Some (Self.number self +ℤ Self.Signed.number rhs)) };
 
-    /// The number minus a signed one, wrapped.
+    /// Returns the number minus a signed number, wrapped.
     fn wrapping_sub_signed(self, rhs: Self::Signed) -> Self
         ensures { Some (Self.number result) ≡ wrapping Self.SIGNED Self.BITS
             (Some (Self.number self -ℤ Self.Signed.number rhs)) };

@@ -1,4 +1,4 @@
-//! The `wrapping_` calls with a named rounding. They are this project's own.
+//! The `wrapping_` calls with a named rounding. `fixed` does not have them.
 
 ghost use Rattle.std.specs.Prelude.{◌≡◌, ◌≤◌, ◌≢◌, pos, Some};
 ghost use Rattle.fixed_word.specs.Policies.{wrapping};
@@ -10,31 +10,31 @@ use fixed_kernel::{div_int_round_of, div_round_of, mul_round_of, recip_round_of}
 use fixed_num::{Fixed, Held, Number};
 use fixed_word::{RawWord, Rounding, Word};
 
-/// The `wrapping_` calls of all numbers that round as the caller says. Operands and results are bits,
-/// in units of `2^-F`; an integer operand is a whole number. Every fraction has to be at most the
-/// width.
+/// The `wrapping_` calls that round as the caller names. If the exact result does not fit, they return the number
+/// that fits and differs from it by a multiple of `2^n` units, where n is the width. Results are in units of `2^-F`,
+/// and integer operands are whole numbers. Precondition of each call that uses F: F is at most the width.
 pub trait WrappingRounded: Number {
-    /// The product, rounded, wrapped.
+    /// Returns the product, rounded as named and wrapped.
     fn wrapping_mul_round(self, rhs: Self, rounding: Rounding) -> Self
         requires { Self.FRACTION ≤ Self.BITS }
         ensures { Some (Self.number result) ≡ wrapping Self.SIGNED Self.BITS
             (Some (rounded_mul (Self.number self) (Self.number rhs) Self.FRACTION rounding)) };
 
-    /// The quotient, rounded, wrapped.
+    /// Returns the quotient, rounded as named and wrapped. Precondition: the divisor is not 0.
     fn wrapping_div_round(self, rhs: Self, rounding: Rounding) -> Self
         requires fraction { Self.FRACTION ≤ Self.BITS }
         requires divisor { Self.number rhs ≢ pos 0 }
         ensures { Some (Self.number result) ≡ wrapping Self.SIGNED Self.BITS
             (Some (rounded_div (Self.number self) (Self.number rhs) Self.FRACTION rounding)) };
 
-    /// One over the number, rounded, wrapped.
+    /// Returns 1 over the number, rounded as named and wrapped. Precondition: the number is not 0.
     fn wrapping_recip_round(self, rounding: Rounding) -> Self
         requires fraction { Self.FRACTION ≤ Self.BITS }
         requires divisor { Self.number self ≢ pos 0 }
         ensures { Some (Self.number result) ≡ wrapping Self.SIGNED Self.BITS
             (Some (rounded_recip (Self.number self) Self.FRACTION rounding)) };
 
-    /// The quotient by an integer, rounded, wrapped.
+    /// Returns the quotient by an integer, rounded as named and wrapped. Precondition: the divisor is not 0.
     fn wrapping_div_int_round(self, rhs: Self::Bits, rounding: Rounding) -> Self
         requires { Self.Bits.value rhs ≢ pos 0 }
         ensures { Some (Self.number result) ≡ wrapping Self.SIGNED Self.BITS

@@ -1,7 +1,7 @@
-//! Square roots, one binary digit a turn, in one word, within a proved count of steps.
+//! Square roots, one binary digit at a time, within a proved number of steps.
 //!
-//! [`root`] works by the counted calls of [`Digits`](fixed_word::Digits) alone and knows no double word.
-//! It takes no memory. In docstrings "the crate" is the Rust crate `fixed`.
+//! [`root`] makes only the counted calls of [`Digits`](fixed_word::Digits), and uses no word of twice the width. It
+//! does not allocate.
 #![tactic(auto)]
 
 mod by_digit;

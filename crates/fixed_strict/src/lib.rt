@@ -1,9 +1,8 @@
-//! The policies that stay in range: saturating, and strict, which is for numbers that fit.
+//! The saturating policy, and the strict policy, which requires that the exact result fits.
 //!
-//! The functions `.._of` are those of [`fixed_word`](fixed_word), offered again: they read an
-//! [`Outcome`](fixed_word::Outcome). The traits have the typed calls of [`Fixed`](fixed_num::Fixed), each
-//! named by its policy and its operation, as in the Rust crate `fixed`; the unwrapped forms answer what the
-//! strict ones do. No function takes memory.
+//! The functions `.._of` are re-exports of [`fixed_word`](fixed_word); they read an [`Outcome`](fixed_word::Outcome).
+//! The traits have the typed calls of [`Fixed`](fixed_num::Fixed), each named by its policy and its operation, as in
+//! the Rust crate `fixed`. The unwrapped forms return the same as the strict ones. No function allocates.
 #![tactic(auto)]
 
 mod numbers;

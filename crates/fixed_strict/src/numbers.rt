@@ -1,4 +1,4 @@
-//! Saturation of numbers: what the typed calls stand on.
+//! Saturation of an outcome, as a number of a format.
 
 ghost use Rattle.std.specs.Prelude.{◌≡◌, ℤ, Some};
 ghost use Rattle.fixed_word.specs.Standing.{StandsFor};
@@ -8,7 +8,7 @@ use crate::saturating_of;
 use fixed_num::Fixed;
 use fixed_word::{Outcome, RawWord, Valued, Word, clamped_of};
 
-/// The number that fits and is nearest.
+/// Returns the nearest number that fits.
 pub(crate) fn saturating_number<T: Word, const F: u32>(outcome: Outcome<T>) -> Fixed<T, F>
     ensures { (x : ℤ) → StandsFor T.value T.SIGNED T.BITS x outcome
         → Some (T.value result.bits) ≡ saturating T.SIGNED T.BITS (Some x) }
@@ -18,7 +18,7 @@ pub(crate) fn saturating_number<T: Word, const F: u32>(outcome: Outcome<T>) -> F
     }
 }
 
-/// The same, by a choice at each end.
+/// Returns the nearest number that fits, by a choice at each end of the range.
 pub(crate) fn clamped_number<T: Word, const F: u32>(outcome: Outcome<T>) -> Fixed<T, F>
     ensures { (x : ℤ) → StandsFor T.value T.SIGNED T.BITS x outcome
         → Some (T.value result.bits) ≡ saturating T.SIGNED T.BITS (Some x) }
@@ -28,8 +28,8 @@ pub(crate) fn clamped_number<T: Word, const F: u32>(outcome: Outcome<T>) -> Fixe
     }
 }
 
-/// The same of a product or a distance: by a choice at each end in the words whose loops are
-/// faster so.
+/// Returns the nearest number that fits to a product or a distance. It chooses at each end of the range for the words
+/// whose loops are faster that way.
 pub(crate) fn held_number<T: Word, const F: u32>(outcome: Outcome<T>) -> Fixed<T, F>
     ensures { (x : ℤ) → StandsFor T.value T.SIGNED T.BITS x outcome
         → Some (T.value result.bits) ≡ saturating T.SIGNED T.BITS (Some x) }

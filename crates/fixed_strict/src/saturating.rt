@@ -1,4 +1,4 @@
-//! Operations answered with the nearest number that fits.
+//! Operations that return the nearest number that fits.
 
 ghost use Rattle.std.specs.Prelude.{◌≡◌, ◌≤◌, ◌≢◌, ◌≤ℤ◌, pos, Some, neg_ℤ, ◌*ℤ◌, ◌+ℤ◌, ◌-ℤ◌};
 ghost use Rattle.fixed_word.specs.Policies.{saturating};
@@ -15,95 +15,91 @@ use fixed_kernel::{
 use fixed_num::{Fixed, Held, Number};
 use fixed_word::{RawWord, SignedWord, UnsignedWord, Word};
 
-/// The `saturating_` forms of all numbers. Answers are bits, in units of `2^-F`; an integer
-/// operand is a whole number. A call that uses F has the condition that it is at most the width.
+/// The `saturating_` forms of all numbers. If the exact result does not fit, they return the nearest number that
+/// fits. Results are in units of `2^-F`, and integer operands are whole numbers. Precondition of each call that uses
+/// F: F is at most the width.
 pub trait Saturating: Number {
-    /// The negated number, held at the ends.
+    /// Returns the negated number, saturated.
     fn saturating_neg(self) -> Self
         ensures { Some (Self.number result)
             ≡ saturating Self.SIGNED Self.BITS (Some (neg_ℤ (Self.number self))) };
 
-    /// The sum, held at the ends.
+    /// Returns the sum, saturated.
     fn saturating_add(self, rhs: Self) -> Self
         ensures { Some (Self.number result) ≡ saturating Self.SIGNED Self.BITS
             (Some (Self.number self +ℤ Self.number rhs)) };
 
-    /// The difference, held at the ends.
+    /// Returns the difference, saturated.
     fn saturating_sub(self, rhs: Self) -> Self
         ensures { Some (Self.number result) ≡ saturating Self.SIGNED Self.BITS
             (Some (Self.number self -ℤ Self.number rhs)) };
 
-    /// The product, rounded down, held at the ends.
+    /// Returns the product, rounded down and saturated.
     fn saturating_mul(self, rhs: Self) -> Self
         requires { Self.FRACTION ≤ Self.BITS }
         ensures { Some (Self.number result) ≡ saturating Self.SIGNED Self.BITS
             (Some (exact_mul (Self.number self) (Self.number rhs) Self.FRACTION)) };
 
-    /// The quotient, rounded toward zero, held at the ends; condition that the divisor is not zero.
+    /// Returns the quotient, rounded toward zero and saturated. Precondition: the divisor is not 0.
     fn saturating_div(self, rhs: Self) -> Self
         requires fraction { Self.FRACTION ≤ Self.BITS }
         requires divisor { Self.number rhs ≢ pos 0 }
         ensures { Some (Self.number result) ≡ saturating Self.SIGNED Self.BITS
             (Some (exact_div (Self.number self) (Self.number rhs) Self.FRACTION)) };
 
-    /// One over the number, rounded toward zero, held at the ends; condition that the number is not
-    /// zero.
+    /// Returns 1 over the number, rounded toward zero and saturated. Precondition: the number is not 0.
     fn saturating_recip(self) -> Self
         requires fraction { Self.FRACTION ≤ Self.BITS }
         requires divisor { Self.number self ≢ pos 0 }
         ensures { Some (Self.number result) ≡ saturating Self.SIGNED Self.BITS
             (Some (exact_recip (Self.number self) Self.FRACTION)) };
 
-    /// The Euclidean quotient, a whole number, held at the ends; condition that the divisor is not
-    /// zero.
+    /// Returns the Euclidean quotient, which is a whole number, saturated. Precondition: the divisor is not 0.
     fn saturating_div_euclid(self, rhs: Self) -> Self
         requires fraction { Self.FRACTION ≤ Self.BITS }
         requires divisor { Self.number rhs ≢ pos 0 }
         ensures { Some (Self.number result) ≡ saturating Self.SIGNED Self.BITS
             (Some (exact_div_euclid (Self.number self) (Self.number rhs) Self.FRACTION)) };
 
-    /// The distance of both numbers, held at the ends.
+    /// Returns the distance between the numbers, saturated.
     fn saturating_dist(self, other: Self) -> Self
         ensures { Some (Self.number result) ≡ saturating Self.SIGNED Self.BITS
             (Some (exact_abs (Self.number self -ℤ Self.number other))) };
 
-    /// The next multiple of `other`, upward where it is above zero and downward where it is below,
-    /// held at the ends; condition that `other` is not zero.
+    /// Returns the next multiple of `other`, upward if `other` is positive and downward if it is negative, saturated.
+    /// Precondition: `other` is not 0.
     fn saturating_next_multiple_of(self, other: Self) -> Self
         requires { Self.number other ≢ pos 0 }
         ensures { Some (Self.number result) ≡ saturating Self.SIGNED Self.BITS
             (Some (exact_next_multiple_of (Self.number self) (Self.number other))) };
 
-    /// The product by an integer, held at the ends.
+    /// Returns the product by an integer, saturated.
     fn saturating_mul_int(self, rhs: Self::Bits) -> Self
         ensures { Some (Self.number result) ≡ saturating Self.SIGNED Self.BITS
             (Some (Self.number self *ℤ Self.Bits.value rhs)) };
 
-    /// The quotient by an integer, rounded toward zero, held at the ends; condition that the
-    /// divisor is not zero.
+    /// Returns the quotient by an integer, rounded toward zero and saturated. Precondition: the divisor is not 0.
     fn saturating_div_int(self, rhs: Self::Bits) -> Self
         requires { Self.Bits.value rhs ≢ pos 0 }
         ensures { Some (Self.number result) ≡ saturating Self.SIGNED Self.BITS
             (Some (truncated_quotient (Self.number self) (Self.Bits.value rhs))) };
 
-    /// The Euclidean remainder by an integer, held at the ends; condition that the divisor is not
-    /// zero.
+    /// Returns the Euclidean remainder by an integer, saturated. Precondition: the divisor is not 0.
     fn saturating_rem_euclid_int(self, rhs: Self::Bits) -> Self
         requires fraction { Self.FRACTION ≤ Self.BITS }
         requires divisor { Self.Bits.value rhs ≢ pos 0 }
         ensures { Some (Self.number result) ≡ saturating Self.SIGNED Self.BITS
             (Some (euclidean_remainder (Self.number self) (units (Self.Bits.value rhs) Self.FRACTION))) };
 
-    /// The Euclidean quotient by an integer, a whole number, held at the ends; condition that the
-    /// divisor is not zero.
+    /// Returns the Euclidean quotient by an integer, which is a whole number, saturated. Precondition: the divisor is
+    /// not 0.
     fn saturating_div_euclid_int(self, rhs: Self::Bits) -> Self
         requires fraction { Self.FRACTION ≤ Self.BITS }
         requires divisor { Self.Bits.value rhs ≢ pos 0 }
         ensures { Some (Self.number result) ≡ saturating Self.SIGNED Self.BITS
             (Some (exact_div_euclid (Self.number self) (units (Self.Bits.value rhs) Self.FRACTION) Self.FRACTION)) };
 
-    /// The square root, rounded down, held at the ends; condition that the number is not below
-    /// zero.
+    /// Returns the square root, rounded down and saturated. Precondition: the number is not negative.
     fn saturating_sqrt(self) -> Self
         requires fraction { Self.FRACTION ≤ Self.BITS }
         requires sign { pos 0 ≤ℤ Self.number self }
@@ -171,23 +167,23 @@ impl<T: Word, const F: u32> Saturating for Fixed<T, F> {
 
 /// The `saturating_` forms of signed numbers.
 pub trait SaturatingSigned: Saturating {
-    /// The magnitude, held at the ends.
+    /// Returns the magnitude, saturated.
     fn saturating_abs(self) -> Self
         ensures { Some (Self.number result)
             ≡ saturating Self.SIGNED Self.BITS (Some (exact_abs (Self.number self))) };
 
-    /// One by the sign of the number: 1, 0 or -1, held at the ends.
+    /// Returns the sign as a number: 1, 0 or -1, saturated.
     fn saturating_signum(self) -> Self
         requires { Self.FRACTION ≤ Self.BITS }
         ensures { Some (Self.number result) ≡ saturating Self.SIGNED Self.BITS
             (Some (exact_signum (Self.number self) Self.FRACTION)) };
 
-    /// The sum with an unsigned number, held at the ends.
+    /// Returns the sum with an unsigned number, saturated.
     fn saturating_add_unsigned(self, rhs: Self::Unsigned) -> Self
         ensures { Some (Self.number result) ≡ saturating Self.SIGNED Self.BITS
             (Some (Self.number self +ℤ Self.Unsigned.number rhs)) };
 
-    /// The number minus an unsigned one, held at the ends.
+    /// Returns the number minus an unsigned number, saturated.
     fn saturating_sub_unsigned(self, rhs: Self::Unsigned) -> Self
         ensures { Some (Self.number result) ≡ saturating Self.SIGNED Self.BITS
             (Some (Self.number self -ℤ Self.Unsigned.number rhs)) };
@@ -213,12 +209,12 @@ impl<T: SignedWord, const F: u32> SaturatingSigned for Fixed<T, F> {
 
 /// The `saturating_` forms of unsigned numbers.
 pub trait SaturatingUnsigned: Saturating {
-    /// The sum with a signed number, held at the ends.
+    /// Returns the sum with a signed number, saturated.
     fn saturating_add_signed(self, rhs: Self::Signed) -> Self
         ensures { Some (Self.number result) ≡ saturating Self.SIGNED Self.BITS
             (Some (Self.number self +ℤ Self.Signed.number rhs)) };
 
-    /// The number minus a signed one, held at the ends.
+    /// Returns the number minus a signed number, saturated.
     fn saturating_sub_signed(self, rhs: Self::Signed) -> Self
         ensures { Some (Self.number result) ≡ saturating Self.SIGNED Self.BITS
             (Some (Self.number self -ℤ Self.Signed.number rhs)) };

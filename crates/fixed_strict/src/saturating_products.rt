@@ -1,4 +1,4 @@
-//! The `saturating_` forms of multiply-add and of sums of products, of factors of other fractions.
+//! The `saturating_` forms of multiply-add and of sums of products. The factors may have other fractions.
 
 ghost use Rattle.std.specs.Prelude.{◌≡◌, ◌≤◌, Some};
 ghost use Rattle.fixed_word.specs.Policies.{saturating};
@@ -10,16 +10,15 @@ use fixed_kernel::{add_prod_of, add_prod_round_of, mul_add_of, mul_add_round_of}
 use fixed_num::{Fixed, Held, Number};
 use fixed_word::{RawWord, Rounding, Word};
 
-/// Multiply-add by a factor of G fraction bits.
+/// Multiply-add by a factor with G fraction bits. Precondition of each call: G is at most the width.
 pub trait SaturatingMulAdd<const G: u32>: Number {
-    /// The product by `mul`, rounded down, plus `add`, held at the ends. The product alone may lie
-    /// outside. Condition: G is at most the width.
+    /// Returns the product by `mul`, rounded down, plus `add`, saturated. The product alone may be out of range.
     fn saturating_mul_add(self, mul: Fixed<Self::Bits, G>, add: Self) -> Self
         requires { G ≤ Self.BITS }
         ensures { Some (Self.number result) ≡ saturating Self.SIGNED Self.BITS (Some
             (exact_mul_add (Self.number self) (Self.Bits.value mul.bits) (Self.number add) G)) };
 
-    /// The product by `mul`, rounded, plus `add`, or the end of the range beyond which it lies.
+    /// Returns the product by `mul`, rounded as named, plus `add`, saturated.
     fn saturating_mul_add_round(
         self,
         mul: Fixed<Self::Bits, G>,
@@ -50,10 +49,11 @@ impl<T: Word, const F: u32, const G: u32> SaturatingMulAdd<G> for Fixed<T, F> {
     }
 }
 
-/// Sums with a product of factors of A and B fraction bits.
+/// Sums with a product of factors with A and B fraction bits. Precondition of each call: F, A and B are at most the
+/// width.
 pub trait SaturatingProducts<const A: u32, const B: u32>: Number {
-    /// The number plus the product of `a` and `b`, which is brought to the number's fraction and
-    /// rounded down, held at the ends. Condition: every fraction is at most the width.
+    /// Returns the number plus the product of `a` and `b`, which is rounded down to the number's fraction bits,
+    /// saturated.
     fn saturating_add_prod(self, a: Fixed<Self::Bits, A>, b: Fixed<Self::Bits, B>) -> Self
         requires fraction { Self.FRACTION ≤ Self.BITS }
         requires a { A ≤ Self.BITS }
@@ -62,8 +62,8 @@ pub trait SaturatingProducts<const A: u32, const B: u32>: Number {
             ≡ saturating Self.SIGNED Self.BITS (Some (exact_add_prod (Self.number self)
             (Self.Bits.value a.bits) (Self.Bits.value b.bits) Self.FRACTION A B)) };
 
-    /// The number plus the product of `a` and `b`, which is rounded to the number's fraction bits, or
-    /// the end of the range beyond which it lies.
+    /// Returns the number plus the product of `a` and `b`, which is rounded as named to the number's fraction bits,
+    /// saturated.
     fn saturating_add_prod_round(
         self,
         a: Fixed<Self::Bits, A>,
@@ -77,7 +77,7 @@ pub trait SaturatingProducts<const A: u32, const B: u32>: Number {
             (Some (rounded_add_prod (Self.number self) (Self.Bits.value a.bits) (Self.Bits.value b.bits)
             Self.FRACTION A B rounding)) };
 
-    /// Stores what `saturating_add_prod` answers, under its condition.
+    /// Stores the result of `saturating_add_prod` in the number.
     fn saturating_mul_acc(&mut self, a: Fixed<Self::Bits, A>, b: Fixed<Self::Bits, B>)
         requires fraction { Self.FRACTION ≤ Self.BITS }
         requires a { A ≤ Self.BITS }

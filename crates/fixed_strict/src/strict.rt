@@ -1,4 +1,4 @@
-//! Operations for numbers that fit.
+//! Operations whose precondition is that the exact result fits.
 
 ghost use Rattle.std.specs.Prelude.{◌<◌, ◌%◌, ◌^◌, ◌*ℤ◌, ◌≡◌, ◌≤◌, ◌≢◌, ◌≤ℤ◌, pos, neg_ℤ, ◌+ℤ◌, ◌-ℤ◌};
 ghost use Rattle.fixed_word.specs.Format.{InRange, wrap};
@@ -14,25 +14,25 @@ use fixed_kernel::{
 use fixed_num::{Fixed, Held, Number, exact_number};
 use fixed_word::{RawWord, SignedWord, UnsignedWord, Word};
 
-/// The `strict_` forms of all numbers. Answers are bits, in units of `2^-F`; an integer
-/// operand is a whole number. A call that uses F has the condition that it is at most the width.
+/// The `strict_` forms of all numbers. Precondition of each call: the exact result fits. Results are in units of
+/// `2^-F`, and integer operands are whole numbers. Precondition of each call that uses F: F is at most the width.
 pub trait Strict: Number {
-    /// The negated number; condition that the answer fits.
+    /// Returns the negated number. Precondition: it fits.
     fn strict_neg(self) -> Self
         requires { InRange Self.SIGNED Self.BITS (neg_ℤ (Self.number self)) }
         ensures { Self.number result ≡ neg_ℤ (Self.number self) };
 
-    /// The sum; condition that the answer fits.
+    /// Returns the sum. Precondition: it fits.
     fn strict_add(self, rhs: Self) -> Self
         requires { InRange Self.SIGNED Self.BITS (Self.number self +ℤ Self.number rhs) }
         ensures { Self.number result ≡ Self.number self +ℤ Self.number rhs };
 
-    /// The difference; condition that the answer fits.
+    /// Returns the difference. Precondition: it fits.
     fn strict_sub(self, rhs: Self) -> Self
         requires { InRange Self.SIGNED Self.BITS (Self.number self -ℤ Self.number rhs) }
         ensures { Self.number result ≡ Self.number self -ℤ Self.number rhs };
 
-    /// The product, rounded down; condition that the answer fits.
+    /// Returns the product, rounded down. Precondition: it fits.
     fn strict_mul(self, rhs: Self) -> Self
         requires fraction { Self.FRACTION ≤ Self.BITS }
         requires fits { InRange Self.SIGNED Self.BITS
@@ -40,8 +40,7 @@ pub trait Strict: Number {
         ensures { Self.number result
             ≡ exact_mul (Self.number self) (Self.number rhs) Self.FRACTION };
 
-    /// The quotient, rounded toward zero; condition that the divisor is not zero and the answer
-    /// fits.
+    /// Returns the quotient, rounded toward zero. Preconditions: the divisor is not 0, and the result fits.
     fn strict_div(self, rhs: Self) -> Self
         requires fraction { Self.FRACTION ≤ Self.BITS }
         requires divisor { Self.number rhs ≢ pos 0 }
@@ -50,8 +49,7 @@ pub trait Strict: Number {
         ensures { Self.number result
             ≡ exact_div (Self.number self) (Self.number rhs) Self.FRACTION };
 
-    /// One over the number, rounded toward zero; condition that the number is not zero and the
-    /// answer fits.
+    /// Returns 1 over the number, rounded toward zero. Preconditions: the number is not 0, and the result fits.
     fn strict_recip(self) -> Self
         requires fraction { Self.FRACTION ≤ Self.BITS }
         requires divisor { Self.number self ≢ pos 0 }
@@ -59,23 +57,23 @@ pub trait Strict: Number {
             (exact_recip (Self.number self) Self.FRACTION) }
         ensures { Self.number result ≡ exact_recip (Self.number self) Self.FRACTION };
 
-    /// The remainder of the quotient that is rounded toward zero; condition that the divisor is not
-    /// zero and the answer fits.
+    /// Returns the remainder of the quotient that is rounded toward zero. It always fits. Precondition: the divisor
+    /// is not 0.
     fn strict_rem(self, rhs: Self) -> Self
         requires divisor { Self.number rhs ≢ pos 0 }
         requires fits { InRange Self.SIGNED Self.BITS
             (exact_rem (Self.number self) (Self.number rhs)) }
         ensures { Self.number result ≡ exact_rem (Self.number self) (Self.number rhs) };
 
-    /// The Euclidean remainder; condition that the divisor is not zero and the answer fits.
+    /// Returns the Euclidean remainder, which is at least 0. It always fits. Precondition: the divisor is not 0.
     fn strict_rem_euclid(self, rhs: Self) -> Self
         requires divisor { Self.number rhs ≢ pos 0 }
         requires fits { InRange Self.SIGNED Self.BITS
             (euclidean_remainder (Self.number self) (Self.number rhs)) }
         ensures { Self.number result ≡ euclidean_remainder (Self.number self) (Self.number rhs) };
 
-    /// The Euclidean quotient, a whole number; condition that the divisor is not zero and the
-    /// answer fits.
+    /// Returns the Euclidean quotient, which is a whole number. Preconditions: the divisor is not 0, and the result
+    /// fits.
     fn strict_div_euclid(self, rhs: Self) -> Self
         requires fraction { Self.FRACTION ≤ Self.BITS }
         requires divisor { Self.number rhs ≢ pos 0 }
@@ -84,14 +82,14 @@ pub trait Strict: Number {
         ensures { Self.number result
             ≡ exact_div_euclid (Self.number self) (Self.number rhs) Self.FRACTION };
 
-    /// The distance of both numbers; condition that the answer fits.
+    /// Returns the distance between the numbers. Precondition: it fits.
     fn strict_dist(self, other: Self) -> Self
         requires { InRange Self.SIGNED Self.BITS
             (exact_abs (Self.number self -ℤ Self.number other)) }
         ensures { Self.number result ≡ exact_abs (Self.number self -ℤ Self.number other) };
 
-    /// The next multiple of `other`, upward where it is above zero and downward where it is below;
-    /// condition that `other` is not zero and the answer fits.
+    /// Returns the next multiple of `other`, upward if `other` is positive and downward if it is negative.
+    /// Preconditions: `other` is not 0, and the result fits.
     fn strict_next_multiple_of(self, other: Self) -> Self
         requires divisor { Self.number other ≢ pos 0 }
         requires fits { InRange Self.SIGNED Self.BITS
@@ -99,22 +97,22 @@ pub trait Strict: Number {
         ensures { Self.number result
             ≡ exact_next_multiple_of (Self.number self) (Self.number other) };
 
-    /// The product by an integer; condition that the answer fits.
+    /// Returns the product by an integer. Precondition: it fits.
     fn strict_mul_int(self, rhs: Self::Bits) -> Self
         requires { InRange Self.SIGNED Self.BITS
             (Self.number self *ℤ Self.Bits.value rhs) }
         ensures { Self.number result ≡ Self.number self *ℤ Self.Bits.value rhs };
 
-    /// The quotient by an integer, rounded toward zero; condition that the divisor is not zero and
-    /// the answer fits.
+    /// Returns the quotient by an integer, rounded toward zero. Preconditions: the divisor is not 0, and the result
+    /// fits.
     fn strict_div_int(self, rhs: Self::Bits) -> Self
         requires divisor { Self.Bits.value rhs ≢ pos 0 }
         requires fits { InRange Self.SIGNED Self.BITS
             (truncated_quotient (Self.number self) (Self.Bits.value rhs)) }
         ensures { Self.number result ≡ truncated_quotient (Self.number self) (Self.Bits.value rhs) };
 
-    /// The remainder by an integer, of the quotient that is rounded toward zero; condition that the
-    /// divisor is not zero and the answer fits.
+    /// Returns the remainder by an integer, of the quotient that is rounded toward zero. It always fits.
+    /// Precondition: the divisor is not 0.
     fn strict_rem_int(self, rhs: Self::Bits) -> Self
         requires fraction { Self.FRACTION ≤ Self.BITS }
         requires divisor { Self.Bits.value rhs ≢ pos 0 }
@@ -123,8 +121,7 @@ pub trait Strict: Number {
         ensures { Self.number result
             ≡ exact_rem (Self.number self) (units (Self.Bits.value rhs) Self.FRACTION) };
 
-    /// The Euclidean remainder by an integer; condition that the divisor is not zero and the answer
-    /// fits.
+    /// Returns the Euclidean remainder by an integer. Preconditions: the divisor is not 0, and the result fits.
     fn strict_rem_euclid_int(self, rhs: Self::Bits) -> Self
         requires fraction { Self.FRACTION ≤ Self.BITS }
         requires divisor { Self.Bits.value rhs ≢ pos 0 }
@@ -133,8 +130,8 @@ pub trait Strict: Number {
         ensures { Self.number result
             ≡ euclidean_remainder (Self.number self) (units (Self.Bits.value rhs) Self.FRACTION) };
 
-    /// The Euclidean quotient by an integer, a whole number; condition that the divisor is not zero
-    /// and the answer fits.
+    /// Returns the Euclidean quotient by an integer, which is a whole number. Preconditions: the divisor is not 0,
+    /// and the result fits.
     fn strict_div_euclid_int(self, rhs: Self::Bits) -> Self
         requires fraction { Self.FRACTION ≤ Self.BITS }
         requires divisor { Self.Bits.value rhs ≢ pos 0 }
@@ -143,8 +140,7 @@ pub trait Strict: Number {
         ensures { Self.number result
             ≡ exact_div_euclid (Self.number self) (units (Self.Bits.value rhs) Self.FRACTION) Self.FRACTION };
 
-    /// The square root, rounded down; condition that the number is not below zero and the answer
-    /// fits.
+    /// Returns the square root, rounded down. Preconditions: the number is not negative, and the root fits.
     fn strict_sqrt(self) -> Self
         requires fraction { Self.FRACTION ≤ Self.BITS }
         requires sign { pos 0 ≤ℤ Self.number self }
@@ -152,14 +148,13 @@ pub trait Strict: Number {
             (root_of (Self.number self) Self.FRACTION) }
         ensures { Self.number result ≡ root_of (Self.number self) Self.FRACTION };
 
-    /// The bits moved up by `rhs` places, without what lies past the width; condition that `rhs` is
-    /// below the width.
+    /// Returns the bits shifted left by `rhs`; bits shifted out are lost. Precondition: `rhs` is below the width.
     fn strict_shl(self, rhs: u32) -> Self
         requires { rhs < Self.BITS }
         ensures { Self.number result
             ≡ wrap Self.SIGNED Self.BITS (Self.number self *ℤ pos (2 ^ rhs)) };
 
-    /// The bits moved down by `rhs` places, rounded down; condition that `rhs` is below the width.
+    /// Returns the bits shifted right by `rhs`, rounded down. Precondition: `rhs` is below the width.
     fn strict_shr(self, rhs: u32) -> Self
         requires { rhs < Self.BITS }
         ensures { Self.number result ≡ floor_quotient (Self.number self) (2 ^ rhs) };
@@ -245,25 +240,25 @@ impl<T: Word, const F: u32> Strict for Fixed<T, F> {
 
 /// The `strict_` forms of signed numbers.
 pub trait StrictSigned: Strict {
-    /// The magnitude; condition that the answer fits.
+    /// Returns the magnitude. Precondition: it fits.
     fn strict_abs(self) -> Self
         requires { InRange Self.SIGNED Self.BITS (exact_abs (Self.number self)) }
         ensures { Self.number result ≡ exact_abs (Self.number self) };
 
-    /// One by the sign of the number: 1, 0 or -1; condition that the answer fits.
+    /// Returns the sign as a number: 1, 0 or -1. Precondition: it fits.
     fn strict_signum(self) -> Self
         requires fraction { Self.FRACTION ≤ Self.BITS }
         requires fits { InRange Self.SIGNED Self.BITS
             (exact_signum (Self.number self) Self.FRACTION) }
         ensures { Self.number result ≡ exact_signum (Self.number self) Self.FRACTION };
 
-    /// The sum with an unsigned number; condition that the answer fits.
+    /// Returns the sum with an unsigned number. Precondition: it fits.
     fn strict_add_unsigned(self, rhs: Self::Unsigned) -> Self
         requires { InRange Self.SIGNED Self.BITS
             (Self.number self +ℤ Self.Unsigned.number rhs) }
         ensures { Self.number result ≡ Self.number self +ℤ Self.Unsigned.number rhs };
 
-    /// The number minus an unsigned one; condition that the answer fits.
+    /// Returns the number minus an unsigned number. Precondition: it fits.
     fn strict_sub_unsigned(self, rhs: Self::Unsigned) -> Self
         requires { InRange Self.SIGNED Self.BITS
             (Self.number self -ℤ Self.Unsigned.number rhs) }
@@ -290,19 +285,18 @@ impl<T: SignedWord, const F: u32> StrictSigned for Fixed<T, F> {
 
 /// The `strict_` forms of unsigned numbers.
 pub trait StrictUnsigned: Strict {
-    /// The least power of two, in units, that is at least the number; condition that the answer
-    /// fits.
+    /// Returns the least number, not below this one, whose bits are a power of two. Precondition: it fits.
     fn strict_next_power_of_two(self) -> Self
         requires { InRange Self.SIGNED Self.BITS (exact_next_power_of_two (Self.number self)) }
         ensures { Self.number result ≡ exact_next_power_of_two (Self.number self) };
 
-    /// The sum with a signed number; condition that the answer fits.
+    /// Returns the sum with a signed number. Precondition: it fits.
     fn strict_add_signed(self, rhs: Self::Signed) -> Self
         requires { InRange Self.SIGNED Self.BITS
             (Self.number self +ℤ Self.Signed.number rhs) }
         ensures { Self.number result ≡ Self.number self +ℤ Self.Signed.number rhs };
 
-    /// The number minus a signed one; condition that the answer fits.
+    /// Returns the number minus a signed number. Precondition: it fits.
     fn strict_sub_signed(self, rhs: Self::Signed) -> Self
         requires { InRange Self.SIGNED Self.BITS
             (Self.number self -ℤ Self.Signed.number rhs) }

@@ -1,4 +1,4 @@
-//! The `strict_` calls with a named rounding. They are this project's own.
+//! The `strict_` calls with a named rounding. `fixed` does not have them.
 
 ghost use Rattle.std.specs.Prelude.{◌≡◌, ◌≤◌, ◌≢◌, pos};
 ghost use Rattle.fixed_word.specs.Format.{InRange};
@@ -9,10 +9,11 @@ use fixed_kernel::{div_int_round_of, div_round_of, mul_round_of, recip_round_of}
 use fixed_num::{Fixed, Held, Number, exact_number};
 use fixed_word::{RawWord, Rounding, Word};
 
-/// The `strict_` calls of all numbers that round as the caller says. Operands and results are bits, in
-/// units of `2^-F`; an integer operand is a whole number. Every fraction has to be at most the width.
+/// The `strict_` calls that round as the caller names. Precondition of each call: the exact result fits. Results are
+/// in units of `2^-F`, and integer operands are whole numbers. Precondition of each call that uses F: F is at most
+/// the width.
 pub trait StrictRounded: Number {
-    /// The product, rounded, which has to fit.
+    /// Returns the product, rounded as named. Precondition: it fits.
     fn strict_mul_round(self, rhs: Self, rounding: Rounding) -> Self
         requires fraction { Self.FRACTION ≤ Self.BITS }
         requires fits { InRange Self.SIGNED Self.BITS
@@ -20,7 +21,7 @@ pub trait StrictRounded: Number {
         ensures { Self.number result
             ≡ rounded_mul (Self.number self) (Self.number rhs) Self.FRACTION rounding };
 
-    /// The quotient, rounded, which has to fit.
+    /// Returns the quotient, rounded as named. Preconditions: the divisor is not 0, and the result fits.
     fn strict_div_round(self, rhs: Self, rounding: Rounding) -> Self
         requires fraction { Self.FRACTION ≤ Self.BITS }
         requires divisor { Self.number rhs ≢ pos 0 }
@@ -29,7 +30,7 @@ pub trait StrictRounded: Number {
         ensures { Self.number result
             ≡ rounded_div (Self.number self) (Self.number rhs) Self.FRACTION rounding };
 
-    /// One over the number, rounded, which has to fit.
+    /// Returns 1 over the number, rounded as named. Preconditions: the number is not 0, and the result fits.
     fn strict_recip_round(self, rounding: Rounding) -> Self
         requires fraction { Self.FRACTION ≤ Self.BITS }
         requires divisor { Self.number self ≢ pos 0 }
@@ -38,7 +39,8 @@ pub trait StrictRounded: Number {
         ensures { Self.number result
             ≡ rounded_recip (Self.number self) Self.FRACTION rounding };
 
-    /// The quotient by an integer, rounded, which has to fit.
+    /// Returns the quotient by an integer, rounded as named. Preconditions: the divisor is not 0, and the result
+    /// fits.
     fn strict_div_int_round(self, rhs: Self::Bits, rounding: Rounding) -> Self
         requires divisor { Self.Bits.value rhs ≢ pos 0 }
         requires fits { InRange Self.SIGNED Self.BITS

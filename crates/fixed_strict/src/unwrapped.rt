@@ -1,4 +1,4 @@
-//! Operations for numbers that fit, as the strict forms.
+//! Operations whose precondition is that the exact result fits, as in the strict forms.
 
 ghost use Rattle.std.specs.Prelude.{◌<◌, ◌%◌, ◌^◌, ◌*ℤ◌, ◌≡◌, ◌≤◌, ◌≢◌, ◌≤ℤ◌, pos, neg_ℤ, ◌+ℤ◌, ◌-ℤ◌};
 ghost use Rattle.fixed_word.specs.Format.{InRange, wrap};
@@ -10,25 +10,25 @@ use crate::strict::{Strict, StrictSigned, StrictUnsigned};
 use fixed_num::{Fixed, Held, Number};
 use fixed_word::{RawWord, SignedWord, UnsignedWord, Word};
 
-/// The `unwrapped_` forms of all numbers. Answers are bits, in units of `2^-F`; an integer
-/// operand is a whole number. A call that uses F has the condition that it is at most the width.
+/// The `unwrapped_` forms of all numbers. Precondition of each call: the exact result fits. Results are in units of
+/// `2^-F`, and integer operands are whole numbers. Precondition of each call that uses F: F is at most the width.
 pub trait Unwrapped: Number {
-    /// The negated number; condition that the answer fits.
+    /// Returns the negated number. Precondition: it fits.
     fn unwrapped_neg(self) -> Self
         requires { InRange Self.SIGNED Self.BITS (neg_ℤ (Self.number self)) }
         ensures { Self.number result ≡ neg_ℤ (Self.number self) };
 
-    /// The sum; condition that the answer fits.
+    /// Returns the sum. Precondition: it fits.
     fn unwrapped_add(self, rhs: Self) -> Self
         requires { InRange Self.SIGNED Self.BITS (Self.number self +ℤ Self.number rhs) }
         ensures { Self.number result ≡ Self.number self +ℤ Self.number rhs };
 
-    /// The difference; condition that the answer fits.
+    /// Returns the difference. Precondition: it fits.
     fn unwrapped_sub(self, rhs: Self) -> Self
         requires { InRange Self.SIGNED Self.BITS (Self.number self -ℤ Self.number rhs) }
         ensures { Self.number result ≡ Self.number self -ℤ Self.number rhs };
 
-    /// The product, rounded down; condition that the answer fits.
+    /// Returns the product, rounded down. Precondition: it fits.
     fn unwrapped_mul(self, rhs: Self) -> Self
         requires fraction { Self.FRACTION ≤ Self.BITS }
         requires fits { InRange Self.SIGNED Self.BITS
@@ -36,8 +36,7 @@ pub trait Unwrapped: Number {
         ensures { Self.number result
             ≡ exact_mul (Self.number self) (Self.number rhs) Self.FRACTION };
 
-    /// The quotient, rounded toward zero; condition that the divisor is not zero and the answer
-    /// fits.
+    /// Returns the quotient, rounded toward zero. Preconditions: the divisor is not 0, and the result fits.
     fn unwrapped_div(self, rhs: Self) -> Self
         requires fraction { Self.FRACTION ≤ Self.BITS }
         requires divisor { Self.number rhs ≢ pos 0 }
@@ -46,8 +45,7 @@ pub trait Unwrapped: Number {
         ensures { Self.number result
             ≡ exact_div (Self.number self) (Self.number rhs) Self.FRACTION };
 
-    /// One over the number, rounded toward zero; condition that the number is not zero and the
-    /// answer fits.
+    /// Returns 1 over the number, rounded toward zero. Preconditions: the number is not 0, and the result fits.
     fn unwrapped_recip(self) -> Self
         requires fraction { Self.FRACTION ≤ Self.BITS }
         requires divisor { Self.number self ≢ pos 0 }
@@ -55,23 +53,23 @@ pub trait Unwrapped: Number {
             (exact_recip (Self.number self) Self.FRACTION) }
         ensures { Self.number result ≡ exact_recip (Self.number self) Self.FRACTION };
 
-    /// The remainder of the quotient that is rounded toward zero; condition that the divisor is not
-    /// zero and the answer fits.
+    /// Returns the remainder of the quotient that is rounded toward zero. It always fits. Precondition: the divisor
+    /// is not 0.
     fn unwrapped_rem(self, rhs: Self) -> Self
         requires divisor { Self.number rhs ≢ pos 0 }
         requires fits { InRange Self.SIGNED Self.BITS
             (exact_rem (Self.number self) (Self.number rhs)) }
         ensures { Self.number result ≡ exact_rem (Self.number self) (Self.number rhs) };
 
-    /// The Euclidean remainder; condition that the divisor is not zero and the answer fits.
+    /// Returns the Euclidean remainder, which is at least 0. It always fits. Precondition: the divisor is not 0.
     fn unwrapped_rem_euclid(self, rhs: Self) -> Self
         requires divisor { Self.number rhs ≢ pos 0 }
         requires fits { InRange Self.SIGNED Self.BITS
             (euclidean_remainder (Self.number self) (Self.number rhs)) }
         ensures { Self.number result ≡ euclidean_remainder (Self.number self) (Self.number rhs) };
 
-    /// The Euclidean quotient, a whole number; condition that the divisor is not zero and the
-    /// answer fits.
+    /// Returns the Euclidean quotient, which is a whole number. Preconditions: the divisor is not 0, and the result
+    /// fits.
     fn unwrapped_div_euclid(self, rhs: Self) -> Self
         requires fraction { Self.FRACTION ≤ Self.BITS }
         requires divisor { Self.number rhs ≢ pos 0 }
@@ -80,14 +78,14 @@ pub trait Unwrapped: Number {
         ensures { Self.number result
             ≡ exact_div_euclid (Self.number self) (Self.number rhs) Self.FRACTION };
 
-    /// The distance of both numbers; condition that the answer fits.
+    /// Returns the distance between the numbers. Precondition: it fits.
     fn unwrapped_dist(self, other: Self) -> Self
         requires { InRange Self.SIGNED Self.BITS
             (exact_abs (Self.number self -ℤ Self.number other)) }
         ensures { Self.number result ≡ exact_abs (Self.number self -ℤ Self.number other) };
 
-    /// The next multiple of `other`, upward where it is above zero and downward where it is below;
-    /// condition that `other` is not zero and the answer fits.
+    /// Returns the next multiple of `other`, upward if `other` is positive and downward if it is negative.
+    /// Preconditions: `other` is not 0, and the result fits.
     fn unwrapped_next_multiple_of(self, other: Self) -> Self
         requires divisor { Self.number other ≢ pos 0 }
         requires fits { InRange Self.SIGNED Self.BITS
@@ -95,22 +93,22 @@ pub trait Unwrapped: Number {
         ensures { Self.number result
             ≡ exact_next_multiple_of (Self.number self) (Self.number other) };
 
-    /// The product by an integer; condition that the answer fits.
+    /// Returns the product by an integer. Precondition: it fits.
     fn unwrapped_mul_int(self, rhs: Self::Bits) -> Self
         requires { InRange Self.SIGNED Self.BITS
             (Self.number self *ℤ Self.Bits.value rhs) }
         ensures { Self.number result ≡ Self.number self *ℤ Self.Bits.value rhs };
 
-    /// The quotient by an integer, rounded toward zero; condition that the divisor is not zero and
-    /// the answer fits.
+    /// Returns the quotient by an integer, rounded toward zero. Preconditions: the divisor is not 0, and the result
+    /// fits.
     fn unwrapped_div_int(self, rhs: Self::Bits) -> Self
         requires divisor { Self.Bits.value rhs ≢ pos 0 }
         requires fits { InRange Self.SIGNED Self.BITS
             (truncated_quotient (Self.number self) (Self.Bits.value rhs)) }
         ensures { Self.number result ≡ truncated_quotient (Self.number self) (Self.Bits.value rhs) };
 
-    /// The remainder by an integer, of the quotient that is rounded toward zero; condition that the
-    /// divisor is not zero and the answer fits.
+    /// Returns the remainder by an integer, of the quotient that is rounded toward zero. It always fits.
+    /// Precondition: the divisor is not 0.
     fn unwrapped_rem_int(self, rhs: Self::Bits) -> Self
         requires fraction { Self.FRACTION ≤ Self.BITS }
         requires divisor { Self.Bits.value rhs ≢ pos 0 }
@@ -119,8 +117,7 @@ pub trait Unwrapped: Number {
         ensures { Self.number result
             ≡ exact_rem (Self.number self) (units (Self.Bits.value rhs) Self.FRACTION) };
 
-    /// The Euclidean remainder by an integer; condition that the divisor is not zero and the answer
-    /// fits.
+    /// Returns the Euclidean remainder by an integer. Preconditions: the divisor is not 0, and the result fits.
     fn unwrapped_rem_euclid_int(self, rhs: Self::Bits) -> Self
         requires fraction { Self.FRACTION ≤ Self.BITS }
         requires divisor { Self.Bits.value rhs ≢ pos 0 }
@@ -129,8 +126,8 @@ pub trait Unwrapped: Number {
         ensures { Self.number result
             ≡ euclidean_remainder (Self.number self) (units (Self.Bits.value rhs) Self.FRACTION) };
 
-    /// The Euclidean quotient by an integer, a whole number; condition that the divisor is not zero
-    /// and the answer fits.
+    /// Returns the Euclidean quotient by an integer, which is a whole number. Preconditions: the divisor is not 0,
+    /// and the result fits.
     fn unwrapped_div_euclid_int(self, rhs: Self::Bits) -> Self
         requires fraction { Self.FRACTION ≤ Self.BITS }
         requires divisor { Self.Bits.value rhs ≢ pos 0 }
@@ -139,8 +136,7 @@ pub trait Unwrapped: Number {
         ensures { Self.number result
             ≡ exact_div_euclid (Self.number self) (units (Self.Bits.value rhs) Self.FRACTION) Self.FRACTION };
 
-    /// The square root, rounded down; condition that the number is not below zero and the answer
-    /// fits.
+    /// Returns the square root, rounded down. Preconditions: the number is not negative, and the root fits.
     fn unwrapped_sqrt(self) -> Self
         requires fraction { Self.FRACTION ≤ Self.BITS }
         requires sign { pos 0 ≤ℤ Self.number self }
@@ -148,14 +144,13 @@ pub trait Unwrapped: Number {
             (root_of (Self.number self) Self.FRACTION) }
         ensures { Self.number result ≡ root_of (Self.number self) Self.FRACTION };
 
-    /// The bits moved up by `rhs` places, without what lies past the width; condition that `rhs` is
-    /// below the width.
+    /// Returns the bits shifted left by `rhs`; bits shifted out are lost. Precondition: `rhs` is below the width.
     fn unwrapped_shl(self, rhs: u32) -> Self
         requires { rhs < Self.BITS }
         ensures { Self.number result
             ≡ wrap Self.SIGNED Self.BITS (Self.number self *ℤ pos (2 ^ rhs)) };
 
-    /// The bits moved down by `rhs` places, rounded down; condition that `rhs` is below the width.
+    /// Returns the bits shifted right by `rhs`, rounded down. Precondition: `rhs` is below the width.
     fn unwrapped_shr(self, rhs: u32) -> Self
         requires { rhs < Self.BITS }
         ensures { Self.number result ≡ floor_quotient (Self.number self) (2 ^ rhs) };
@@ -241,25 +236,25 @@ impl<T: Word, const F: u32> Unwrapped for Fixed<T, F> {
 
 /// The `unwrapped_` forms of signed numbers.
 pub trait UnwrappedSigned: Unwrapped {
-    /// The magnitude; condition that the answer fits.
+    /// Returns the magnitude. Precondition: it fits.
     fn unwrapped_abs(self) -> Self
         requires { InRange Self.SIGNED Self.BITS (exact_abs (Self.number self)) }
         ensures { Self.number result ≡ exact_abs (Self.number self) };
 
-    /// One by the sign of the number: 1, 0 or -1; condition that the answer fits.
+    /// Returns the sign as a number: 1, 0 or -1. Precondition: it fits.
     fn unwrapped_signum(self) -> Self
         requires fraction { Self.FRACTION ≤ Self.BITS }
         requires fits { InRange Self.SIGNED Self.BITS
             (exact_signum (Self.number self) Self.FRACTION) }
         ensures { Self.number result ≡ exact_signum (Self.number self) Self.FRACTION };
 
-    /// The sum with an unsigned number; condition that the answer fits.
+    /// Returns the sum with an unsigned number. Precondition: it fits.
     fn unwrapped_add_unsigned(self, rhs: Self::Unsigned) -> Self
         requires { InRange Self.SIGNED Self.BITS
             (Self.number self +ℤ Self.Unsigned.number rhs) }
         ensures { Self.number result ≡ Self.number self +ℤ Self.Unsigned.number rhs };
 
-    /// The number minus an unsigned one; condition that the answer fits.
+    /// Returns the number minus an unsigned number. Precondition: it fits.
     fn unwrapped_sub_unsigned(self, rhs: Self::Unsigned) -> Self
         requires { InRange Self.SIGNED Self.BITS
             (Self.number self -ℤ Self.Unsigned.number rhs) }
@@ -286,19 +281,18 @@ impl<T: SignedWord, const F: u32> UnwrappedSigned for Fixed<T, F> {
 
 /// The `unwrapped_` forms of unsigned numbers.
 pub trait UnwrappedUnsigned: Unwrapped {
-    /// The least power of two, in units, that is at least the number; condition that the answer
-    /// fits.
+    /// Returns the least number, not below this one, whose bits are a power of two. Precondition: it fits.
     fn unwrapped_next_power_of_two(self) -> Self
         requires { InRange Self.SIGNED Self.BITS (exact_next_power_of_two (Self.number self)) }
         ensures { Self.number result ≡ exact_next_power_of_two (Self.number self) };
 
-    /// The sum with a signed number; condition that the answer fits.
+    /// Returns the sum with a signed number. Precondition: it fits.
     fn unwrapped_add_signed(self, rhs: Self::Signed) -> Self
         requires { InRange Self.SIGNED Self.BITS
             (Self.number self +ℤ Self.Signed.number rhs) }
         ensures { Self.number result ≡ Self.number self +ℤ Self.Signed.number rhs };
 
-    /// The number minus a signed one; condition that the answer fits.
+    /// Returns the number minus a signed number. Precondition: it fits.
     fn unwrapped_sub_signed(self, rhs: Self::Signed) -> Self
         requires { InRange Self.SIGNED Self.BITS
             (Self.number self -ℤ Self.Signed.number rhs) }

@@ -11,65 +11,65 @@ ghost use Rattle.std.proofs.Common.{inl, inr};
 use crate::ledger::{Ledger, Steps};
 use crate::word::Valued;
 
-/// An unsigned word of n bits. Each call is one step in a ledger.
+/// An unsigned word of n bits. Each call counts one step in a ledger.
 pub trait Digits<L: Ledger>: Valued {
-    /// The word of value 0.
+    /// The value 0.
     const ZERO: Self;
 
     ghost ZERO: { Self };
 
-    /// The word of value 1.
+    /// The value 1.
     const ONE: Self;
 
     ghost ONE: { Self };
 
-    /// The sum, modulo `2^n`.
+    /// Returns the sum, modulo `2^n`.
     fn add(self, other: Self, steps: &mut Steps<L>) -> Self
         ensures value { Self.value result
             ≡ wrap false Self.BITS (Self.value self +ℤ Self.value other) }
         ensures in_range { InRange false Self.BITS (Self.value self) }
         ensures ticks { Ticks L.LAST (L.count steps.old) (L.count steps.new) };
 
-    /// The difference, modulo `2^n`: plus `2^n` where it is below 0.
+    /// Returns the difference, modulo `2^n`: plus `2^n` if it is negative.
     fn sub(self, other: Self, steps: &mut Steps<L>) -> Self
         ensures value { Self.value result
             ≡ wrap false Self.BITS (Self.value self -ℤ Self.value other) }
         ensures in_range { InRange false Self.BITS (Self.value self) }
         ensures ticks { Ticks L.LAST (L.count steps.old) (L.count steps.new) };
 
-    /// The value times `2^by`, modulo `2^n`. Condition: `by` is below n.
+    /// Returns the value times `2^by`, modulo `2^n`. Precondition: `by` is below n.
     fn shl(self, by: u32, steps: &mut Steps<L>) -> Self
         requires { by < Self.BITS }
         ensures value { Self.value result ≡ wrap false Self.BITS (Self.value self *ℤ pos (2 ^ by)) }
         ensures in_range { InRange false Self.BITS (Self.value self) }
         ensures ticks { Ticks L.LAST (L.count steps.old) (L.count steps.new) };
 
-    /// The value over `2^by`, rounded down. Condition: `by` is below n.
+    /// Returns the value over `2^by`, rounded down. Precondition: `by` is below n.
     fn shr(self, by: u32, steps: &mut Steps<L>) -> Self
         requires { by < Self.BITS }
         ensures value { Self.value result ≡ floor_quotient (Self.value self) (2 ^ by) }
         ensures in_range { InRange false Self.BITS (Self.value self) }
         ensures ticks { Ticks L.LAST (L.count steps.old) (L.count steps.new) };
 
-    /// Whether the value is at most the other's.
+    /// Returns whether the value is at most the other one.
     fn at_most(self, other: Self, steps: &mut Steps<L>) -> bool
         ensures value { IsTrue result ↔ (Self.value self ≤ℤ Self.value other) }
         ensures in_range { InRange false Self.BITS (Self.value self) }
         ensures ticks { Ticks L.LAST (L.count steps.old) (L.count steps.new) };
 
-    /// How many of the highest bits are 0.
+    /// Returns how many of the most significant bits are 0.
     fn leading_zeros(self, steps: &mut Steps<L>) -> u32
         ensures value { IsLeadingZeros Self.BITS (Self.value self) result }
         ensures in_range { InRange false Self.BITS (Self.value self) }
         ensures ticks { Ticks L.LAST (L.count steps.old) (L.count steps.new) };
 
-    /// The product; None exactly where it does not fit.
+    /// Returns the product, or `None` if it does not fit.
     fn times(self, other: Self, steps: &mut Steps<L>) -> Option<Self>
         ensures value { IsWordOf Self.value Self.BITS (Self.value self *ℤ Self.value other) result }
         ensures in_range { InRange false Self.BITS (Self.value self) }
         ensures ticks { Ticks L.LAST (L.count steps.old) (L.count steps.new) };
 
-    /// The word of that value; None exactly where it does not fit.
+    /// Returns the word with that value, or `None` if it does not fit.
     fn literal(number: u64, steps: &mut Steps<L>) -> Option<Self>
         ensures value { IsWordOf Self.value Self.BITS (pos number) result }
         ensures ticks { Ticks L.LAST (L.count steps.old) (L.count steps.new) };

@@ -1,4 +1,4 @@
-//! Integers in which products and quotients of words have room.
+//! Integers that hold products and quotients of words.
 
 ghost use Rattle.std.specs.Prelude.{◌≡◌, ◌≢◌, ◌↔◌, ◌<◌, ◌^◌, ◌+ℤ◌, ◌-ℤ◌, ◌*ℤ◌, ◌<ℤ◌, ℕ, ℤ, Bool, true, false, IsTrue, Some, pos};
 ghost use Rattle.std.specs.Ordering.{int_cmp};
@@ -12,53 +12,53 @@ use crate::word::Valued;
 pub trait Integer: Valued + Eq + PartialOrd {
     ghost SIGNED: { Bool };
 
-    /// Whether the value is below 0.
+    /// Returns whether the value is negative.
     fn is_below_zero(self) -> bool
         ensures { IsTrue result ↔ (Self.value self <ℤ pos 0) };
 
-    /// The sum. Condition: it is in the range.
+    /// Returns the sum. Precondition: it is in the range.
     fn plus(self, other: Self) -> Self
         requires { InRange SIGNED Self.BITS (Self.value self +ℤ Self.value other) }
         ensures { Self.value result ≡ Self.value self +ℤ Self.value other };
 
-    /// The product. Condition: it is in the range.
+    /// Returns the product. Precondition: it is in the range.
     fn times(self, other: Self) -> Self
         requires { InRange SIGNED Self.BITS (Self.value self *ℤ Self.value other) }
         ensures { Self.value result ≡ Self.value self *ℤ Self.value other };
 
-    /// The value times `2^by`. Condition: that is in the range, and `by` is below n.
+    /// Returns the value times `2^by`. Preconditions: it is in the range, and `by` is below n.
     fn scaled(self, by: u32) -> Self
         requires by { by < Self.BITS }
         requires room { InRange SIGNED Self.BITS (Self.value self *ℤ pos (2 ^ by)) }
         ensures { Self.value result ≡ Self.value self *ℤ pos (2 ^ by) };
 
-    /// The value over `2^by`, rounded down. Condition: `by` is below n.
+    /// Returns the value over `2^by`, rounded down. Precondition: `by` is below n.
     fn floored(self, by: u32) -> Self
         requires { by < Self.BITS }
         ensures { Self.value result ≡ floor_quotient (Self.value self) (2 ^ by) };
 
-    /// The quotient, rounded toward zero, without what lies past the width: that of the least number by -1.
-    /// Condition: the divisor is not 0.
+    /// Returns the quotient, rounded toward zero and wrapped. Only the quotient of the smallest number by -1 is out
+    /// of range. Precondition: the divisor is not 0.
     fn over(self, divisor: Self) -> Self
         requires { Self.value divisor ≢ pos 0 }
         ensures { Self.value result
             ≡ wrap SIGNED Self.BITS (truncated_quotient (Self.value self) (Self.value divisor)) };
 
-    /// The remainder of that quotient. Condition: the divisor is not 0.
+    /// Returns the remainder of the quotient that is rounded toward zero. Precondition: the divisor is not 0.
     fn remainder(self, divisor: Self) -> Self
         requires { Self.value divisor ≢ pos 0 }
         ensures { Self.value result
             ≡ Self.value self
             -ℤ Self.value divisor *ℤ truncated_quotient (Self.value self) (Self.value divisor) };
 
-    /// The quotient of the Euclidean pair. Condition: it is in the range, and the divisor is not 0.
+    /// Returns the Euclidean quotient. Preconditions: it is in the range, and the divisor is not 0.
     fn euclid_quotient(self, divisor: Self) -> Self
         requires divisor { Self.value divisor ≢ pos 0 }
         requires room { InRange SIGNED Self.BITS
             (euclidean_quotient (Self.value self) (Self.value divisor)) }
         ensures { Self.value result ≡ euclidean_quotient (Self.value self) (Self.value divisor) };
 
-    /// The remainder of the Euclidean pair. Condition: the divisor is not 0.
+    /// Returns the Euclidean remainder. Precondition: the divisor is not 0.
     fn euclid_remainder(self, divisor: Self) -> Self
         requires { Self.value divisor ≢ pos 0 }
         ensures { Self.value result ≡ euclidean_remainder (Self.value self) (Self.value divisor) };

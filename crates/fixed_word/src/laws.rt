@@ -1,11 +1,11 @@
-//! Laws of the definitions. These functions do nothing: each contract is the law.
+//! Laws of the definitions. These functions do nothing: the contract of each is the law.
 
 ghost use Rattle.std.specs.Prelude.{◌≡◌, ◌≢◌, ◌↔◌, ◌<◌, ◌≤◌, ◌^◌, ◌<ℤ◌, ◌-ℤ◌, ℕ, ℤ, Bool, IsTrue, true, false, pos, unsigned_abs};
 ghost use Rattle.fixed_word.specs.Format.{Congruent, InRange, IsWidth, clamp, fits, highest, lowest, wrap};
 ghost use Rattle.fixed_word.specs.Quotient.{euclidean_quotient, euclidean_remainder, floor_quotient, truncated_quotient};
 ghost use Rattle.fixed_word.specs.Quotient.{IsEuclidean, IsFloor, IsTruncated};
 
-/// `wrap` gives the one number that fits and is congruent.
+/// `wrap` returns the only number that fits and is congruent modulo `2^n`.
 pub fn wrap_law()
     ensures in_range { (s : Bool) (n : ℕ) (x : ℤ) → IsWidth n → InRange s n (wrap s n x) }
     ensures congruent { (s : Bool) (n : ℕ) (x : ℤ) → IsWidth n → Congruent (2 ^ n) x (wrap s n x) }
@@ -13,8 +13,7 @@ pub fn wrap_law()
         → Congruent (2 ^ n) x y → wrap s n x ≡ y }
 {}
 
-/// Nothing of a number that fits is lost on the way through the unsigned or the signed word of its
-/// width.
+/// A number that fits is restored by a conversion to the unsigned or signed word of its width and back.
 pub fn return_law()
     ensures by_unsigned { (s : Bool) (n : ℕ) (x : ℤ) → IsWidth n → InRange s n x
         → wrap s n (wrap false n x) ≡ x }
@@ -22,8 +21,7 @@ pub fn return_law()
         → wrap s n (wrap true n x) ≡ x }
 {}
 
-/// `clamp` gives the nearest number that fits: x itself where x fits, and otherwise the end of the
-/// range on its side.
+/// `clamp` returns the nearest number that fits: x itself if x fits, and otherwise the end of the range on its side.
 pub fn clamp_law()
     ensures in_range { (s : Bool) (n : ℕ) (x : ℤ) → InRange s n (clamp s n x) }
     ensures same { (s : Bool) (n : ℕ) (x : ℤ) → InRange s n x → clamp s n x ≡ x }
@@ -33,12 +31,12 @@ pub fn clamp_law()
         → unsigned_abs (x -ℤ clamp s n x) ≤ unsigned_abs (x -ℤ y) }
 {}
 
-/// The test `fits` is the fact that a number lies in the range.
+/// The test `fits` is true if and only if the number is in the range.
 pub fn fits_law()
     ensures { (s : Bool) (n : ℕ) (x : ℤ) → IsTrue (fits s n x) ↔ InRange s n x }
 {}
 
-/// The quotients meet the equations that define them. Nothing else meets those of the floor.
+/// The quotients meet the equations that define them. Only the floor meets the equations of the floor.
 pub fn quotient_law()
     ensures floor { (x : ℤ) (d : ℕ) → 0 < d → IsFloor x d (floor_quotient x d) }
     ensures floor_unique { (x q : ℤ) (d : ℕ) → 0 < d → IsFloor x d q → floor_quotient x d ≡ q }

@@ -1,8 +1,8 @@
-//! Words: the integers of 8, 16, 32 and 64 bits in which numbers are kept, seen as whole numbers.
+//! Words: the integers of 8, 16, 32 and 64 bits that hold the bits of numbers.
 //!
-//! A word of n bits holds the whole numbers from its `MIN` to its `MAX`. A number that may not fit
-//! is answered as an [`Outcome`]: the word that is left of it, and the side on which it lies. All
-//! items are this project's own.
+//! A word of n bits holds the integers from its `MIN` to its `MAX`. Calls whose exact result may not fit return an
+//! [`Outcome`]: the wrapped word, and the side on which the exact result lies. The Rust crate `fixed` does not have
+//! these items.
 #![tactic(auto)]
 
 mod arithmetic;

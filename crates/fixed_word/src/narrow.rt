@@ -7,10 +7,10 @@ use crate::word::{RawWord, Valued, Word};
 
 /// A word of 8 to 32 bits.
 pub trait Narrow: Word {
-    /// The word of twice the width and of the same sign.
+    /// The word of twice the width and of the same signedness.
     type Double: Word;
 
-    /// The same value in the word of twice the width.
+    /// Returns the same value in the word of twice the width.
     fn widen(self) -> Self::Double
         ensures value { Self.Double.value result ≡ Self.value self }
         ensures in_range { InRange Self.SIGNED Self.BITS (Self.value self) };

@@ -1,4 +1,4 @@
-//! What each policy makes of the number that an outcome stands for, whichever that is.
+//! What each policy makes of the number that an outcome stands for.
 
 ghost use Rattle.std.specs.Prelude.{◌≡◌, ℤ, Some, option_map};
 ghost use Rattle.fixed_word.specs.declared.outcome.Side.TheVariants.{Above, Below};
@@ -9,7 +9,7 @@ ghost use Rattle.fixed_word.specs.Policies.{checked, overflowing, wrapping, satu
 use crate::outcome::{Outcome, Side};
 use crate::word::{RawWord, Word};
 
-/// The number, and None exactly where it does not fit.
+/// Returns the number, or `None` if it does not fit.
 pub fn checked_of<T: Word>(outcome: Outcome<T>) -> Option<T>
     ensures { (x : ℤ) → StandsFor T.value T.SIGNED T.BITS x outcome
         → option_map T.value result ≡ checked T.SIGNED T.BITS (Some x) }
@@ -20,7 +20,7 @@ pub fn checked_of<T: Word>(outcome: Outcome<T>) -> Option<T>
     }
 }
 
-/// The number that fits and differs by a multiple of `2^n`, and whether the number does not fit.
+/// Returns the wrapped number, and whether the exact number does not fit.
 pub fn overflowing_of<T: Word>(outcome: Outcome<T>) -> (T, bool)
     ensures { (x : ℤ) → StandsFor T.value T.SIGNED T.BITS x outcome
         → Some (T.value result.0, result.1) ≡ overflowing T.SIGNED T.BITS (Some x) }
@@ -28,7 +28,8 @@ pub fn overflowing_of<T: Word>(outcome: Outcome<T>) -> (T, bool)
     (outcome.wrapped, outcome.side != Side::Fits)
 }
 
-/// The number that fits and differs by a multiple of `2^n`.
+/// Returns the wrapped number: it fits, and differs from the exact number by a multiple of `2^n`, where n is the
+/// width.
 pub fn wrapping_of<T: Word>(outcome: Outcome<T>) -> T
     ensures { (x : ℤ) → StandsFor T.value T.SIGNED T.BITS x outcome
         → Some (T.value result) ≡ wrapping T.SIGNED T.BITS (Some x) }
@@ -36,7 +37,7 @@ pub fn wrapping_of<T: Word>(outcome: Outcome<T>) -> T
     overflowing_of(outcome).0
 }
 
-/// The end of the range on the side of a number that does not fit.
+/// Returns the end of the range on the side of a number that does not fit.
 #[inline]
 fn end_of<T: Word>(side: Side) -> T
     ensures below { side ≡ Below → T.value result ≡ lowest T.SIGNED T.BITS }
@@ -48,8 +49,8 @@ fn end_of<T: Word>(side: Side) -> T
     }
 }
 
-/// The number that fits and is nearest. The end is at hand before it is known whether the number fits, so
-/// that loops choose without a jump.
+/// Returns the nearest number that fits. The end of the range is computed before the test whether the number fits, so
+/// that loops select it without a branch.
 pub fn saturating_of<T: Word>(outcome: Outcome<T>) -> T
     ensures { (x : ℤ) → StandsFor T.value T.SIGNED T.BITS x outcome
         → Some (T.value result) ≡ saturating T.SIGNED T.BITS (Some x) }
@@ -61,7 +62,7 @@ pub fn saturating_of<T: Word>(outcome: Outcome<T>) -> T
     }
 }
 
-/// The same, by a choice at each end, as loops of products take it in one instruction.
+/// Returns the nearest number that fits, by a choice at each end, which loops of products do in one instruction.
 #[inline]
 pub fn clamped_of<T: Word>(outcome: Outcome<T>) -> T
     ensures { (x : ℤ) → StandsFor T.value T.SIGNED T.BITS x outcome
@@ -73,7 +74,7 @@ pub fn clamped_of<T: Word>(outcome: Outcome<T>) -> T
         .unless(outcome.side == Side::Below, T::MIN)
 }
 
-/// The number, which has to fit.
+/// Returns the number. Precondition: it fits.
 pub fn strict_of<T: Word>(outcome: Outcome<T>) -> T
     requires { outcome.side ≡ Side.Fits }
     ensures { (x : ℤ) → StandsFor T.value T.SIGNED T.BITS x outcome

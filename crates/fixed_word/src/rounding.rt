@@ -1,12 +1,12 @@
-//! Roundings by name.
+//! Named roundings.
 
-/// How a number between two units is rounded.
+/// How a number between two multiples of the unit is rounded.
 #[derive(Clone, Copy, PartialEq, Eq, Hash, Debug)]
 pub enum Rounding {
-    /// To the unit below.
+    /// Down, toward negative infinity.
     Down,
-    /// To the unit nearer to 0.
+    /// Toward zero.
     Zero,
-    /// To the nearest unit, and to the even one where two are nearest.
+    /// To the nearest multiple, ties to even.
     Even,
 }
