@@ -67,7 +67,7 @@ fn push_number(script: &mut Vec<u8>, number: u64) -> Result<(), AllocError>
 }
 
 /// Adds the name of a register of one digit.
-#[tactic(auto, using(fixed_text::proofs::Shown::one_digit))]
+#[tactic(auto, using(fixed_digits::proofs::Shown::one_digit))]
 fn push_register(script: &mut Vec<u8>, register: u64) -> Result<(), AllocError>
     requires { register < 10 }
     ensures { OnOk result (script.new.items ≡ script.old.items ++ register_text register) }
