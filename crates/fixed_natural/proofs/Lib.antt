@@ -1,0 +1,5 @@
+pub mod Enclosed
+pub mod Exponents
+pub mod Factors
+pub mod Moving
+pub mod Raising

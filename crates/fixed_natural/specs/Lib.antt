@@ -1,0 +1,4 @@
+pub mod Bases
+pub mod Exps
+pub mod Logs
+pub mod inside

@@ -1,0 +1,66 @@
+//! Powers of e: powers of 2, whose exponents are times a constant.
+
+ghost use Rattle.std.specs.Prelude.{◌≡◌, ◌≤◌, ◌<◌, ◌+◌, ◌*◌, ◌^◌, ◌-◌, ℕ, ℤ};
+ghost use Rattle.fixed_word.specs.Format.{with_sign};
+ghost use Rattle.fixed_elementary.specs.Exp2.{IsExp2Up, StandsUpTo};
+ghost use Rattle.fixed_natural.specs.Exps.{IsExp, exp_room};
+ghost use Rattle.fixed_natural.specs.inside.Exponent.{IsExponentTo};
+ghost use Rattle.fixed_natural.specs.inside.Scaling.{IsInverse, IsQuotient};
+
+use crate::scaling::{in_places, scaled};
+use fixed_elementary::exponentials::power_of;
+use fixed_word::{Outcome, RawWord, Valued, Word, outcome_of};
+
+/// Half the logarithm of e to the base 2, in units of `2^-128`.
+const HALF_LOG2_E: u128 = 0xb8aa_3b29_5c17_f0bb_be87_fed0_691d_3e88;
+
+/// How many digits an exponent has behind its point.
+fn places_of(bits: u32) -> u32
+    ensures { result ≡ exp_room bits + 2 }
+{
+    if bits <= 32 { 48 } else { 63 }
+}
+
+/// A magnitude in units of `2^-(places + 1)`.
+fn moved(magnitude: u64, frac: u32, places: u32) -> u128
+    requires frac { frac ≤ places + 1 }
+    requires places { places ≤ 63 }
+    ensures { result ≡ magnitude * 2 ^ (places + 1 - frac) }
+{
+    u128::from(magnitude) << (places + 1 - frac)
+}
+
+/// The exponent of 2 of a power of e, or None where it is below 0 and the power is less than a unit.
+fn exponent_of<T: RawWord>(a: T, frac: u32, places: u32) -> Option<u128>
+    requires frac { frac ≤ places + 1 }
+    requires places { places ≤ 63 }
+    ensures { (p q : ℕ) → 0 < q → IsInverse 0xb8aa3b295c17f0bbbe87fed0691d3e88 (2 * q) p
+        → IsExponentTo p q (T.value a) frac places result }
+{
+    let offset = in_places(frac, places);
+    let units = moved(a.magnitude(), frac, places);
+    if !a.is_below_zero() {
+        return Some(offset + scaled(units, HALF_LOG2_E, 0));
+    }
+    let less = scaled(units, HALF_LOG2_E + 1, 0);
+    if less < offset {
+        Some(offset - less - 1)
+    } else {
+        None
+    }
+}
+
+/// e to the power of `a 2^-frac`, in units of `2^-frac`, rounded down up to a factor of `2^(2^-k)`; k is 46 on words of up
+/// to 32 bits, and 61 on words of 64 bits. That of 0 is exactly 1. The outcome has no bits of a number above the
+/// range: it then stands for another number above the range.
+pub fn exp_of<T: Word>(a: T, frac: u32) -> Outcome<T>
+    requires { frac ≤ T.BITS }
+    ensures { (r : ℤ) × IsExp (exp_room T.BITS) (T.value a) frac r
+        × StandsUpTo T.value T.SIGNED T.BITS r result }
+{
+    let places = places_of(T::BITS);
+    match exponent_of(a, frac, places) {
+        Some(exponent) => outcome_of(false, power_of(exponent, places, 64)),
+        None => outcome_of(false, 0),
+    }
+}
