@@ -2,4 +2,6 @@ pub mod Enclosed
 pub mod Exponents
 pub mod Factors
 pub mod Moving
+pub mod NaturalLaws
 pub mod Raising
+mod UpTo

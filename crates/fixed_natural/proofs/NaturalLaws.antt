@@ -1,0 +1,216 @@
+-- Laws of logarithms and powers to bases 2^(p / q).
+use Rattle.std.proofs.Common.{◌≡◌, ◌+◌, ◌-◌, ◌*◌, ◌^◌, ◌<◌, ◌≤◌, ◌≤ℤ◌, ◌<ℤ◌, ◌+ℤ◌, ℕ, ℤ, pos, suc, true, refl, ap, sym, subst, ◌∙◌, inl, inr, arith}
+use Rattle.std.specs.Prelude.{unsigned_abs}
+use Rattle.std.proofs.lemmas.Int.{ints}
+use Rattle.std.proofs.lemmas.Bool.{cases_lt}
+use Rattle.std.proofs.lemmas.Nat.{mul-le, mul-pow, pow-add, pow_pos}
+use Rattle.std.proofs.Math.Nat.{le_of_mul-le-mul_right, lt_of_mul-lt-mul_right, mul-le-mul_right, mul-le-mul_left, pow-le-pow_left, pow-le-pow_right}
+use Rattle.fixed_word.specs.Format.{InRange}
+use Rattle.fixed_elementary.proofs.Reading.{pow_times}
+use Rattle.fixed_elementary.proofs.LogLaws.{exponent_less}
+use Rattle.fixed_natural.specs.Bases.{decimals, log2_e}
+use Rattle.fixed_natural.specs.Exps.{IsExp, IsExpTo}
+use Rattle.fixed_natural.specs.Logs.{IsLogTo}
+use Rattle.fixed_natural.proofs.Exponents.{root_le, root_lt}
+
+-- exponents are in the order of the powers of two
+exponent_le : (i j : ℕ) → 2 ^ i ≤ 2 ^ j → i ≤ j
+exponent_le i j h = elim (cases_lt j i) [
+  | inl less ↦
+      let p : 2 ^ suc j ≤ 2 ^ i = pow-le-pow_right {n = 2} (omega arith) {i = suc j} {j = i} less in
+      let e = pow-add 2 j 1 in
+      let s : 2 ^ suc j ≡ 2 ^ (j + 1) = let t : suc j ≡ j + 1 = omega arith in ap (λ n. 2 ^ n) t in
+      absurd (omega (arith, pow_pos j))
+  | inr fine ↦ fine
+]
+
+two_at_least : (k : ℕ) → 1 ≤ k → 2 ≤ 2 ^ k
+two_at_least k h = let p : 2 ^ 1 ≤ 2 ^ k = pow-le-pow_right {n = 2} (omega arith) {i = 1} {j = k} h in omega arith
+
+-- x j is at most y j + 1, so x is at most y
+without_part : (x y j p : ℕ) → 0 < p → 2 ≤ j → x * j * p ≤ (y * j + 1) * p → x ≤ y
+without_part x y j p o two h =
+    let a : x * j ≤ y * j + 1 = le_of_mul-le-mul_right h o in
+    elim (cases_lt y x) [
+      | inl more ↦ let b : (y + 1) * j ≤ x * j = mul-le-mul_right j (omega arith) in absurd (omega arith)
+      | inr fine ↦ fine
+    ]
+
+-- ---- a, raised, is at most 2^m, and so the logarithm at most so much
+
+at_most : (p q a f k m : ℕ) (r : ℤ) → a ^ (2 ^ f * q * 2 ^ k) ≤ 2 ^ m → (h : IsLogTo p q a f k r) → h.up * 2 ^ k * p + f * 2 ^ f * q * 2 ^ k ≤ m + (h.down * 2 ^ k + 1) * p
+at_most p q a f k m r l h =
+    let z = (h.down * 2 ^ k + 1) * p in
+    let d : a ^ (2 ^ f * q * 2 ^ k) * 2 ^ z ≤ 2 ^ m * 2 ^ z = mul-le-mul_right (2 ^ z) l in
+    let e = pow-add 2 m z in
+    let low = h.below in
+    exponent_le (h.up * 2 ^ k * p + f * 2 ^ f * q * 2 ^ k) (m + z) (omega arith)
+
+at_least : (p q a f k m : ℕ) (r : ℤ) → 2 ^ m ≤ a ^ (2 ^ f * q) → (h : IsLogTo p q a f k r) → m + h.down * p < (h.up + 1) * p + f * 2 ^ f * q
+at_least p q a f k m r l h =
+    let d : 2 ^ m * 2 ^ (h.down * p) ≤ a ^ (2 ^ f * q) * 2 ^ (h.down * p) = mul-le-mul_right (2 ^ (h.down * p)) l in
+    let e = pow-add 2 m (h.down * p) in
+    let high = h.above in
+    exponent_less (m + h.down * p) ((h.up + 1) * p + f * 2 ^ f * q) (omega arith)
+
+raised_most : (a m n : ℕ) → a ≤ 2 ^ m → a ^ n ≤ 2 ^ (m * n)
+raised_most a m n l = let b : a ^ n ≤ (2 ^ m) ^ n = pow-le-pow_left l n in let c = pow_times 2 m n in omega arith
+
+raised_least : (a m n : ℕ) → 2 ^ m ≤ a → 2 ^ (m * n) ≤ a ^ n
+raised_least a m n l = let b : (2 ^ m) ^ n ≤ a ^ n = pow-le-pow_left l n in let c = pow_times 2 m n in omega arith
+
+-- ---- the logarithm of 1
+
+pub log_of_one : (p q f k : ℕ) (r : ℤ) → 0 < p → 1 ≤ k → IsLogTo p q (2 ^ f) f k r → r ≡ pos 0
+log_of_one p q f k r o one h =
+    let v = h.value in
+    let a = at_most p q (2 ^ f) f k (f * (2 ^ f * q * 2 ^ k)) r (raised_most (2 ^ f) f (2 ^ f * q * 2 ^ k) (omega arith)) h in
+    let b = at_least p q (2 ^ f) f k (f * (2 ^ f * q)) r (raised_least (2 ^ f) f (2 ^ f * q) (omega arith)) h in
+    let low : h.up ≤ h.down = without_part h.up h.down (2 ^ k) p o (two_at_least k one) (omega arith) in
+    let c : h.down * p < (h.up + 1) * p = omega arith in
+    let high = lt_of_mul-lt-mul_right p c in
+    omega (arith, ints)
+
+-- ---- where it fits
+
+pub log_fits : (p q k n f : ℕ) (a r : ℤ) → 0 < p → q ≤ p → 1 ≤ k → f < n → f * 2 ^ f ≤ 2 ^ (n - 1) → (n - 1 - f) * 2 ^ f < 2 ^ (n - 1) → InRange true n a → pos 0 <ℤ a
+    → IsLogTo p q (unsigned_abs a) f k r → InRange true n r
+log_fits p q k n f a r o base one less low high range above h =
+    let v = h.value in
+    let top = range.1 in
+    let small : unsigned_abs a ≤ 2 ^ (n - 1) = omega (arith, ints, pow_pos (n - 1)) in
+    let unit : 2 ^ 0 ≡ 1 = refl in
+    let some : 2 ^ 0 ≤ unsigned_abs a = omega (arith, ints) in
+    let x = at_most p q (unsigned_abs a) f k ((n - 1) * (2 ^ f * q * 2 ^ k)) r (raised_most (unsigned_abs a) (n - 1) (2 ^ f * q * 2 ^ k) small) h in
+    let y = at_least p q (unsigned_abs a) f k (0 * (2 ^ f * q)) r (raised_least (unsigned_abs a) 0 (2 ^ f * q) some) h in
+    let d : (n - 1) * (2 ^ f * q * 2 ^ k) ≡ (n - 1 - f) * (2 ^ f * q * 2 ^ k) + f * (2 ^ f * q * 2 ^ k) = split (n - 1) (n - 1 - f) f (2 ^ f * q * 2 ^ k) (omega arith) in
+    let g : (n - 1 - f) * 2 ^ f * 2 ^ k * q ≤ (n - 1 - f) * 2 ^ f * 2 ^ k * p = mul-le-mul_left ((n - 1 - f) * 2 ^ f * 2 ^ k) base in
+    let s : h.up * 2 ^ k * p ≤ (((n - 1 - f) * 2 ^ f + h.down) * 2 ^ k + 1) * p = omega arith in
+    let up : h.up ≤ (n - 1 - f) * 2 ^ f + h.down = without_part h.up ((n - 1 - f) * 2 ^ f + h.down) (2 ^ k) p o (two_at_least k one) s in
+    let i : f * 2 ^ f * q ≤ f * 2 ^ f * p = mul-le-mul_left (f * 2 ^ f) base in
+    let t : h.down * p < (h.up + 1 + f * 2 ^ f) * p = omega arith in
+    let down = lt_of_mul-lt-mul_right p t in
+    (omega (arith, ints), omega (arith, ints))
+  where
+    split : (x y z p : ℕ) → x ≡ y + z → x * p ≡ y * p + z * p
+    split x y z p s = rw s (omega arith)
+
+-- ---- two logarithms of one number
+
+pub log_near : (p q a f k : ℕ) (r s : ℤ) → 0 < p → 1 ≤ k → IsLogTo p q a f k r → IsLogTo p q a f k s → r ≤ℤ (s +ℤ pos 1)
+log_near p q a f k r s o one g h =
+    let v = g.value in
+    let w = h.value in
+    let n = 2 ^ f * q in
+    let j = 2 ^ k in
+    let x = (h.up + 1) * p + f * 2 ^ f * q in
+    let up : (a ^ n * 2 ^ (h.down * p)) ^ j ≤ (2 ^ x) ^ j = pow-le-pow_left (omega (arith, h.above)) j in
+    let b = mul-pow (a ^ n) (2 ^ (h.down * p)) j in
+    let c = pow_times a n j in
+    let d = pow_times 2 (h.down * p) j in
+    let e = pow_times 2 x j in
+    let same : (a ^ n * 2 ^ (h.down * p)) ^ j ≡ a ^ (n * j) * 2 ^ (h.down * p * j) = b ∙ ap (λ y. y * (2 ^ (h.down * p)) ^ j) c ∙ ap (λ y. a ^ (n * j) * y) d in
+    let high : a ^ (n * j) * 2 ^ (h.down * p * j) ≤ 2 ^ (x * j) = subst (λ y. a ^ (n * j) * 2 ^ (h.down * p * j) ≤ y) e (subst (λ y. y ≤ (2 ^ x) ^ j) same up) in
+    let z = (g.down * j + 1) * p in
+    let m = mul-le-mul_right (2 ^ z) high in
+    let l = mul-le-mul_right (2 ^ (h.down * p * j)) g.below in
+    let i = pow-add 2 (g.up * j * p + f * 2 ^ f * q * j) (h.down * p * j) in
+    let u = pow-add 2 (x * j) z in
+    let t = exponent_le (g.up * j * p + f * 2 ^ f * q * j + h.down * p * j) (x * j + z) (omega arith) in
+    let y : (g.up + h.down) * j * p ≤ ((h.up + 1 + g.down) * j + 1) * p = omega arith in
+    let all = without_part (g.up + h.down) (h.up + 1 + g.down) j p o (two_at_least k one) y in
+    omega (arith, ints)
+
+-- ---- the logarithm of a power of the base b
+
+power_of : (b j q f m : ℕ) → (b ^ j * 2 ^ f) ^ (2 ^ f * q * m) ≡ (b ^ q) ^ (j * 2 ^ f * m) * 2 ^ (f * (2 ^ f * q * m))
+power_of b j q f m =
+    let n = 2 ^ f * q * m in
+    let x = mul-pow (b ^ j) (2 ^ f) n in
+    let y = pow_times b j n in
+    let z = pow_times 2 f n in
+    let w = pow_times b q (j * 2 ^ f * m) in
+    let e : j * n ≡ q * (j * 2 ^ f * m) = omega arith in
+    x ∙ ap (λ k. k * (2 ^ f) ^ n) (y ∙ ap (λ k. b ^ k) e ∙ sym w) ∙ ap (λ k. (b ^ q) ^ (j * 2 ^ f * m) * k) z
+
+pub log_of_power : (b p q j k f : ℕ) (r : ℤ) → 0 < p → 1 ≤ k → 2 ^ p ≤ b ^ q → b ^ q ≤ 2 ^ (p + 1) → IsLogTo p q (b ^ j * 2 ^ f) f k r → IsLogTo (p + 1) q (b ^ j * 2 ^ f) f k r
+    → r ≡ pos (j * 2 ^ f)
+log_of_power b p q j k f r o one least most g h =
+    let v = g.value in
+    let w = h.value in
+    let a = b ^ j * 2 ^ f in
+    let x = power_of b j q f (2 ^ k) in
+    let y = power_of b j q f 1 in
+    let up = raised_most (b ^ q) (p + 1) (j * 2 ^ f * 2 ^ k) most in
+    let down = raised_least (b ^ q) p (j * 2 ^ f * 1) least in
+    let n = 2 ^ f * q * 2 ^ k in
+    let c = pow-add 2 ((p + 1) * (j * 2 ^ f * 2 ^ k)) (f * n) in
+    let d = pow-add 2 (p * (j * 2 ^ f * 1)) (f * (2 ^ f * q * 1)) in
+    let e : 2 ^ f * q * 1 ≡ 2 ^ f * q = omega arith in
+    let s : (b ^ q) ^ (j * 2 ^ f * 2 ^ k) * 2 ^ (f * n) ≤ 2 ^ ((p + 1) * (j * 2 ^ f * 2 ^ k)) * 2 ^ (f * n) = mul-le-mul_right (2 ^ (f * n)) up in
+    let t : 2 ^ (p * (j * 2 ^ f * 1)) * 2 ^ (f * (2 ^ f * q * 1)) ≤ (b ^ q) ^ (j * 2 ^ f * 1) * 2 ^ (f * (2 ^ f * q * 1)) = mul-le-mul_right (2 ^ (f * (2 ^ f * q * 1))) down in
+    let high : a ^ n ≤ 2 ^ ((p + 1) * (j * 2 ^ f * 2 ^ k) + f * n) = rw (x, c) s in
+    let low : 2 ^ (p * (j * 2 ^ f * 1) + f * (2 ^ f * q * 1)) ≤ a ^ (2 ^ f * q * 1) = rw (y, d) t in
+    let lower : 2 ^ (p * (j * 2 ^ f * 1) + f * (2 ^ f * q * 1)) ≤ a ^ (2 ^ f * q) = subst (λ k. 2 ^ (p * (j * 2 ^ f * 1) + f * (2 ^ f * q * 1)) ≤ a ^ k) e low in
+    let first = at_most (p + 1) q a f k ((p + 1) * (j * 2 ^ f * 2 ^ k) + f * n) r high h in
+    let second = at_least p q a f k (p * (j * 2 ^ f * 1) + f * (2 ^ f * q * 1)) r lower g in
+    let i : h.up * 2 ^ k * (p + 1) ≤ ((j * 2 ^ f + h.down) * 2 ^ k + 1) * (p + 1) = omega arith in
+    let above = without_part h.up (j * 2 ^ f + h.down) (2 ^ k) (p + 1) (omega arith) (two_at_least k one) i in
+    let l : (j * 2 ^ f + g.down) * p < (g.up + 1) * p = omega arith in
+    let below = lt_of_mul-lt-mul_right p l in
+    omega (arith, ints)
+
+-- ---- powers
+
+pub exp_of_zero : (k f : ℕ) (r : ℤ) → IsExp k (pos 0) f r → r ≡ pos (2 ^ f)
+exp_of_zero k f r h = h.value ∙ ap pos (h.exact refl)
+
+pub exp_from_zero : (k f : ℕ) (a r : ℤ) → IsExp k a f r → pos 0 ≤ℤ r
+exp_from_zero k f a r h = let v = h.value in omega (arith, ints)
+
+-- what the upper exponent x says of r
+exp_within : (p q f k r x m : ℕ) (a : ℤ) → 0 < q → (h : IsExpTo p q a f k r) → h.up * p + f * 2 ^ f * q ≤ x * (2 ^ f * q) + h.down * p → r ≤ 2 ^ x
+exp_within p q f k r x m a o h l =
+    let n = 2 ^ f * q in
+    let some : 0 < n = mul-le 1 1 (2 ^ f) q (pow_pos f) o in
+    let low = h.below in
+    let b : 2 ^ (h.up * p + f * 2 ^ f * q) ≤ 2 ^ (x * n + h.down * p) = pow-le-pow_right {n = 2} (omega arith) {i = h.up * p + f * 2 ^ f * q} {j = x * n + h.down * p} l in
+    let c = pow-add 2 (x * n) (h.down * p) in
+    let d : r ^ n * 2 ^ (h.down * p) ≤ 2 ^ (x * n) * 2 ^ (h.down * p) = omega arith in
+    let e = le_of_mul-le-mul_right d (pow_pos (h.down * p)) in
+    let t = pow_times 2 x n in
+    root_le r (2 ^ x) n some (omega arith)
+
+-- and where it is less
+exp_less : (p q f k r m : ℕ) (a : ℤ) → (h : IsExpTo p q a f k r) → h.up * p + f * 2 ^ f * q < m * (2 ^ f * q) + h.down * p → r < 2 ^ m
+exp_less p q f k r m a h l =
+    let n = 2 ^ f * q in
+    let low = h.below in
+    let x = h.up * p + f * 2 ^ f * q in
+    let s : 2 ^ suc x ≤ 2 ^ (m * n + h.down * p) = pow-le-pow_right {n = 2} (omega arith) {i = suc x} {j = m * n + h.down * p} l in
+    let two : 2 ^ suc x ≡ 2 * 2 ^ x = let t : suc x ≡ x + 1 = omega arith in ap (λ y. 2 ^ y) t ∙ pow-add 2 x 1 ∙ omega arith in
+    let c = pow-add 2 (m * n) (h.down * p) in
+    let d : r ^ n * 2 ^ (h.down * p) < 2 ^ (m * n) * 2 ^ (h.down * p) = omega (arith, pow_pos x) in
+    let e = lt_of_mul-lt-mul_right (2 ^ (h.down * p)) d in
+    let t = pow_times 2 m n in
+    root_lt r (2 ^ m) n (omega arith)
+
+pub exp_up_to_one : (k f : ℕ) (a r : ℤ) → a ≤ℤ pos 0 → IsExp k a f r → r ≤ℤ pos (2 ^ f)
+exp_up_to_one k f a r l h =
+    let v = h.value in
+    let low = h.low in
+    let w = low.value in
+    let less : low.up ≤ low.down = omega (arith, ints) in
+    let m : low.up * log2_e ≤ low.down * log2_e = mul-le-mul_right log2_e less in
+    let t = exp_within log2_e decimals f k h.units f 0 a (omega arith) low (omega arith) in
+    omega (arith, ints)
+
+pub exp_below : (k m f a : ℕ) (r : ℤ) → a * log2_e + f * 2 ^ f * decimals < m * 2 ^ f * decimals → IsExp k (pos a) f r → r <ℤ pos (2 ^ m)
+exp_below k m f a r l h =
+    let v = h.value in
+    let low = h.low in
+    let w = low.value in
+    let sum : low.up ≡ a + low.down = omega (arith, ints) in
+    let s : low.up * log2_e ≡ a * log2_e + low.down * log2_e = rw sum (omega arith) in
+    let t = exp_less log2_e decimals f k h.units m (pos a) low (omega arith) in
+    omega (arith, ints)

@@ -1,0 +1,60 @@
+//! The `unwrapped_` calls of logarithms and powers of e. They are this project's own.
+
+ghost use Rattle.std.specs.Prelude.{◌≤◌, ◌<ℤ◌, ℤ, pos};
+ghost use Rattle.fixed_word.specs.Format.{InRange};
+ghost use Rattle.fixed_natural.specs.Exps.{IsExp, exp_room};
+ghost use Rattle.fixed_natural.specs.Logs.{IsLn, IsLog10, log_room};
+
+use crate::strict::StrictNatural;
+use fixed_num::{Fixed, Held, Number};
+use fixed_word::{RawWord, Word};
+
+/// The `unwrapped_` calls of logarithms and powers of e. Operands and results are bits, in units of `2^-F`. The
+/// fraction has to be at most the width.
+pub trait UnwrappedNatural: Number {
+    /// The natural logarithm, rounded down, which has to fit. Precondition: the number is above 0.
+    ///
+    /// Where the logarithm lies less than `2^-k` units below a whole number of units, the result may be that number; k
+    /// is 24 on words of up to 32 bits, and 32 on words of 64 bits. The logarithm of 1 is exactly 0.
+    fn unwrapped_ln(self) -> Self
+        requires fraction { Self.FRACTION ≤ Self.BITS }
+        requires positive { pos 0 <ℤ Self.number self }
+        requires fits { (r : ℤ) → IsLn (log_room Self.BITS) (Self.number self) Self.FRACTION r
+            → InRange Self.SIGNED Self.BITS r }
+        ensures { IsLn (log_room Self.BITS) (Self.number self) Self.FRACTION (Self.number result) };
+
+    /// The logarithm to the base 10, rounded down, which has to fit. Precondition: the number is above 0.
+    ///
+    /// Where the logarithm lies less than `2^-k` units below a whole number of units, the result may be that number; k
+    /// is 24 on words of up to 32 bits, and 32 on words of 64 bits. The logarithm of a power of 10 is exact.
+    fn unwrapped_log10(self) -> Self
+        requires fraction { Self.FRACTION ≤ Self.BITS }
+        requires positive { pos 0 <ℤ Self.number self }
+        requires fits { (r : ℤ) → IsLog10 (log_room Self.BITS) (Self.number self) Self.FRACTION r
+            → InRange Self.SIGNED Self.BITS r }
+        ensures { IsLog10 (log_room Self.BITS) (Self.number self) Self.FRACTION (Self.number result) };
+
+    /// e to the power of the number, rounded down, which has to fit.
+    ///
+    /// The power is less than `(r + 1) 2^(2^-k)` for the result r; k is 46 on words of up to 32 bits, where r is one
+    /// unit less than the power rounded down at most, and 61 on words of 64 bits. e to the power of 0 is exactly 1.
+    fn unwrapped_exp(self) -> Self
+        requires fraction { Self.FRACTION ≤ Self.BITS }
+        requires fits { (r : ℤ) → IsExp (exp_room Self.BITS) (Self.number self) Self.FRACTION r
+            → InRange Self.SIGNED Self.BITS r }
+        ensures { IsExp (exp_room Self.BITS) (Self.number self) Self.FRACTION (Self.number result) };
+}
+
+impl<T: Word, const F: u32> UnwrappedNatural for Fixed<T, F> {
+    fn unwrapped_ln(self) -> Self {
+        self.strict_ln()
+    }
+
+    fn unwrapped_log10(self) -> Self {
+        self.strict_log10()
+    }
+
+    fn unwrapped_exp(self) -> Self {
+        self.strict_exp()
+    }
+}
