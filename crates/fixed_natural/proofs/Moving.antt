@@ -184,39 +184,32 @@ exp_to_none p q a f k some e =
       above = rw one (omega arith);
     }
 
--- h is the number of places
-pub exp_is : (a : ℤ) (f k h z r : ℕ) → h ≡ k + 2 → k ≤ 61 → ((p q : ℕ) → 0 < q → IsInverse 0xb8aa3b295c17f0bbbe87fed0691d3e88 (2 * q) p → IsExponentTo p q a f h (Some z))
-    → IsExp2Up 117 z h r → IsExp k a f (pos r)
-exp_is a f k h z r e few to is =
-    let here = subst (λ (n : ℕ). (p q : ℕ) → 0 < q → IsInverse 0xb8aa3b295c17f0bbbe87fed0691d3e88 (2 * q) p → IsExponentTo p q a f n (Some z)) e to in
-    let up = subst (λ (n : ℕ). IsExp2Up 117 z n r) e is in
+pub exp_is : (a : ℤ) (f z r : ℕ) → ((p q : ℕ) → 0 < q → IsInverse 0xb8aa3b295c17f0bbbe87fed0691d3e88 (2 * q) p → IsExponentTo p q a f (exp_room + 2) (Some z))
+    → IsExp2Up 117 z (exp_room + 2) r → IsExp a f (pos r)
+exp_is a f z r to is =
     let some : 0 < decimals = omega arith in
-    let first = here log2_e decimals some (record { below = omega arith; above = omega arith }) in
-    let second = here (log2_e + 1) decimals some (record { below = omega arith; above = omega arith }) in
+    let first = to log2_e decimals some (record { below = omega arith; above = omega arith }) in
+    let second = to (log2_e + 1) decimals some (record { below = omega arith; above = omega arith }) in
     record {
       units = r;
       value = refl;
-      low = exp_to log2_e decimals a f k z r some few first up;
-      high = exp_to (log2_e + 1) decimals a f k z r some few second up;
-      exact = λ none. up.exact f (some_is (first.zero none));
+      low = exp_to log2_e decimals a f exp_room z r some (omega arith) first is;
+      high = exp_to (log2_e + 1) decimals a f exp_room z r some (omega arith) second is;
+      exact = λ none. is.exact f (some_is (first.zero none));
     }
 
-pub exp_is_none : (a : ℤ) (f k h : ℕ) → h ≡ k + 2 → ((p q : ℕ) → 0 < q → IsInverse 0xb8aa3b295c17f0bbbe87fed0691d3e88 (2 * q) p → IsExponentTo p q a f h None) → IsExp k a f (pos 0)
-exp_is_none a f k h e to =
-    let here = subst (λ (n : ℕ). (p q : ℕ) → 0 < q → IsInverse 0xb8aa3b295c17f0bbbe87fed0691d3e88 (2 * q) p → IsExponentTo p q a f n None) e to in
+pub exp_is_none : (a : ℤ) (f : ℕ) → ((p q : ℕ) → 0 < q → IsInverse 0xb8aa3b295c17f0bbbe87fed0691d3e88 (2 * q) p → IsExponentTo p q a f (exp_room + 2) None) → IsExp a f (pos 0)
+exp_is_none a f to =
     let some : 0 < decimals = omega arith in
-    let first = here log2_e decimals some (record { below = omega arith; above = omega arith }) in
-    let second = here (log2_e + 1) decimals some (record { below = omega arith; above = omega arith }) in
+    let first = to log2_e decimals some (record { below = omega arith; above = omega arith }) in
+    let second = to (log2_e + 1) decimals some (record { below = omega arith; above = omega arith }) in
     record {
       units = 0;
       value = refl;
-      low = exp_to_none log2_e decimals a f k some first;
-      high = exp_to_none (log2_e + 1) decimals a f k some second;
+      low = exp_to_none log2_e decimals a f exp_room some first;
+      high = exp_to_none (log2_e + 1) decimals a f exp_room some second;
       exact = λ none. absurd (none_is (first.zero none));
     }
-
-pub room_few : (n : ℕ) → exp_room n ≤ 61
-room_few n = grind arith
 
 -- ---- the outcome
 

@@ -9,7 +9,7 @@ use Rattle.fixed_word.specs.Format.{InRange}
 use Rattle.fixed_elementary.proofs.Reading.{pow_times}
 use Rattle.fixed_elementary.proofs.LogLaws.{exponent_less}
 use Rattle.fixed_natural.specs.Bases.{decimals, log2_e}
-use Rattle.fixed_natural.specs.Exps.{IsExp, IsExpTo}
+use Rattle.fixed_natural.specs.Exps.{IsExp, IsExpTo, exp_room}
 use Rattle.fixed_natural.specs.Logs.{IsLogTo}
 use Rattle.fixed_natural.proofs.Exponents.{root_le, root_lt}
 
@@ -162,15 +162,15 @@ log_of_power b p q j k f r o one least most g h =
 
 -- ---- powers
 
-pub exp_of_zero : (k f : ℕ) (r : ℤ) → IsExp k (pos 0) f r → r ≡ pos (2 ^ f)
-exp_of_zero k f r h = h.value ∙ ap pos (h.exact refl)
+pub exp_of_zero : (f : ℕ) (r : ℤ) → IsExp (pos 0) f r → r ≡ pos (2 ^ f)
+exp_of_zero f r h = h.value ∙ ap pos (h.exact refl)
 
-pub exp_from_zero : (k f : ℕ) (a r : ℤ) → IsExp k a f r → pos 0 ≤ℤ r
-exp_from_zero k f a r h = let v = h.value in omega (arith, ints)
+pub exp_from_zero : (f : ℕ) (a r : ℤ) → IsExp a f r → pos 0 ≤ℤ r
+exp_from_zero f a r h = let v = h.value in omega (arith, ints)
 
 -- what the upper exponent x says of r
-exp_within : (p q f k r x m : ℕ) (a : ℤ) → 0 < q → (h : IsExpTo p q a f k r) → h.up * p + f * 2 ^ f * q ≤ x * (2 ^ f * q) + h.down * p → r ≤ 2 ^ x
-exp_within p q f k r x m a o h l =
+exp_within : (p q f k r x : ℕ) (a : ℤ) → 0 < q → (h : IsExpTo p q a f k r) → h.up * p + f * 2 ^ f * q ≤ x * (2 ^ f * q) + h.down * p → r ≤ 2 ^ x
+exp_within p q f k r x a o h l =
     let n = 2 ^ f * q in
     let some : 0 < n = mul-le 1 1 (2 ^ f) q (pow_pos f) o in
     let low = h.below in
@@ -195,22 +195,22 @@ exp_less p q f k r m a h l =
     let t = pow_times 2 m n in
     root_lt r (2 ^ m) n (omega arith)
 
-pub exp_up_to_one : (k f : ℕ) (a r : ℤ) → a ≤ℤ pos 0 → IsExp k a f r → r ≤ℤ pos (2 ^ f)
-exp_up_to_one k f a r l h =
+pub exp_up_to_one : (f : ℕ) (a r : ℤ) → a ≤ℤ pos 0 → IsExp a f r → r ≤ℤ pos (2 ^ f)
+exp_up_to_one f a r l h =
     let v = h.value in
     let low = h.low in
     let w = low.value in
     let less : low.up ≤ low.down = omega (arith, ints) in
     let m : low.up * log2_e ≤ low.down * log2_e = mul-le-mul_right log2_e less in
-    let t = exp_within log2_e decimals f k h.units f 0 a (omega arith) low (omega arith) in
+    let t = exp_within log2_e decimals f exp_room h.units f a (omega arith) low (omega arith) in
     omega (arith, ints)
 
-pub exp_below : (k m f a : ℕ) (r : ℤ) → a * log2_e + f * 2 ^ f * decimals < m * 2 ^ f * decimals → IsExp k (pos a) f r → r <ℤ pos (2 ^ m)
-exp_below k m f a r l h =
+pub exp_below : (m f a : ℕ) (r : ℤ) → a * log2_e + f * 2 ^ f * decimals < m * 2 ^ f * decimals → IsExp (pos a) f r → r <ℤ pos (2 ^ m)
+exp_below m f a r l h =
     let v = h.value in
     let low = h.low in
     let w = low.value in
     let sum : low.up ≡ a + low.down = omega (arith, ints) in
     let s : low.up * log2_e ≡ a * log2_e + low.down * log2_e = rw sum (omega arith) in
-    let t = exp_less log2_e decimals f k h.units m (pos a) low (omega arith) in
+    let t = exp_less log2_e decimals f exp_room h.units m (pos a) low (omega arith) in
     omega (arith, ints)

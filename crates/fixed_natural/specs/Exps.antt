@@ -1,5 +1,5 @@
 -- Powers of e, rounded down up to a small part of themselves.
-use Rattle.std.specs.Prelude.{◌≡◌, ◌+◌, ◌*◌, ◌^◌, ◌≤◌, ◌<◌, ◌-ℤ◌, ℕ, ℤ, pos, nat_le, if◌then◌else◌}
+use Rattle.std.specs.Prelude.{◌≡◌, ◌+◌, ◌*◌, ◌^◌, ◌≤◌, ◌<◌, ◌-ℤ◌, ℕ, ℤ, pos}
 use Rattle.fixed_natural.specs.Bases.{decimals, log2_e}
 
 -- r is b = 2^(p / q) to the power of a units of 2^-f, in such units, rounded down up to a factor of 2^(2^-k):
@@ -11,14 +11,14 @@ pub record IsExpTo (p q : ℕ) (a : ℤ) (f k r : ℕ) : Type 0 where
   pub below : r ^ (2 ^ f * q) * 2 ^ (down * p) ≤ 2 ^ (up * p + f * 2 ^ f * q)
   pub above : 2 ^ ((up * p + f * 2 ^ f * q) * 2 ^ k) < (r + 1) ^ (2 ^ f * q * 2 ^ k) * 2 ^ (down * p * 2 ^ k + 2 ^ f * q)
 
--- on words of n bits k is this
-abbrev pub exp_room : ℕ → ℕ
-exp_room n = if nat_le n 32 then 46 else 61
+-- k is this
+abbrev pub exp_room : ℕ
+exp_room = 61
 
 -- r is e to the power of a units, as two bases show that enclose e; exactly so to the power of 0
-pub record IsExp (k : ℕ) (a : ℤ) (f : ℕ) (r : ℤ) : Type 0 where
+pub record IsExp (a : ℤ) (f : ℕ) (r : ℤ) : Type 0 where
   pub units : ℕ
   pub value : r ≡ pos units
-  pub low : IsExpTo log2_e decimals a f k units
-  pub high : IsExpTo (log2_e + 1) decimals a f k units
+  pub low : IsExpTo log2_e decimals a f exp_room units
+  pub high : IsExpTo (log2_e + 1) decimals a f exp_room units
   pub exact : a ≡ pos 0 → units ≡ 2 ^ f

@@ -3,7 +3,7 @@
 ghost use Rattle.std.specs.Prelude.{◌≡◌, ◌≤◌, ◌<◌, ◌+◌, ◌*◌, ◌^◌, ◌-◌, ℕ, ℤ};
 ghost use Rattle.fixed_word.specs.Format.{with_sign};
 ghost use Rattle.fixed_elementary.specs.Exp2.{IsExp2Up, StandsUpTo};
-ghost use Rattle.fixed_natural.specs.Exps.{IsExp, exp_room};
+ghost use Rattle.fixed_natural.specs.Exps.{IsExp};
 ghost use Rattle.fixed_natural.specs.inside.Exponent.{IsExponentTo};
 ghost use Rattle.fixed_natural.specs.inside.Scaling.{IsInverse, IsQuotient};
 
@@ -15,11 +15,7 @@ use fixed_word::{Outcome, RawWord, Valued, Word, outcome_of};
 const HALF_LOG2_E: u128 = 0xb8aa_3b29_5c17_f0bb_be87_fed0_691d_3e88;
 
 /// How many digits an exponent has behind its point.
-fn places_of(bits: u32) -> u32
-    ensures { result ≡ exp_room bits + 2 }
-{
-    if bits <= 32 { 48 } else { 63 }
-}
+const PLACES: u32 = 63;
 
 /// A magnitude in units of `2^-(places + 1)`.
 fn moved(magnitude: u64, frac: u32, places: u32) -> u128
@@ -50,17 +46,16 @@ fn exponent_of<T: RawWord>(a: T, frac: u32, places: u32) -> Option<u128>
     }
 }
 
-/// e to the power of `a 2^-frac`, in units of `2^-frac`, rounded down up to a factor of `2^(2^-k)`; k is 46 on words of up
-/// to 32 bits, and 61 on words of 64 bits. That of 0 is exactly 1. The outcome has no bits of a number above the
-/// range: it then stands for another number above the range.
+/// e to the power of `a 2^-frac`, in units of `2^-frac`, rounded down up to a factor of `2^(2^-61)`: the power is less than
+/// `(r + 1) 2^(2^-61)` for the result r. That of 0 is exactly 1. The outcome has no bits of a number above the range: it
+/// then stands for another number above the range.
 pub fn exp_of<T: Word>(a: T, frac: u32) -> Outcome<T>
     requires { frac ≤ T.BITS }
-    ensures { (r : ℤ) × IsExp (exp_room T.BITS) (T.value a) frac r
+    ensures { (r : ℤ) × IsExp (T.value a) frac r
         × StandsUpTo T.value T.SIGNED T.BITS r result }
 {
-    let places = places_of(T::BITS);
-    match exponent_of(a, frac, places) {
-        Some(exponent) => outcome_of(false, power_of(exponent, places, 64)),
+    match exponent_of(a, frac, PLACES) {
+        Some(exponent) => outcome_of(false, power_of(exponent, PLACES, 64)),
         None => outcome_of(false, 0),
     }
 }

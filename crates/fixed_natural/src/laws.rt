@@ -35,9 +35,9 @@ pub fn log10_law()
 /// e to the power of 0 is exactly 1. No power is below 0, one of a number that is not above 0 is 1 at most, and one whose
 /// exponent of 2 is below `m - f` is below `2^m` units.
 pub fn exp_law()
-    ensures of_zero { (k f : ℕ) (r : ℤ) → IsExp k (pos 0) f r → r ≡ pos (2 ^ f) }
-    ensures from_zero { (k f : ℕ) (a r : ℤ) → IsExp k a f r → pos 0 ≤ℤ r }
-    ensures up_to_one { (k f : ℕ) (a r : ℤ) → a ≤ℤ pos 0 → IsExp k a f r → r ≤ℤ pos (2 ^ f) }
-    ensures below { (k m f a : ℕ) (r : ℤ) → a * log2_e + f * 2 ^ f * decimals < m * 2 ^ f * decimals
-        → IsExp k (pos a) f r → r <ℤ pos (2 ^ m) }
+    ensures of_zero { (f : ℕ) (r : ℤ) → IsExp (pos 0) f r → r ≡ pos (2 ^ f) }
+    ensures from_zero { (f : ℕ) (a r : ℤ) → IsExp a f r → pos 0 ≤ℤ r }
+    ensures up_to_one { (f : ℕ) (a r : ℤ) → a ≤ℤ pos 0 → IsExp a f r → r ≤ℤ pos (2 ^ f) }
+    ensures below { (m f a : ℕ) (r : ℤ) → a * log2_e + f * 2 ^ f * decimals < m * 2 ^ f * decimals
+        → IsExp (pos a) f r → r <ℤ pos (2 ^ m) }
 {}

@@ -2,7 +2,7 @@
 
 ghost use Rattle.std.specs.Prelude.{◌≤◌, ◌<ℤ◌, ℤ, pos};
 ghost use Rattle.fixed_word.specs.Format.{InRange};
-ghost use Rattle.fixed_natural.specs.Exps.{IsExp, exp_room};
+ghost use Rattle.fixed_natural.specs.Exps.{IsExp};
 ghost use Rattle.fixed_natural.specs.Logs.{IsLn, IsLog10, log_room};
 
 use crate::exponentials::exp_of;
@@ -37,13 +37,14 @@ pub trait StrictNatural: Number {
 
     /// e to the power of the number, rounded down, which has to fit.
     ///
-    /// The power is less than `(r + 1) 2^(2^-k)` for the result r; k is 46 on words of up to 32 bits, where r is one
-    /// unit less than the power rounded down at most, and 61 on words of 64 bits. e to the power of 0 is exactly 1.
+    /// The power is less than `(r + 1) 2^(2^-61)` for the result r. On words of up to 32 bits, r may be one unit less
+    /// than the power rounded down, if the power lies less than `2^-29` units above a whole number of units; on words
+    /// of 64 bits, r is at most 6 units less. e to the power of 0 is exactly 1.
     fn strict_exp(self) -> Self
         requires fraction { Self.FRACTION ≤ Self.BITS }
-        requires fits { (r : ℤ) → IsExp (exp_room Self.BITS) (Self.number self) Self.FRACTION r
+        requires fits { (r : ℤ) → IsExp (Self.number self) Self.FRACTION r
             → InRange Self.SIGNED Self.BITS r }
-        ensures { IsExp (exp_room Self.BITS) (Self.number self) Self.FRACTION (Self.number result) };
+        ensures { IsExp (Self.number self) Self.FRACTION (Self.number result) };
 }
 
 impl<T: Word, const F: u32> StrictNatural for Fixed<T, F> {

@@ -32,7 +32,7 @@ pub fn ln_with_16(number: FixedI32<16>) -> FixedI32<16>
 /// e to the power of a number that is not above 0, which is 1 at most.
 pub fn decay_with_16(number: FixedI32<16>) -> FixedI32<16>
     requires { number.bits ≤ℤ pos 0 }
-    ensures { IsExp 46 number.bits 16 result.bits }
+    ensures { IsExp number.bits 16 result.bits }
 {
     exp_law();
     number.strict_exp()
