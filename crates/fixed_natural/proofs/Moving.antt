@@ -1,10 +1,11 @@
 -- The exponent of a power of e, and the power, in a word.
-use Rattle.std.proofs.Common.{◌≡◌, ◌+◌, ◌-◌, ◌*◌, ◌^◌, ◌<◌, ◌≤◌, ◌<ℤ◌, ◌-ℤ◌, ℕ, ℤ, Bool, Some, None, pos, suc, zero, negsuc, refl, ap, sym, subst, ◌∙◌, inl, inr, arith, rules}
+use Rattle.std.proofs.Common.{◌≡◌, ◌+◌, ◌-◌, ◌*◌, ◌^◌, ◌<◌, ◌≤◌, ◌<ℤ◌, ◌-ℤ◌, ℕ, ℤ, Bool, Option, Some, None, pos, suc, zero, negsuc, refl, ap, sym, ◌∙◌, inl, inr, arith, rules}
 use Rattle.std.specs.Prelude.{min, unsigned_abs}
 use Rattle.std.proofs.lemmas.Int.{ints}
 use Rattle.std.proofs.lemmas.Bool.{cases_lt}
 use Rattle.std.proofs.lemmas.Nat.{mul-le, pow-add, pow_pos, shl_below}
-use Rattle.std.proofs.Math.Nat.{mul-le-mul_right, pow-le-pow_right, pow-zero, pow-suc}
+use Rattle.std.proofs.Math.Nat.{lt_of_mul-lt-mul_right, mul-le-mul_right, pow-le-pow_right, pow-lt-pow_left, pow-zero, pow-suc}
+use Rattle.fixed_elementary.proofs.Reading.{pow_times}
 use Rattle.fixed_word.specs.Format.{IsWidth}
 use Rattle.fixed_word.specs.Standing.{StandsFor}
 use Rattle.fixed_word.specs.declared.outcome.Outcome.{Outcome}
@@ -27,7 +28,7 @@ moved_fits m f g l h few =
 quotient_small : (x c e t : ℕ) → x ≤ 2 ^ t → e * 2 ^ 128 ≤ x * c → e * 2 ^ 128 ≤ c * 2 ^ t
 quotient_small x c e t h l = let a = mul-le-mul_right c h in omega arith
 
-pub sum_fits : (m f g c e : ℕ) → m < 2 ^ 64 → f ≤ g + 1 → g ≤ 63 → c < 2 ^ 128 → e * (2 ^ 128 * 2 ^ 0) ≤ m * 2 ^ (g + 1 - f) * c → f * 2 ^ g + e < 2 ^ 128
+pub sum_fits : (m f g c e : ℕ) → m < 2 ^ 64 → f ≤ g + 1 → g ≤ 63 → c + 3 < 2 ^ 128 → e * (2 ^ 128 * 2 ^ 0) ≤ m * 2 ^ (g + 1 - f) * c → f * 2 ^ g + e + 3 < 2 ^ 128
 sum_fits m zero g c e l h few less q =
     let one : 2 ^ 0 ≡ 1 = refl in
     let a = moved_fits m zero g l h few in
@@ -66,7 +67,7 @@ none_is : {x : ℕ} → None ≡ Some x → ⊥
 none_is e = search rules
 
 pub exponent_up : (p q : ℕ) (a : ℤ) (f g m c e : ℕ) → 0 < q → f ≤ g + 1 → g ≤ 63 → (a <ℤ pos 0 → ⊥) → m ≡ unsigned_abs a → m < 2 ^ 64 → IsInverse c (2 * q) p
-    → IsQuotient (m * 2 ^ (g + 1 - f) * c) (2 ^ 128 * 2 ^ 0) e → IsExponentTo p q a f g (Some (f * 2 ^ g + e))
+    → IsQuotient (m * 2 ^ (g + 1 - f) * c) (2 ^ 128 * 2 ^ 0) e → IsExponentTo p q a f g (Some (f * 2 ^ g + e + 3))
 exponent_up p q a f g m c e some h few sign same l i d =
     let one : 2 ^ 0 ≡ 1 = refl in
     let o : 0 < 2 ^ 128 = omega arith in
@@ -79,25 +80,22 @@ exponent_up p q a f g m c e some h few sign same l i d =
       up = m;
       down = 0;
       value = from_zero a m sign same;
-      below = λ z is. rw (sym (some_is is)) (omega arith);
-      above = omega arith;
-      zero = λ none. ap Some (nothing m (2 ^ (g + 1 - f)) c e (f * 2 ^ g) (same ∙ ap unsigned_abs none) low);
+      least = λ z is. rw (sym (some_is is)) (omega arith);
+      most = λ z is. rw (sym (some_is is)) (omega arith);
+      none = λ is. absurd (none_is (sym is));
     }
   where
     from_zero : (a : ℤ) (m : ℕ) → (a <ℤ pos 0 → ⊥) → m ≡ unsigned_abs a → a ≡ pos m -ℤ pos 0
     from_zero (pos n) m s e = let k : m ≡ n = e in omega (arith, ints)
     from_zero (negsuc n) m s e = absurd (s (omega (arith, ints)))
 
-    nothing : (m s c e o : ℕ) → m ≡ 0 → e * 2 ^ 128 ≤ m * s * c → o + e ≡ o
-    nothing m s c e o z l = let k : e * 2 ^ 128 ≤ 0 * s * c = subst (λ n. e * 2 ^ 128 ≤ n * s * c) z l in omega arith
-
 below_zero : (a : ℤ) (m : ℕ) → a <ℤ pos 0 → m ≡ unsigned_abs a → a ≡ pos 0 -ℤ pos m
 below_zero (pos n) m l e = absurd (omega (arith, ints))
 below_zero (negsuc n) m l e = let k : m ≡ suc n = e in omega (arith, ints)
 
-pub exponent_down : (p q : ℕ) (a : ℤ) (f g m c e : ℕ) → 0 < q → f ≤ g + 1 → g ≤ 63 → a <ℤ pos 0 → m ≡ unsigned_abs a → m < 2 ^ 64 → IsInverse c (2 * q) p
-    → IsQuotient (m * 2 ^ (g + 1 - f) * (c + 1)) (2 ^ 128 * 2 ^ 0) e → e < f * 2 ^ g → IsExponentTo p q a f g (Some (f * 2 ^ g - e - 1))
-exponent_down p q a f g m c e some h few sign same l i d less =
+pub exponent_down : (p q : ℕ) (a : ℤ) (f g m c e : ℕ) (z : Option ℕ) → 0 < q → f ≤ g + 1 → g ≤ 63 → a <ℤ pos 0 → m ≡ unsigned_abs a → m < 2 ^ 64 → IsInverse c (2 * q) p
+    → IsQuotient (m * 2 ^ (g + 1 - f) * (c + 1)) (2 ^ 128 * 2 ^ 0) e → (f * 2 ^ g + 2 < e → z ≡ None) → (e ≤ f * 2 ^ g + 2 → z ≡ Some (f * 2 ^ g + 2 - e)) → IsExponentTo p q a f g z
+exponent_down p q a f g m c e z some h few sign same l i d nothing something =
     let one : 2 ^ 0 ≡ 1 = refl in
     let o : 0 < 2 ^ 128 = omega arith in
     let t = twice f g h in
@@ -105,50 +103,55 @@ exponent_down p q a f g m c e some h few sign same l i d less =
     let high : m * 2 ^ (g + 1 - f) * (c + 1) ≤ (e + 1) * 2 ^ 128 = omega (arith, d.above) in
     let first = lowered_below m (2 ^ f) (2 ^ g) (2 ^ (g + 1 - f)) p q c (2 ^ 128) e o t high i.above in
     let second = lowered_above m (2 ^ f) (2 ^ g) (2 ^ (g + 1 - f)) p q c (2 ^ 128) e o t low (whole m f g l h few) i.below in
-    let z = f * 2 ^ g - e - 1 in
-    let all : (z + e + 1) * (2 ^ f * q) ≡ f * 2 ^ g * (2 ^ f * q) = let s : z + e + 1 ≡ f * 2 ^ g = omega arith in ap (λ n. n * (2 ^ f * q)) s in
-    record {
-      up = 0;
-      down = m;
-      value = below_zero a m sign same;
-      below = λ y is. rw (sym (some_is is)) (omega arith);
-      above = omega arith;
-      zero = λ none. absurd (omega (arith, ints));
-    }
-
-pub exponent_none : (p q : ℕ) (a : ℤ) (f g m c e : ℕ) → 0 < q → f ≤ g + 1 → g ≤ 63 → a <ℤ pos 0 → m ≡ unsigned_abs a → m < 2 ^ 64 → IsInverse c (2 * q) p
-    → IsQuotient (m * 2 ^ (g + 1 - f) * (c + 1)) (2 ^ 128 * 2 ^ 0) e → f * 2 ^ g ≤ e → IsExponentTo p q a f g None
-exponent_none p q a f g m c e some h few sign same l i d more =
-    let one : 2 ^ 0 ≡ 1 = refl in
-    let o : 0 < 2 ^ 128 = omega arith in
-    let t = twice f g h in
-    let low : e * 2 ^ 128 ≤ m * 2 ^ (g + 1 - f) * (c + 1) = omega (arith, d.below) in
-    let second = lowered_above m (2 ^ f) (2 ^ g) (2 ^ (g + 1 - f)) p q c (2 ^ 128) e o t low (whole m f g l h few) i.below in
-    let all : f * 2 ^ g * (2 ^ f * q) ≤ e * (2 ^ f * q) = mul-le-mul_right (2 ^ f * q) more in
-    record {
-      up = 0;
-      down = m;
-      value = below_zero a m sign same;
-      below = λ y is. absurd (none_is is);
-      above = omega arith;
-      zero = λ none. absurd (omega (arith, ints));
-    }
+    let n = 2 ^ f * q in
+    elim (cases_lt (f * 2 ^ g + 2) e) [
+      | inl more ↦
+          let is = nothing more in
+          let k : (f * 2 ^ g + 3) * n ≤ e * n = mul-le-mul_right n (omega arith) in
+          let some_n : 0 < n = mul-le 1 1 (2 ^ f) q (pow_pos f) some in
+          let s : f * 2 ^ f * q * 2 ^ g < m * p * 2 ^ g = omega arith in
+          let u = lt_of_mul-lt-mul_right (2 ^ g) s in
+          record {
+            up = 0;
+            down = m;
+            value = below_zero a m sign same;
+            least = λ y has. absurd (none_is (sym is ∙ has));
+            most = λ y has. absurd (none_is (sym is ∙ has));
+            none = λ has. omega arith;
+          }
+      | inr fine ↦
+          let is = something fine in
+          let y = f * 2 ^ g + 2 - e in
+          let all : (y + e) * n ≡ (f * 2 ^ g + 2) * n = let s : y + e ≡ f * 2 ^ g + 2 = omega arith in ap (λ k. k * n) s in
+          record {
+            up = 0;
+            down = m;
+            value = below_zero a m sign same;
+            least = λ k has. rw (some_is (sym has ∙ is)) (omega arith);
+            most = λ k has. rw (some_is (sym has ∙ is)) (omega arith);
+            none = λ has. absurd (none_is (sym has ∙ is));
+          }
+    ]
 
 -- ---- the power
 
-exp_to : (p q : ℕ) (a : ℤ) (f k z r : ℕ) → 0 < q → k ≤ 61 → IsExponentTo p q a f (k + 2) (Some z) → IsExp2Up 117 z (k + 2) r → IsExpTo p q a f k r
+exp_to : (p q : ℕ) (a : ℤ) (f k z r : ℕ) → 0 < q → k + 2 ≤ 117 → IsExponentTo p q a f (k + 2) (Some z) → IsExp2Up 117 z (k + 2) r → IsExpTo p q a f k r
 exp_to p q a f k z r some few e is =
     let n = 2 ^ f * q in
     let o : 0 < n = mul-le 1 1 (2 ^ f) q (pow_pos f) some in
-    let zero_near = is.near 0 (omega arith) in
-    let near = is.near (k + 1) (omega arith) in
+    let none : 0 ≤ 117 = omega arith in
+    let zero_near = is.near 0 none in
+    let near = is.near (k + 2) few in
     let x = e.up * p + f * 2 ^ f * q in
+    let four : 2 ^ (k + 2) ≡ 4 * 2 ^ k = pow-add 2 k 2 ∙ omega arith in
+    let s = mul-le-mul_right (2 ^ k) (e.least z refl) in
+    let t : n * 2 ^ (k + 2) ≡ 4 * n * 2 ^ k = ap (λ y. n * y) four ∙ omega arith in
     record {
       up = e.up;
       down = e.down;
       value = e.value;
-      below = exp_below r n (k + 2) z (e.down * p) x zero_near.below (e.below z refl);
-      above = exp_above (r + 1) n k z (e.down * p) x o near.above e.above;
+      below = exp_below r (n * 2 ^ k) (k + 2) z (e.down * p * 2 ^ k) (x * 2 ^ k + n) zero_near.below (omega arith);
+      above = exp_above (r + 1) n (k + 2) z (e.down * p) x o near.above (e.most z refl);
     }
 
 power_less : (i j : ℕ) → i < j → 2 ^ i < 2 ^ j
@@ -166,27 +169,61 @@ one_raised : (n : ℕ) → 1 ^ n ≡ 1
 one_raised zero = pow-zero 1
 one_raised (suc n) = pow-suc 1 n ∙ ap (λ (x : ℕ). x * 1) (one_raised n)
 
-exp_to_none : (p q : ℕ) (a : ℤ) (f k : ℕ) → 0 < q → IsExponentTo p q a f (k + 2) None → IsExpTo p q a f k 0
-exp_to_none p q a f k some e =
-    let n = 2 ^ f * q in
-    let o : 0 < n = mul-le 1 1 (2 ^ f) q (pow_pos f) some in
+exp_to_none : (p q : ℕ) (a : ℤ) (f h k : ℕ) → 0 < q → IsExponentTo p q a f h None → IsExpTo p q a f k 0
+exp_to_none p q a f h k some e =
+    let n = 2 ^ f * q * 2 ^ k in
+    let o : 0 < n = mul-le 1 1 (2 ^ f * q) (2 ^ k) (mul-le 1 1 (2 ^ f) q (pow_pos f) some) (pow_pos k) in
     let x = e.up * p + f * 2 ^ f * q in
-    let four : 2 ^ (k + 2) ≡ 4 * 2 ^ k = pow-add 2 k 2 ∙ omega arith in
-    let above : x * (4 * 2 ^ k) ≤ (0 + 2) * n + e.down * p * (4 * 2 ^ k) = subst (λ (y : ℕ). x * y ≤ (0 + 2) * n + e.down * p * y) four e.above in
-    let less : x * 2 ^ k < e.down * p * 2 ^ k + n = omega arith in
-    let one = one_raised (2 ^ f * q * 2 ^ k) in
-    let up : 2 ^ (x * 2 ^ k) < 2 ^ (e.down * p * 2 ^ k + n) = power_less (x * 2 ^ k) (e.down * p * 2 ^ k + n) less in
+    let one = one_raised (2 ^ f * q) in
+    let up = power_less x (e.down * p) (e.none refl) in
     record {
       up = e.up;
       down = e.down;
       value = e.value;
-      below = nothing_raised n (e.down * p) x o;
+      below = nothing_raised n (e.down * p * 2 ^ k) (x * 2 ^ k + 2 ^ f * q) o;
       above = rw one (omega arith);
     }
 
-pub exp_is : (a : ℤ) (f z r : ℕ) → ((p q : ℕ) → 0 < q → IsInverse 0xb8aa3b295c17f0bbbe87fed0691d3e88 (2 * q) p → IsExponentTo p q a f (exp_room + 2) (Some z))
+exp_to_one : (p q f k : ℕ) → 0 < q → IsExpTo p q (pos 0) f k (2 ^ f)
+exp_to_one p q f k some =
+    let n = 2 ^ f * q in
+    let o : 0 < n = mul-le 1 1 (2 ^ f) q (pow_pos f) some in
+    let a = pow_times 2 f (n * 2 ^ k) in
+    let b = pow_times 2 f n in
+    let c : 2 ^ (f * (n * 2 ^ k)) ≤ 2 ^ ((0 * p + f * 2 ^ f * q) * 2 ^ k + n) = pow-le-pow_right {n = 2} (omega arith) {i = f * (n * 2 ^ k)} {j = (0 * p + f * 2 ^ f * q) * 2 ^ k + n} (omega arith) in
+    let unit = pow-zero 2 in
+    let z : 0 * p * 2 ^ k ≡ 0 = omega arith in
+    let y : 0 * p ≡ 0 = omega arith in
+    let s : 0 * p + f * 2 ^ f * q ≡ f * n = omega arith in
+    let up : (2 ^ f) ^ n < (2 ^ f + 1) ^ n = pow-lt-pow_left (omega arith) (omega arith) in
+    let nothing : pos 0 ≡ pos 0 -ℤ pos 0 = refl in
+    record {
+      up = 0;
+      down = 0;
+      value = nothing;
+      below = rw (z, unit) (omega arith);
+      above = rw (s, y, unit) (omega arith);
+    }
+
+pub exp_is_one : (a : ℤ) (m f r : ℕ) → m ≡ unsigned_abs a → m ≡ 0 → r ≡ 2 ^ f → IsExp a f (pos r)
+exp_is_one (pos n) m f r e z is =
+    let none : n ≡ 0 = sym e ∙ z in
+    let some : 0 < decimals = omega arith in
+    rw (none, is) (record {
+      units = 2 ^ f;
+      value = refl;
+      low = exp_to_one log2_e decimals f exp_room some;
+      high = exp_to_one (log2_e + 1) decimals f exp_room some;
+      exact = λ same. refl;
+    })
+exp_is_one (negsuc n) m f r e z is = let k : m ≡ suc n = e in absurd (omega arith)
+
+not_none : (a : ℤ) (m : ℕ) → m ≡ unsigned_abs a → (m ≡ 0 → ⊥) → a ≡ pos 0 → ⊥
+not_none a m e some none = some (e ∙ ap unsigned_abs none)
+
+pub exp_is : (a : ℤ) (m f z r : ℕ) → m ≡ unsigned_abs a → (m ≡ 0 → ⊥) → ((p q : ℕ) → 0 < q → IsInverse 0xb8aa3b295c17f0bbbe87fed0691d3e88 (2 * q) p → IsExponentTo p q a f (exp_room + 2) (Some z))
     → IsExp2Up 117 z (exp_room + 2) r → IsExp a f (pos r)
-exp_is a f z r to is =
+exp_is a m f z r e nonzero to is =
     let some : 0 < decimals = omega arith in
     let first = to log2_e decimals some (record { below = omega arith; above = omega arith }) in
     let second = to (log2_e + 1) decimals some (record { below = omega arith; above = omega arith }) in
@@ -195,20 +232,20 @@ exp_is a f z r to is =
       value = refl;
       low = exp_to log2_e decimals a f exp_room z r some (omega arith) first is;
       high = exp_to (log2_e + 1) decimals a f exp_room z r some (omega arith) second is;
-      exact = λ none. is.exact f (some_is (first.zero none));
+      exact = λ none. absurd (not_none a m e nonzero none);
     }
 
-pub exp_is_none : (a : ℤ) (f : ℕ) → ((p q : ℕ) → 0 < q → IsInverse 0xb8aa3b295c17f0bbbe87fed0691d3e88 (2 * q) p → IsExponentTo p q a f (exp_room + 2) None) → IsExp a f (pos 0)
-exp_is_none a f to =
+pub exp_is_none : (a : ℤ) (m f : ℕ) → m ≡ unsigned_abs a → (m ≡ 0 → ⊥) → ((p q : ℕ) → 0 < q → IsInverse 0xb8aa3b295c17f0bbbe87fed0691d3e88 (2 * q) p → IsExponentTo p q a f (exp_room + 2) None) → IsExp a f (pos 0)
+exp_is_none a m f e nonzero to =
     let some : 0 < decimals = omega arith in
     let first = to log2_e decimals some (record { below = omega arith; above = omega arith }) in
     let second = to (log2_e + 1) decimals some (record { below = omega arith; above = omega arith }) in
     record {
       units = 0;
       value = refl;
-      low = exp_to_none log2_e decimals a f exp_room some first;
-      high = exp_to_none (log2_e + 1) decimals a f exp_room some second;
-      exact = λ none. absurd (none_is (first.zero none));
+      low = exp_to_none log2_e decimals a f (exp_room + 2) exp_room some first;
+      high = exp_to_none (log2_e + 1) decimals a f (exp_room + 2) exp_room some second;
+      exact = λ none. absurd (not_none a m e nonzero none);
     }
 
 -- ---- the outcome

@@ -1,17 +1,17 @@
 -- Laws of logarithms and powers to bases 2^(p / q).
-use Rattle.std.proofs.Common.{◌≡◌, ◌+◌, ◌-◌, ◌*◌, ◌^◌, ◌<◌, ◌≤◌, ◌≤ℤ◌, ◌<ℤ◌, ◌+ℤ◌, ℕ, ℤ, pos, suc, true, refl, ap, sym, subst, ◌∙◌, inl, inr, arith}
+use Rattle.std.proofs.Common.{◌≡◌, ◌+◌, ◌-◌, ◌*◌, ◌^◌, ◌<◌, ◌≤◌, ◌≤ℤ◌, ◌<ℤ◌, ◌+ℤ◌, ℕ, ℤ, pos, suc, zero, true, refl, ap, sym, subst, ◌∙◌, inl, inr, arith}
 use Rattle.std.specs.Prelude.{unsigned_abs}
 use Rattle.std.proofs.lemmas.Int.{ints}
 use Rattle.std.proofs.lemmas.Bool.{cases_lt}
-use Rattle.std.proofs.lemmas.Nat.{mul-le, mul-pow, pow-add, pow_pos}
-use Rattle.std.proofs.Math.Nat.{le_of_mul-le-mul_right, lt_of_mul-lt-mul_right, mul-le-mul_right, mul-le-mul_left, pow-le-pow_left, pow-le-pow_right}
+use Rattle.std.proofs.lemmas.Nat.{mul-pow, pow-add, pow_pos}
+use Rattle.std.proofs.Math.Nat.{one-le-pow, pow-suc, pow-zero, mul-le-mul_left, le_of_mul-le-mul_right, lt_of_mul-lt-mul_right, mul-le-mul_right, mul-le-mul_left, pow-le-pow_left, pow-le-pow_right, pow-lt-pow_left}
 use Rattle.fixed_word.specs.Format.{InRange}
 use Rattle.fixed_elementary.proofs.Reading.{pow_times}
 use Rattle.fixed_elementary.proofs.LogLaws.{exponent_less}
 use Rattle.fixed_natural.specs.Bases.{decimals, log2_e}
 use Rattle.fixed_natural.specs.Exps.{IsExp, IsExpTo, exp_room}
 use Rattle.fixed_natural.specs.Logs.{IsLogTo}
-use Rattle.fixed_natural.proofs.Exponents.{root_le, root_lt}
+use Rattle.fixed_natural.proofs.Exponents.{root_lt}
 
 -- exponents are in the order of the powers of two
 exponent_le : (i j : ℕ) → 2 ^ i ≤ 2 ^ j → i ≤ j
@@ -168,49 +168,87 @@ exp_of_zero f r h = h.value ∙ ap pos (h.exact refl)
 pub exp_from_zero : (f : ℕ) (a r : ℤ) → IsExp a f r → pos 0 ≤ℤ r
 exp_from_zero f a r h = let v = h.value in omega (arith, ints)
 
--- what the upper exponent x says of r
-exp_within : (p q f k r x : ℕ) (a : ℤ) → 0 < q → (h : IsExpTo p q a f k r) → h.up * p + f * 2 ^ f * q ≤ x * (2 ^ f * q) + h.down * p → r ≤ 2 ^ x
-exp_within p q f k r x a o h l =
-    let n = 2 ^ f * q in
-    let some : 0 < n = mul-le 1 1 (2 ^ f) q (pow_pos f) o in
-    let low = h.below in
-    let b : 2 ^ (h.up * p + f * 2 ^ f * q) ≤ 2 ^ (x * n + h.down * p) = pow-le-pow_right {n = 2} (omega arith) {i = h.up * p + f * 2 ^ f * q} {j = x * n + h.down * p} l in
-    let c = pow-add 2 (x * n) (h.down * p) in
-    let d : r ^ n * 2 ^ (h.down * p) ≤ 2 ^ (x * n) * 2 ^ (h.down * p) = omega arith in
-    let e = le_of_mul-le-mul_right d (pow_pos (h.down * p)) in
-    let t = pow_times 2 x n in
-    root_le r (2 ^ x) n some (omega arith)
+-- ---- how large
 
--- and where it is less
-exp_less : (p q f k r m : ℕ) (a : ℤ) → (h : IsExpTo p q a f k r) → h.up * p + f * 2 ^ f * q < m * (2 ^ f * q) + h.down * p → r < 2 ^ m
-exp_less p q f k r m a h l =
-    let n = 2 ^ f * q in
-    let low = h.below in
-    let x = h.up * p + f * 2 ^ f * q in
-    let s : 2 ^ suc x ≤ 2 ^ (m * n + h.down * p) = pow-le-pow_right {n = 2} (omega arith) {i = suc x} {j = m * n + h.down * p} l in
-    let two : 2 ^ suc x ≡ 2 * 2 ^ x = let t : suc x ≡ x + 1 = omega arith in ap (λ y. 2 ^ y) t ∙ pow-add 2 x 1 ∙ omega arith in
-    let c = pow-add 2 (m * n) (h.down * p) in
-    let d : r ^ n * 2 ^ (h.down * p) < 2 ^ (m * n) * 2 ^ (h.down * p) = omega (arith, pow_pos x) in
-    let e = lt_of_mul-lt-mul_right (2 ^ (h.down * p)) d in
-    let t = pow_times 2 m n in
-    root_lt r (2 ^ m) n (omega arith)
+-- (1 + 1 / w)^n is at least 1 + n / w
+growth_least : (w n : ℕ) → w ^ n * (w + n) ≤ (w + 1) ^ n * w
+growth_least w zero =
+    let a = pow-zero w in
+    let b = pow-zero (w + 1) in
+    rw (a, b) (omega arith)
+growth_least w (suc n) =
+    let a = pow-suc w n in
+    let b = pow-suc (w + 1) n in
+    let h = mul-le-mul_right (w + 1) (growth_least w n) in
+    let g : w * (w + suc n) ≤ (w + n) * (w + 1) = omega arith in
+    let m = mul-le-mul_left (w ^ n) g in
+    rw (a, b) (omega arith)
 
-pub exp_up_to_one : (f : ℕ) (a r : ℤ) → a ≤ℤ pos 0 → IsExp a f r → r ≤ℤ pos (2 ^ f)
-exp_up_to_one f a r l h =
+-- r is at most 2^f, where r to the power n j is at most 2^(f n j + n) and j is more than 2^f
+no_more : (f n j r : ℕ) → 0 < n → 2 * 2 ^ f ≤ j → r ^ (n * j) ≤ 2 ^ (f * (n * j) + n) → r ≤ 2 ^ f
+no_more f n j r o many h = elim (cases_lt (2 ^ f) r) [
+  | inl more ↦
+      let w = 2 ^ f in
+      let up : (w + 1) ^ (n * j) ≤ r ^ (n * j) = pow-le-pow_left (omega arith) (n * j) in
+      let a = growth_least w j in
+      let b : w ^ j * (3 * w) ≤ w ^ j * (w + j) = mul-le-mul_left (w ^ j) (omega arith) in
+      let c : 3 * w ^ j * w ≤ (w + 1) ^ j * w = omega arith in
+      let d = le_of_mul-le-mul_right c (pow_pos f) in
+      let one = one-le-pow j w (pow_pos f) in
+      let e : 2 * w ^ j < (w + 1) ^ j = omega arith in
+      let g : (2 * w ^ j) ^ n < ((w + 1) ^ j) ^ n = pow-lt-pow_left e (omega arith) in
+      let i = mul-pow 2 (w ^ j) n in
+      let k = pow_times w j n in
+      let l = pow_times (w + 1) j n in
+      let s : j * n ≡ n * j = omega arith in
+      let t = ap (λ x. (w + 1) ^ x) s in
+      let u = ap (λ x. w ^ x) s in
+      let v = pow_times 2 f (n * j) in
+      let x = pow-add 2 (f * (n * j)) n in
+      let y : 2 ^ n * (w ^ j) ^ n ≡ 2 ^ n * 2 ^ (f * (n * j)) = ap (λ z. 2 ^ n * z) (k ∙ u ∙ v) in
+      absurd (omega arith)
+  | inr fine ↦ fine
+]
+
+exp_at_most : (p q f k r m : ℕ) (a : ℤ) → (h : IsExpTo p q a f k r) → (h.up * p + f * 2 ^ f * q) * 2 ^ k + 2 ^ f * q ≤ m + h.down * p * 2 ^ k → r ^ (2 ^ f * q * 2 ^ k) ≤ 2 ^ m
+exp_at_most p q f k r m a h l =
+    let v = h.down * p * 2 ^ k in
+    let x = (h.up * p + f * 2 ^ f * q) * 2 ^ k + 2 ^ f * q in
+    let low = h.below in
+    let b : 2 ^ x ≤ 2 ^ (m + v) = pow-le-pow_right {n = 2} (omega arith) {i = x} {j = m + v} l in
+    let c = pow-add 2 m v in
+    let d : r ^ (2 ^ f * q * 2 ^ k) * 2 ^ v ≤ 2 ^ m * 2 ^ v = omega arith in
+    le_of_mul-le-mul_right d (pow_pos v)
+
+pub exp_up_to_one : (f : ℕ) (a r : ℤ) → f ≤ 60 → a ≤ℤ pos 0 → IsExp a f r → r ≤ℤ pos (2 ^ f)
+exp_up_to_one f a r small l h =
     let v = h.value in
     let low = h.low in
     let w = low.value in
+    let j = 2 ^ exp_room in
+    let n = 2 ^ f * decimals in
     let less : low.up ≤ low.down = omega (arith, ints) in
-    let m : low.up * log2_e ≤ low.down * log2_e = mul-le-mul_right log2_e less in
-    let t = exp_within log2_e decimals f exp_room h.units f a (omega arith) low (omega arith) in
+    let m : low.up * log2_e * j ≤ low.down * log2_e * j = mul-le-mul_right j (mul-le-mul_right log2_e less) in
+    let some : 0 < n = omega (arith, pow_pos f) in
+    let p : 2 ^ f ≤ 2 ^ 60 = pow-le-pow_right {n = 2} (omega arith) {i = f} {j = 60} small in
+    let t = exp_at_most log2_e decimals f exp_room h.units (f * (n * j) + n) a low (omega arith) in
+    let u = no_more f n j h.units some (omega arith) t in
     omega (arith, ints)
 
-pub exp_below : (m f a : ℕ) (r : ℤ) → a * log2_e + f * 2 ^ f * decimals < m * 2 ^ f * decimals → IsExp (pos a) f r → r <ℤ pos (2 ^ m)
+pub exp_below : (m f a : ℕ) (r : ℤ) → (a * log2_e + f * 2 ^ f * decimals) * 2 ^ exp_room + 2 ^ f * decimals < m * 2 ^ f * decimals * 2 ^ exp_room → IsExp (pos a) f r → r <ℤ pos (2 ^ m)
 exp_below m f a r l h =
     let v = h.value in
     let low = h.low in
     let w = low.value in
+    let j = 2 ^ exp_room in
+    let n = 2 ^ f * decimals in
     let sum : low.up ≡ a + low.down = omega (arith, ints) in
-    let s : low.up * log2_e ≡ a * log2_e + low.down * log2_e = rw sum (omega arith) in
-    let t = exp_less log2_e decimals f exp_room h.units m (pos a) low (omega arith) in
+    let s : low.up * log2_e * j ≡ a * log2_e * j + low.down * log2_e * j = rw sum (omega arith) in
+    let x = (a * log2_e + f * 2 ^ f * decimals) * 2 ^ exp_room + 2 ^ f * decimals in
+    let t = exp_at_most log2_e decimals f exp_room h.units x (pos a) low (omega arith) in
+    let b : 2 ^ suc x ≤ 2 ^ (m * (n * j)) = pow-le-pow_right {n = 2} (omega arith) {i = suc x} {j = m * (n * j)} (omega arith) in
+    let two = pow-suc 2 x in
+    let e = pow_times 2 m (n * j) in
+    let y : h.units ^ (n * j) < (2 ^ m) ^ (n * j) = omega (arith, pow_pos x) in
+    let u = root_lt h.units (2 ^ m) (n * j) y in
     omega (arith, ints)

@@ -1,7 +1,7 @@
 -- Powers of e, from powers of 2 with enclosed exponents.
 use Rattle.std.proofs.Common.{◌≡◌, ◌+◌, ◌*◌, ◌^◌, ◌<◌, ◌≤◌, ℕ, refl, ap, sym, subst, ◌∙◌, arith}
 use Rattle.std.proofs.lemmas.Nat.{mul-pow, pow-add, pow_pos}
-use Rattle.std.proofs.Math.Nat.{le_of_mul-le-mul_right, mul-le-mul_right, mul-le-mul_left, pow-le-pow_left, pow-le-pow_right, pow-lt-pow_left}
+use Rattle.std.proofs.Math.Nat.{le_of_mul-le-mul_right, mul-le-mul_right, lt_of_mul-lt-mul_right, mul-le-mul_left, pow-le-pow_left, pow-le-pow_right, pow-lt-pow_left}
 use Rattle.fixed_elementary.proofs.Reading.{pow_times}
 use Rattle.fixed_natural.proofs.Exponents.{root_le, root_lt}
 
@@ -65,36 +65,27 @@ exp_below r n h z v x l e =
     let t : (r ^ n * 2 ^ v) ^ 2 ^ h ≤ (2 ^ x) ^ 2 ^ h = rw (m, d, j) (omega arith) in
     root_le (r ^ n * 2 ^ v) (2 ^ x) (2 ^ h) (pow_pos h) t
 
--- k places, 4 of whose units are h's: R is r + 1
-pub exp_above : (R n k z v x : ℕ) → 0 < n → 2 ^ (z * 2 ^ (k + 1)) < R ^ (2 ^ (k + 2) * 2 ^ (k + 1)) * 2 ^ 2 ^ (k + 2) → x * 2 ^ (k + 2) ≤ (z + 2) * n + v * 2 ^ (k + 2)
-    → 2 ^ (x * 2 ^ k) < R ^ (n * 2 ^ k) * 2 ^ (v * 2 ^ k + n)
-exp_above R n k z v x some l e =
-    let j = 2 ^ k in
-    let two : 2 ^ (k + 1) ≡ 2 * 2 ^ k = pow-add 2 k 1 ∙ omega arith in
-    let four : 2 ^ (k + 2) ≡ 4 * 2 ^ k = pow-add 2 k 2 ∙ omega arith in
-    let A = 2 ^ (k + 2) * 2 ^ (k + 1) in
-    let up : (2 ^ (z * 2 ^ (k + 1))) ^ n < (R ^ A * 2 ^ 2 ^ (k + 2)) ^ n = pow-lt-pow_left l (omega arith) in
-    let a = pow_times 2 (z * 2 ^ (k + 1)) n in
-    let b = mul-pow (R ^ A) (2 ^ 2 ^ (k + 2)) n in
+pub exp_above : (R n h z v x : ℕ) → 0 < n → 2 ^ (z * 2 ^ h) < R ^ (2 ^ h * 2 ^ h) * 2 ^ 2 ^ h → x * 2 ^ h + n ≤ z * n + v * 2 ^ h → 2 ^ x < R ^ n * 2 ^ v
+exp_above R n h z v x some l e =
+    let A = 2 ^ h * 2 ^ h in
+    let up : (2 ^ (z * 2 ^ h)) ^ n < (R ^ A * 2 ^ 2 ^ h) ^ n = pow-lt-pow_left l (omega arith) in
+    let a = pow_times 2 (z * 2 ^ h) n in
+    let b = mul-pow (R ^ A) (2 ^ 2 ^ h) n in
     let c = pow_times R A n in
-    let d = pow_times 2 (2 ^ (k + 2)) n in
-    let g : (R ^ A * 2 ^ 2 ^ (k + 2)) ^ n ≡ R ^ (A * n) * 2 ^ (2 ^ (k + 2) * n) = b ∙ ap (λ y. y * (2 ^ 2 ^ (k + 2)) ^ n) c ∙ ap (λ y. R ^ (A * n) * y) d in
-    let first : 2 ^ (z * 2 ^ (k + 1) * n) < R ^ (A * n) * 2 ^ (2 ^ (k + 2) * n) = subst (λ y. y < R ^ (A * n) * 2 ^ (2 ^ (k + 2) * n)) a (subst (λ y. (2 ^ (z * 2 ^ (k + 1))) ^ n < y) g up) in
-    let rest = 2 * 2 * 2 ^ k * n + v * 2 ^ k * (2 * 2 ^ (k + 2)) in
-    let wide : (2 ^ (z * 2 ^ (k + 1) * n) + 1) * 2 ^ rest ≤ R ^ (A * n) * 2 ^ (2 ^ (k + 2) * n) * 2 ^ rest = mul-le-mul_right (2 ^ rest) (omega arith) in
-    let i = pow-add 2 (z * 2 ^ (k + 1) * n) rest in
-    let m : R ^ (A * n) * 2 ^ (2 ^ (k + 2) * n + rest) ≡ R ^ (A * n) * 2 ^ (2 ^ (k + 2) * n) * 2 ^ rest = ap (λ y. R ^ (A * n) * y) (pow-add 2 (2 ^ (k + 2) * n) rest) ∙ omega arith in
-    let scaled : x * 2 ^ (k + 2) * (2 * 2 ^ k) ≤ ((z + 2) * n + v * 2 ^ (k + 2)) * (2 * 2 ^ k) = mul-le-mul_right (2 * 2 ^ k) e in
-    let left : x * 2 ^ k * (2 * 2 ^ (k + 2)) ≤ z * 2 ^ (k + 1) * n + rest = rw two (omega arith) in
-    let right : 2 ^ (k + 2) * n + rest ≤ (v * 2 ^ k + n) * (2 * 2 ^ (k + 2)) = let s : 2 ^ (k + 2) * n ≡ 4 * 2 ^ k * n = ap (λ y. y * n) four in omega arith in
-    let low : 2 ^ (x * 2 ^ k * (2 * 2 ^ (k + 2))) ≤ 2 ^ (z * 2 ^ (k + 1) * n + rest) = pow-le-pow_right {n = 2} (omega arith) left in
-    let high : 2 ^ (2 ^ (k + 2) * n + rest) ≤ 2 ^ ((v * 2 ^ k + n) * (2 * 2 ^ (k + 2))) = pow-le-pow_right {n = 2} (omega arith) right in
-    let higher : R ^ (A * n) * 2 ^ (2 ^ (k + 2) * n + rest) ≤ R ^ (A * n) * 2 ^ ((v * 2 ^ k + n) * (2 * 2 ^ (k + 2))) = mul-le-mul_left (R ^ (A * n)) high in
-    let all : 2 ^ (x * 2 ^ k * (2 * 2 ^ (k + 2))) < R ^ (A * n) * 2 ^ ((v * 2 ^ k + n) * (2 * 2 ^ (k + 2))) = omega (arith, pow_pos rest) in
-    let o = pow_times 2 (x * 2 ^ k) (2 * 2 ^ (k + 2)) in
-    let same : A * n ≡ n * 2 ^ k * (2 * 2 ^ (k + 2)) = rw two (omega arith) in
-    let u = ap (λ y. R ^ y) same ∙ sym (pow_times R (n * 2 ^ k) (2 * 2 ^ (k + 2))) in
-    let w = pow_times 2 (v * 2 ^ k + n) (2 * 2 ^ (k + 2)) in
-    let y = mul-pow (R ^ (n * 2 ^ k)) (2 ^ (v * 2 ^ k + n)) (2 * 2 ^ (k + 2)) in
-    let f : R ^ (A * n) * 2 ^ ((v * 2 ^ k + n) * (2 * 2 ^ (k + 2))) ≡ (R ^ (n * 2 ^ k) * 2 ^ (v * 2 ^ k + n)) ^ (2 * 2 ^ (k + 2)) = ap (λ y. y * 2 ^ ((v * 2 ^ k + n) * (2 * 2 ^ (k + 2)))) u ∙ ap (λ y. (R ^ (n * 2 ^ k)) ^ (2 * 2 ^ (k + 2)) * y) (sym w) ∙ sym y in
-    root_lt (2 ^ (x * 2 ^ k)) (R ^ (n * 2 ^ k) * 2 ^ (v * 2 ^ k + n)) (2 * 2 ^ (k + 2)) (subst (λ y. (2 ^ (x * 2 ^ k)) ^ (2 * 2 ^ (k + 2)) < y) f (subst (λ y. y < R ^ (A * n) * 2 ^ ((v * 2 ^ k + n) * (2 * 2 ^ (k + 2)))) (sym o) all))
+    let d = pow_times 2 (2 ^ h) n in
+    let g : (R ^ A * 2 ^ 2 ^ h) ^ n ≡ R ^ (A * n) * 2 ^ (2 ^ h * n) = b ∙ ap (λ y. y * (2 ^ 2 ^ h) ^ n) c ∙ ap (λ y. R ^ (A * n) * y) d in
+    let first : 2 ^ (z * 2 ^ h * n) < R ^ (A * n) * 2 ^ (2 ^ h * n) = subst (λ y. y < R ^ (A * n) * 2 ^ (2 ^ h * n)) a (subst (λ y. (2 ^ (z * 2 ^ h)) ^ n < y) g up) in
+    let wide : (2 ^ (z * 2 ^ h * n) + 1) * 2 ^ (v * A) ≤ R ^ (A * n) * 2 ^ (2 ^ h * n) * 2 ^ (v * A) = mul-le-mul_right (2 ^ (v * A)) (omega arith) in
+    let scaled : (x * 2 ^ h + n) * 2 ^ h ≤ (z * n + v * 2 ^ h) * 2 ^ h = mul-le-mul_right (2 ^ h) e in
+    let low : 2 ^ (x * A + 2 ^ h * n) ≤ 2 ^ (z * 2 ^ h * n + v * A) = pow-le-pow_right {n = 2} (omega arith) {i = x * A + 2 ^ h * n} {j = z * 2 ^ h * n + v * A} (omega arith) in
+    let i = pow-add 2 (x * A) (2 ^ h * n) in
+    let j = pow-add 2 (z * 2 ^ h * n) (v * A) in
+    let all : 2 ^ (x * A) * 2 ^ (2 ^ h * n) < R ^ (A * n) * 2 ^ (v * A) * 2 ^ (2 ^ h * n) = omega (arith, pow_pos (v * A)) in
+    let t = lt_of_mul-lt-mul_right (2 ^ (2 ^ h * n)) all in
+    let o = pow_times 2 x A in
+    let same : A * n ≡ n * A = omega arith in
+    let u = ap (λ y. R ^ y) same ∙ sym (pow_times R n A) in
+    let w = pow_times 2 v A in
+    let y = mul-pow (R ^ n) (2 ^ v) A in
+    let f : R ^ (A * n) * 2 ^ (v * A) ≡ (R ^ n * 2 ^ v) ^ A = ap (λ y. y * 2 ^ (v * A)) u ∙ ap (λ y. (R ^ n) ^ A * y) (sym w) ∙ sym y in
+    root_lt (2 ^ x) (R ^ n * 2 ^ v) A (subst (λ y. (2 ^ x) ^ A < y) f (subst (λ y. y < R ^ (A * n) * 2 ^ (v * A)) (sym o) t))

@@ -39,9 +39,9 @@ pub trait CheckedNatural: Number {
 
     /// e to the power of the number, rounded down; None exactly if it does not fit.
     ///
-    /// The power is less than `(r + 1) 2^(2^-61)` for the result r. On words of up to 32 bits, r may be one unit less
-    /// than the power rounded down, if the power lies less than `2^-29` units above a whole number of units; on words
-    /// of 64 bits, r is at most 6 units less. e to the power of 0 is exactly 1.
+    /// Where the power lies less than a factor of `2^(2^-61)` below a whole number of units, the result may be that
+    /// number: on words of up to 32 bits, where it lies less than `2^-29` units below it. On words of 64 bits the
+    /// result is greater than the power rounded down by at most 6 units. e to the power of 0 is exactly 1.
     fn checked_exp(self) -> Option<Self>
         requires { Self.FRACTION ≤ Self.BITS }
         ensures { (r : ℤ) × IsExp (Self.number self) Self.FRACTION r

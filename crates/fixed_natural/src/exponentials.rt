@@ -1,6 +1,6 @@
 //! Powers of e: powers of 2, whose exponents are times a constant.
 
-ghost use Rattle.std.specs.Prelude.{◌≡◌, ◌≤◌, ◌<◌, ◌+◌, ◌*◌, ◌^◌, ◌-◌, ℕ, ℤ};
+ghost use Rattle.std.specs.Prelude.{◌≡◌, ◌≤◌, ◌<◌, ◌+◌, ◌*◌, ◌^◌, ◌-◌, ℕ, ℤ, Some, None};
 ghost use Rattle.fixed_word.specs.Format.{with_sign};
 ghost use Rattle.fixed_elementary.specs.Exp2.{IsExp2Up, StandsUpTo};
 ghost use Rattle.fixed_natural.specs.Exps.{IsExp};
@@ -26,7 +26,19 @@ fn moved(magnitude: u64, frac: u32, places: u32) -> u128
     u128::from(magnitude) << (places + 1 - frac)
 }
 
-/// The exponent of 2 of a power of e, or None where it is below 0 and the power is less than a unit.
+/// The difference, or None where it is below 0.
+fn less_than(units: u128, less: u128) -> Option<u128>
+    ensures below { units < less → result ≡ None }
+    ensures above { less ≤ units → result ≡ Some (units - less) }
+{
+    if units < less {
+        None
+    } else {
+        Some(units - less)
+    }
+}
+
+/// The exponent of 2 of a power of e, rounded up, or None where it is below 0 and the power is less than a unit.
 fn exponent_of<T: RawWord>(a: T, frac: u32, places: u32) -> Option<u128>
     requires frac { frac ≤ places + 1 }
     requires places { places ≤ 63 }
@@ -35,25 +47,32 @@ fn exponent_of<T: RawWord>(a: T, frac: u32, places: u32) -> Option<u128>
 {
     let offset = in_places(frac, places);
     let units = moved(a.magnitude(), frac, places);
-    if !a.is_below_zero() {
-        return Some(offset + scaled(units, HALF_LOG2_E, 0));
-    }
-    let less = scaled(units, HALF_LOG2_E + 1, 0);
-    if less < offset {
-        Some(offset - less - 1)
+    if a.is_below_zero() {
+        less_than(offset + 2, scaled(units, HALF_LOG2_E + 1, 0))
     } else {
-        None
+        Some(offset + scaled(units, HALF_LOG2_E, 0) + 3)
     }
 }
 
-/// e to the power of `a 2^-frac`, in units of `2^-frac`, rounded down up to a factor of `2^(2^-61)`: the power is less than
-/// `(r + 1) 2^(2^-61)` for the result r. That of 0 is exactly 1. The outcome has no bits of a number above the range: it
-/// then stands for another number above the range.
+/// A number 1, in units of `2^-frac`.
+fn one(frac: u32) -> u128
+    requires { frac ≤ 64 }
+    ensures { result ≡ 2 ^ frac }
+{
+    1 << frac
+}
+
+/// e to the power of `a 2^-frac`, in units of `2^-frac`, rounded down up to a factor of `2^(2^-61)`: where the power lies
+/// less than that factor below a whole number of units, the result may be that number. e to the power of 0 is exactly
+/// 1. The outcome has no bits of a number above the range: it then stands for another number above the range.
 pub fn exp_of<T: Word>(a: T, frac: u32) -> Outcome<T>
     requires { frac ≤ T.BITS }
     ensures { (r : ℤ) × IsExp (T.value a) frac r
         × StandsUpTo T.value T.SIGNED T.BITS r result }
 {
+    if a.magnitude() == 0 {
+        return outcome_of(false, one(frac));
+    }
     match exponent_of(a, frac, PLACES) {
         Some(exponent) => outcome_of(false, power_of(exponent, PLACES, 64)),
         None => outcome_of(false, 0),

@@ -3,7 +3,7 @@
 ghost use Rattle.std.specs.Prelude.{◌≡◌, ◌≤◌, ◌<◌, ◌+◌, ◌-◌, ◌*◌, ◌^◌, ◌+ℤ◌, ◌≤ℤ◌, ◌<ℤ◌, ℕ, ℤ, true, pos};
 ghost use Rattle.fixed_word.specs.Format.{InRange};
 ghost use Rattle.fixed_natural.specs.Bases.{decimals, log2_e};
-ghost use Rattle.fixed_natural.specs.Exps.{IsExp};
+ghost use Rattle.fixed_natural.specs.Exps.{IsExp, exp_room};
 ghost use Rattle.fixed_natural.specs.Logs.{IsLn, IsLog10, IsLogTo};
 
 /// The natural logarithm of 1 is exactly 0. Two numbers that are the logarithm of one number, each rounded down up to a
@@ -32,12 +32,13 @@ pub fn log10_law()
         → IsLog10 k a f r → InRange true n r }
 {}
 
-/// e to the power of 0 is exactly 1. No power is below 0, one of a number that is not above 0 is 1 at most, and one whose
-/// exponent of 2 is below `m - f` is below `2^m` units.
+/// e to the power of 0 is exactly 1. No power is below 0, with up to 60 fraction bits one of a number that is not above 0
+/// is 1 at most, and one whose exponent of 2 is below `m - f` by more than `2^-61` is below `2^m` units.
 pub fn exp_law()
     ensures of_zero { (f : ℕ) (r : ℤ) → IsExp (pos 0) f r → r ≡ pos (2 ^ f) }
     ensures from_zero { (f : ℕ) (a r : ℤ) → IsExp a f r → pos 0 ≤ℤ r }
-    ensures up_to_one { (f : ℕ) (a r : ℤ) → a ≤ℤ pos 0 → IsExp a f r → r ≤ℤ pos (2 ^ f) }
-    ensures below { (m f a : ℕ) (r : ℤ) → a * log2_e + f * 2 ^ f * decimals < m * 2 ^ f * decimals
+    ensures up_to_one { (f : ℕ) (a r : ℤ) → f ≤ 60 → a ≤ℤ pos 0 → IsExp a f r → r ≤ℤ pos (2 ^ f) }
+    ensures below { (m f a : ℕ) (r : ℤ) → (a * log2_e + f * 2 ^ f * decimals) * 2 ^ exp_room
+        + 2 ^ f * decimals < m * 2 ^ f * decimals * 2 ^ exp_room
         → IsExp (pos a) f r → r <ℤ pos (2 ^ m) }
 {}

@@ -9,7 +9,7 @@ strict_exp-requires c = (
     omega arith,
     λ r h.
         let low = c.exp_law.ensures.from_zero 16 c.args.number.bits r h in
-        let high : r ≤ℤ pos (2 ^ 16) = c.exp_law.ensures.up_to_one 16 c.args.number.bits r c.requires h in
+        let high : r ≤ℤ pos (2 ^ 16) = c.exp_law.ensures.up_to_one 16 c.args.number.bits r (omega arith) c.requires h in
         (omega (arith, ints), omega (arith, ints)),
   ),
 )
