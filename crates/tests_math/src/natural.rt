@@ -1,5 +1,7 @@
 //! Known logarithms and powers of e, computed apart with 400 bits, and each call at a concrete type.
 
+ghost use Rattle.std.specs.Prelude.{◌≤◌, ◌<ℤ◌, pos};
+
 use crate::fitting::ln_with_16;
 use fixed_natural::{
     CheckedNatural, OverflowingNatural, SaturatingNatural, UnwrappedNatural, WrappingNatural,
