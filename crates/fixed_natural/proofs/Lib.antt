@@ -3,5 +3,7 @@ pub mod Exponents
 pub mod Factors
 pub mod Moving
 pub mod NaturalLaws
+pub mod PowExponents
+pub mod Powering
 pub mod Raising
 mod UpTo

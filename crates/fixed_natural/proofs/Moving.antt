@@ -60,10 +60,10 @@ whole m f g l h few =
     let b : 2 ^ (128 - f) ≤ 2 ^ 128 = pow-le-pow_right {n = 2} (omega arith) {i = 128 - f} {j = 128} (omega arith) in
     omega arith
 
-some_is : {x y : ℕ} → Some x ≡ Some y → x ≡ y
+pub some_is : {x y : ℕ} → Some x ≡ Some y → x ≡ y
 some_is e = search rules
 
-none_is : {x : ℕ} → None ≡ Some x → ⊥
+pub none_is : {x : ℕ} → None ≡ Some x → ⊥
 none_is e = search rules
 
 pub exponent_up : (p q : ℕ) (a : ℤ) (f g m c e : ℕ) → 0 < q → f ≤ g + 1 → g ≤ 63 → (a <ℤ pos 0 → ⊥) → m ≡ unsigned_abs a → m < 2 ^ 64 → IsInverse c (2 * q) p

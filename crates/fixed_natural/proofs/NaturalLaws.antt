@@ -3,7 +3,7 @@ use Rattle.std.proofs.Common.{◌≡◌, ◌+◌, ◌-◌, ◌*◌, ◌^◌, ◌
 use Rattle.std.specs.Prelude.{unsigned_abs}
 use Rattle.std.proofs.lemmas.Int.{ints}
 use Rattle.std.proofs.lemmas.Bool.{cases_lt}
-use Rattle.std.proofs.lemmas.Nat.{mul-pow, pow-add, pow_pos}
+use Rattle.std.proofs.lemmas.Nat.{mul-le, mul-pow, pow-add, pow_pos}
 use Rattle.std.proofs.Math.Nat.{one-le-pow, pow-suc, pow-zero, mul-le-mul_left, le_of_mul-le-mul_right, lt_of_mul-lt-mul_right, mul-le-mul_right, mul-le-mul_left, pow-le-pow_left, pow-le-pow_right, pow-lt-pow_left}
 use Rattle.fixed_word.specs.Format.{InRange}
 use Rattle.fixed_elementary.proofs.Reading.{pow_times}
@@ -11,6 +11,7 @@ use Rattle.fixed_elementary.proofs.LogLaws.{exponent_less}
 use Rattle.fixed_natural.specs.Bases.{decimals, log2_e}
 use Rattle.fixed_natural.specs.Exps.{IsExp, IsExpTo, exp_room}
 use Rattle.fixed_natural.specs.Logs.{IsLogTo}
+use Rattle.fixed_natural.specs.Pows.{IsPow, IsPowTo, pow_room}
 use Rattle.fixed_natural.proofs.Exponents.{root_lt}
 
 -- exponents are in the order of the powers of two
@@ -184,17 +185,16 @@ growth_least w (suc n) =
     let m = mul-le-mul_left (w ^ n) g in
     rw (a, b) (omega arith)
 
--- r is at most 2^f, where r to the power n j is at most 2^(f n j + n) and j is more than 2^f
-no_more : (f n j r : ℕ) → 0 < n → 2 * 2 ^ f ≤ j → r ^ (n * j) ≤ 2 ^ (f * (n * j) + n) → r ≤ 2 ^ f
-no_more f n j r o many h = elim (cases_lt (2 ^ f) r) [
+-- r is at most w, where r to the power n j is at most that of w times 2^n, and j is more than w
+pub no_more : (w n j r : ℕ) → 0 < w → 0 < n → 2 * w ≤ j → r ^ (n * j) ≤ w ^ (n * j) * 2 ^ n → r ≤ w
+no_more w n j r some o many h = elim (cases_lt w r) [
   | inl more ↦
-      let w = 2 ^ f in
       let up : (w + 1) ^ (n * j) ≤ r ^ (n * j) = pow-le-pow_left (omega arith) (n * j) in
       let a = growth_least w j in
       let b : w ^ j * (3 * w) ≤ w ^ j * (w + j) = mul-le-mul_left (w ^ j) (omega arith) in
       let c : 3 * w ^ j * w ≤ (w + 1) ^ j * w = omega arith in
-      let d = le_of_mul-le-mul_right c (pow_pos f) in
-      let one = one-le-pow j w (pow_pos f) in
+      let d = le_of_mul-le-mul_right c some in
+      let one = one-le-pow j w some in
       let e : 2 * w ^ j < (w + 1) ^ j = omega arith in
       let g : (2 * w ^ j) ^ n < ((w + 1) ^ j) ^ n = pow-lt-pow_left e (omega arith) in
       let i = mul-pow 2 (w ^ j) n in
@@ -203,9 +203,7 @@ no_more f n j r o many h = elim (cases_lt (2 ^ f) r) [
       let s : j * n ≡ n * j = omega arith in
       let t = ap (λ x. (w + 1) ^ x) s in
       let u = ap (λ x. w ^ x) s in
-      let v = pow_times 2 f (n * j) in
-      let x = pow-add 2 (f * (n * j)) n in
-      let y : 2 ^ n * (w ^ j) ^ n ≡ 2 ^ n * 2 ^ (f * (n * j)) = ap (λ z. 2 ^ n * z) (k ∙ u ∙ v) in
+      let y : 2 ^ n * (w ^ j) ^ n ≡ 2 ^ n * w ^ (n * j) = ap (λ z. 2 ^ n * z) (k ∙ u) in
       absurd (omega arith)
   | inr fine ↦ fine
 ]
@@ -232,7 +230,10 @@ exp_up_to_one f a r small l h =
     let some : 0 < n = omega (arith, pow_pos f) in
     let p : 2 ^ f ≤ 2 ^ 60 = pow-le-pow_right {n = 2} (omega arith) {i = f} {j = 60} small in
     let t = exp_at_most log2_e decimals f exp_room h.units (f * (n * j) + n) a low (omega arith) in
-    let u = no_more f n j h.units some (omega arith) t in
+    let two = pow_times 2 f (n * j) in
+    let sum = pow-add 2 (f * (n * j)) n in
+    let most : h.units ^ (n * j) ≤ (2 ^ f) ^ (n * j) * 2 ^ n = rw (two, sym sum) t in
+    let u = no_more (2 ^ f) n j h.units (pow_pos f) some (omega arith) most in
     omega (arith, ints)
 
 pub exp_below : (m f a : ℕ) (r : ℤ) → (a * log2_e + f * 2 ^ f * decimals) * 2 ^ exp_room + 2 ^ f * decimals < m * 2 ^ f * decimals * 2 ^ exp_room → IsExp (pos a) f r → r <ℤ pos (2 ^ m)
@@ -252,3 +253,36 @@ exp_below m f a r l h =
     let y : h.units ^ (n * j) < (2 ^ m) ^ (n * j) = omega (arith, pow_pos x) in
     let u = root_lt h.units (2 ^ m) (n * j) y in
     omega (arith, ints)
+
+-- ---- powers with other bases
+
+pub pow_from_zero : (f : ℕ) (a b r : ℤ) → IsPow a b f r → pos 0 ≤ℤ r
+pow_from_zero f a b r h = let v = h.1 in omega (arith, ints)
+
+-- the numerator and the denominator of a power that is n
+pow_exact_to : (a j f n r : ℕ) → 0 < a → 0 < n → n ≤ 2 ^ 54 → n ^ 2 ^ f * 2 ^ (f * j) ≡ a ^ j * 2 ^ (f * 2 ^ f) → IsPowTo a (pos j) f pow_room r → r ≡ n
+pow_exact_to a j f n r o some small e h =
+    let v = h.value in
+    let down = h.down in
+    let sum : h.up ≡ j + down = omega (arith, ints) in
+    let x : a ^ h.up ≡ a ^ j * a ^ down = ap (λ k. a ^ k) sum ∙ pow-add a j down in
+    let m : f * h.up ≡ f * j + f * down = rw sum (omega arith) in
+    let y : 2 ^ (f * h.up) ≡ 2 ^ (f * j) * 2 ^ (f * down) = ap (λ k. 2 ^ k) m ∙ pow-add 2 (f * j) (f * down) in
+    let z = pow-add 2 (f * down) (f * 2 ^ f) in
+    let B = a ^ down * 2 ^ (f * h.up) in
+    let c : n ^ 2 ^ f * 2 ^ (f * j) * (a ^ down * 2 ^ (f * down)) ≡ a ^ j * 2 ^ (f * 2 ^ f) * (a ^ down * 2 ^ (f * down)) = ap (λ k. k * (a ^ down * 2 ^ (f * down))) e in
+    let all : a ^ h.up * 2 ^ (f * down + f * 2 ^ f) ≡ n ^ 2 ^ f * B = rw (x, y, z) (omega arith) in
+    let high : n ^ 2 ^ f * B < (r + 1) ^ 2 ^ f * B = subst (λ k. k < (r + 1) ^ 2 ^ f * B) all h.above in
+    let p = root_lt n (r + 1) (2 ^ f) (lt_of_mul-lt-mul_right B high) in
+    let i = 2 ^ 55 in
+    let low : r ^ (2 ^ f * i) * B ^ i ≤ (n ^ 2 ^ f * B) ^ i * 2 ^ 2 ^ f = subst (λ k. r ^ (2 ^ f * i) * B ^ i ≤ k ^ i * 2 ^ 2 ^ f) all h.below in
+    let s = mul-pow (n ^ 2 ^ f) B i ∙ ap (λ k. k * B ^ i) (pow_times n (2 ^ f) i) in
+    let t : (n ^ 2 ^ f * B) ^ i * 2 ^ 2 ^ f ≡ n ^ (2 ^ f * i) * 2 ^ 2 ^ f * B ^ i = ap (λ k. k * 2 ^ 2 ^ f) s ∙ omega arith in
+    let q : r ^ (2 ^ f * i) * B ^ i ≤ n ^ (2 ^ f * i) * 2 ^ 2 ^ f * B ^ i = subst (λ k. r ^ (2 ^ f * i) * B ^ i ≤ k) t low in
+    let positive : 0 < B = mul-le 1 1 (a ^ down) (2 ^ (f * h.up)) (one-le-pow down a o) (pow_pos (f * h.up)) in
+    let u = le_of_mul-le-mul_right q (one-le-pow i B positive) in
+    let w = no_more n (2 ^ f) i r some (pow_pos f) (omega arith) u in
+    omega arith
+
+pub pow_exact : (a j f n : ℕ) (r : ℤ) → 0 < a → 0 < n → n ≤ 2 ^ 54 → n ^ 2 ^ f * 2 ^ (f * j) ≡ a ^ j * 2 ^ (f * 2 ^ f) → IsPow (pos a) (pos j) f r → r ≡ pos n
+pow_exact a j f n r o some small e h = h.1 ∙ ap pos (pow_exact_to a j f n h.0 o some small e h.2)

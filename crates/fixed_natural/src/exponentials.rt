@@ -1,13 +1,13 @@
 //! Powers of e: powers of 2, whose exponents are times a constant.
 
-ghost use Rattle.std.specs.Prelude.{◌≡◌, ◌≤◌, ◌<◌, ◌+◌, ◌*◌, ◌^◌, ◌-◌, ℕ, ℤ, Some, None};
+ghost use Rattle.std.specs.Prelude.{◌≡◌, ◌≤◌, ◌<◌, ◌+◌, ◌*◌, ◌^◌, ◌-◌, ℕ, ℤ};
 ghost use Rattle.fixed_word.specs.Format.{with_sign};
 ghost use Rattle.fixed_elementary.specs.Exp2.{IsExp2Up, StandsUpTo};
 ghost use Rattle.fixed_natural.specs.Exps.{IsExp};
 ghost use Rattle.fixed_natural.specs.inside.Exponent.{IsExponentTo};
 ghost use Rattle.fixed_natural.specs.inside.Scaling.{IsInverse, IsQuotient};
 
-use crate::scaling::{in_places, scaled};
+use crate::scaling::{difference, in_places, scaled};
 use fixed_elementary::exponentials::power_of;
 use fixed_word::{Outcome, RawWord, Valued, Word, outcome_of};
 
@@ -26,18 +26,6 @@ fn moved(magnitude: u64, frac: u32, places: u32) -> u128
     u128::from(magnitude) << (places + 1 - frac)
 }
 
-/// The difference, or None where it is below 0.
-fn less_than(units: u128, less: u128) -> Option<u128>
-    ensures below { units < less → result ≡ None }
-    ensures above { less ≤ units → result ≡ Some (units - less) }
-{
-    if units < less {
-        None
-    } else {
-        Some(units - less)
-    }
-}
-
 /// The exponent of 2 of a power of e, rounded up, or None where it is below 0 and the power is less than a unit.
 fn exponent_of<T: RawWord>(a: T, frac: u32, places: u32) -> Option<u128>
     requires frac { frac ≤ places + 1 }
@@ -48,7 +36,7 @@ fn exponent_of<T: RawWord>(a: T, frac: u32, places: u32) -> Option<u128>
     let offset = in_places(frac, places);
     let units = moved(a.magnitude(), frac, places);
     if a.is_below_zero() {
-        less_than(offset + 2, scaled(units, HALF_LOG2_E + 1, 0))
+        difference(offset + 2, scaled(units, HALF_LOG2_E + 1, 0))
     } else {
         Some(offset + scaled(units, HALF_LOG2_E, 0) + 3)
     }

@@ -1,10 +1,11 @@
-//! Laws of logarithms and powers of e. These functions do nothing: each contract is the law.
+//! Laws of logarithms and powers. These functions do nothing: each contract is the law.
 
 ghost use Rattle.std.specs.Prelude.{◌≡◌, ◌≤◌, ◌<◌, ◌+◌, ◌-◌, ◌*◌, ◌^◌, ◌+ℤ◌, ◌≤ℤ◌, ◌<ℤ◌, ℕ, ℤ, true, pos};
 ghost use Rattle.fixed_word.specs.Format.{InRange};
 ghost use Rattle.fixed_natural.specs.Bases.{decimals, log2_e};
 ghost use Rattle.fixed_natural.specs.Exps.{IsExp, exp_room};
 ghost use Rattle.fixed_natural.specs.Logs.{IsLn, IsLog10, IsLogTo};
+ghost use Rattle.fixed_natural.specs.Pows.{IsPow};
 
 /// The natural logarithm of 1 is exactly 0. Two numbers that are the logarithm of one number, each rounded down up to a
 /// part of a unit, differ by one unit at most. On signed words of n bits each logarithm fits where the range of the word
@@ -41,4 +42,12 @@ pub fn exp_law()
     ensures below { (m f a : ℕ) (r : ℤ) → (a * log2_e + f * 2 ^ f * decimals) * 2 ^ exp_room
         + 2 ^ f * decimals < m * 2 ^ f * decimals * 2 ^ exp_room
         → IsExp (pos a) f r → r <ℤ pos (2 ^ m) }
+{}
+
+/// No power is below 0. One with an exponent of j units that is a whole number n of units, of up to `2^54`, is exact:
+/// `(n / 2^f)^(2^f) = (a / 2^f)^j`.
+pub fn pow_law()
+    ensures from_zero { (f : ℕ) (a b r : ℤ) → IsPow a b f r → pos 0 ≤ℤ r }
+    ensures exact { (a j f n : ℕ) (r : ℤ) → 0 < a → 0 < n → n ≤ 2 ^ 54
+        → n ^ 2 ^ f * 2 ^ (f * j) ≡ a ^ j * 2 ^ (f * 2 ^ f) → IsPow (pos a) (pos j) f r → r ≡ pos n }
 {}

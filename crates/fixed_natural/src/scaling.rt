@@ -1,6 +1,6 @@
 //! Logarithms to the base 2 with more digits than a word has, and their products by a constant.
 
-ghost use Rattle.std.specs.Prelude.{◌≡◌, ◌≤◌, ◌<◌, ◌+◌, ◌*◌, ◌^◌};
+ghost use Rattle.std.specs.Prelude.{◌≡◌, ◌≤◌, ◌<◌, ◌+◌, ◌-◌, ◌*◌, ◌^◌, Some, None};
 ghost use Rattle.fixed_natural.specs.Logs.{log_room};
 ghost use Rattle.fixed_natural.specs.inside.Scaling.{IsEnclosed, IsQuotient};
 
@@ -32,9 +32,9 @@ fn narrow_log2(a: u64, places: u32) -> u64
 }
 
 /// The logarithm to the base 2, in units of `2^-places`, by a mantissa of 128 bits.
-fn broad_log2(a: u64, places: u32) -> u128
+pub(crate) fn broad_log2(a: u64, places: u32) -> u128
     requires some { 0 < a }
-    requires places { places ≤ 97 }
+    requires places { places ≤ 121 }
     ensures { IsEnclosed a places result }
 {
     let start = broad_whole(a);
@@ -66,7 +66,7 @@ pub(crate) fn fine_log2(bits: u32, a: u64, places: u32) -> u128
 /// A whole number in units of `2^-places`.
 pub(crate) fn in_places(whole: u32, places: u32) -> u128
     requires whole { whole ≤ 64 }
-    requires places { places ≤ 97 }
+    requires places { places ≤ 121 }
     ensures { result ≡ whole * 2 ^ places }
 {
     u128::from(whole) << places
@@ -74,8 +74,20 @@ pub(crate) fn in_places(whole: u32, places: u32) -> u128
 
 /// The product over `2^(128 + guard)`, rounded down.
 pub(crate) fn scaled(units: u128, factor: u128, guard: u32) -> u128
-    requires { guard ≤ 33 }
+    requires { guard ≤ 64 }
     ensures { IsQuotient (units * factor) (2 ^ 128 * 2 ^ guard) result }
 {
     product(units, factor).high >> guard
+}
+
+/// The difference, or None where it is below 0.
+pub(crate) fn difference(units: u128, less: u128) -> Option<u128>
+    ensures below { units < less → result ≡ None }
+    ensures above { less ≤ units → result ≡ Some (units - less) }
+{
+    if units < less {
+        None
+    } else {
+        Some(units - less)
+    }
 }

@@ -1,11 +1,11 @@
-//! Known logarithms and powers of e, computed apart with 400 bits, and each call at a concrete type.
+//! Known logarithms and powers, computed apart with 400 bits, and each call at a concrete type.
 
 ghost use Rattle.std.specs.Prelude.{◌≤◌, ◌<ℤ◌, pos};
 
 use crate::fitting::ln_with_16;
 use fixed_natural::{
-    CheckedNatural, OverflowingNatural, SaturatingNatural, UnwrappedNatural, WrappingNatural,
-    exp_of, ln_of, log10_of,
+    CheckedNatural, OverflowingNatural, SaturatingNatural, WrappingNatural, exp_of, ln_of,
+    log10_of, pow_of,
 };
 use fixed_num::{Fixed, FixedI32};
 use fixed_word::{Outcome, Side, Word};
@@ -78,6 +78,29 @@ fn powers_of_e(rt: HostRuntime) {
     assert_eq!(rt; exp_of(0_u64, 64).side, Side::Above);
 }
 
+#[test]
+fn powers_of_numbers(rt: HostRuntime) {
+    for (a, b, wrapped, side) in [
+        (196608_i32, 131072, 589824, Side::Fits),
+        (98304, 655360, 3779136, Side::Fits),
+        (131072, 32768, 92681, Side::Fits),
+        (655360, -65536, 6553, Side::Fits),
+        (655360, 19660, 130757, Side::Fits),
+        (65537, i32::MAX, 108050, Side::Fits),
+        (178145, i32::MIN, 0, Side::Fits),
+        (655360, 0, 65536, Side::Fits),
+        (32768, -1048576, 0, Side::Above),
+    ] {
+        if a > 0 {
+            assert_eq!(rt; pow_of(a, b, 16), outcome(wrapped, side));
+        }
+    }
+    assert_eq!(rt;
+        pow_of(12884901888_i64, -2147483648, 32),
+        outcome(2479700524, Side::Fits)
+    );
+}
+
 /// The calls of each policy at one number above 0.
 fn calls<N: CheckedNatural + OverflowingNatural + SaturatingNatural + WrappingNatural>(
     number: N,
@@ -110,7 +133,10 @@ fn natural_calls(rt: HostRuntime) {
     let most = Fixed::<i8, 4> { bits: 127 };
     assert_eq!(rt; most.checked_exp(), None);
     assert_eq!(rt; most.saturating_exp(), most);
+    assert_eq!(rt; ten.checked_pow(ten), None);
+    assert_eq!(rt; most.saturating_pow(most), most);
     let none = FixedI32::<16> { bits: 0 };
+    assert_eq!(rt; none.checked_pow(ten), None);
     assert_eq!(rt; none.checked_ln(), None);
     assert_eq!(rt; none.checked_log10(), None);
 }

@@ -36,10 +36,10 @@ pub returns-then-is_below_zero : goal.returns-then-is_below_zero
 returns-then-is_below_zero g c = λ p q o i.
     let m = c.magnitude.result in
     let e = c.scaled.result in
-    let z = c.less_than.result in
+    let z = c.difference.result in
     let fits : m < 2 ^ 64 = omega arith in
     let x = subst (λ (n : ℕ). IsQuotient (n * (0xb8aa3b295c17f0bbbe87fed0691d3e88 + 1)) (2 ^ 128 * 2 ^ 0) e) c.moved-units.ensures c.scaled.ensures in
     let sign = c.is_below_zero.ensures.sign.0 c.if-is_below_zero.true in
-    let nothing = subst (λ (n : ℕ). n + 2 < e → z ≡ None) c.in_places-offset.ensures c.less_than.ensures.below in
-    let something = subst (λ (n : ℕ). e ≤ n + 2 → z ≡ Some (n + 2 - e)) c.in_places-offset.ensures c.less_than.ensures.above in
+    let nothing = subst (λ (n : ℕ). n + 2 < e → z ≡ None) c.in_places-offset.ensures c.difference.ensures.below in
+    let something = subst (λ (n : ℕ). e ≤ n + 2 → z ≡ Some (n + 2 - e)) c.in_places-offset.ensures c.difference.ensures.above in
     exponent_down p q (g.T.Valued.value c.args.a) c.args.frac c.args.places m 0xb8aa3b295c17f0bbbe87fed0691d3e88 e z o c.requires.frac c.requires.places sign c.magnitude.ensures.magnitude fits i x nothing something
