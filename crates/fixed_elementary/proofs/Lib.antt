@@ -1,10 +1,10 @@
 mod Turns
 mod Halves
-mod Squarings
-mod Reading
-mod LogLaws
-mod Powers
+pub mod Squarings
+pub mod Reading
+pub mod LogLaws
+pub mod Powers
 mod TwoRoots
-mod Raised
+pub mod Raised
 mod ExpLaws
 pub mod Rows

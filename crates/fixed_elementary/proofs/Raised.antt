@@ -174,7 +174,7 @@ pub below_exponent : (room f : ℕ) (x : ℤ) → x <ℤ pos 0 → IsExp2At room
 below_exponent room f (pos e) h = absurd (omega (arith, ints))
 below_exponent room f (negsuc e) h = refl
 
-above_all : (s : Bool) (n x : ℕ) → 1 ≤ n → 2 ^ n ≤ x → highest s n <ℤ pos x
+pub above_all : (s : Bool) (n x : ℕ) → 1 ≤ n → 2 ^ n ≤ x → highest s n <ℤ pos x
 above_all true n x o h =
     let p : 2 ^ (n - 1) ≤ 2 ^ n = pow-le-pow_right {n = 2} (omega arith) {i = n - 1} {j = n} (omega arith) in
     omega (arith, ints, pow_pos (n - 1))

@@ -169,7 +169,7 @@ raised_below A P w N q o z s h =
     let t : A ^ q * w ^ (N * q) < P ^ q * 2 * w ^ (N * q) = omega arith in
     lt_of_mul-lt-mul_right (w ^ (N * q)) t
 
-read_near : (w a g k r m : ℕ) → 0 < w → IsRead w a g r m → 2 * (2 ^ g * 2 ^ k) ≤ w → IsLog2 a g k r
+pub read_near : (w a g k r m : ℕ) → 0 < w → IsRead w a g r m → 2 * (2 ^ g * 2 ^ k) ≤ w → IsLog2 a g k r
 read_near w a g k r m o h s =
     let n = h.turns in
     let b = h.below in

@@ -143,7 +143,7 @@ fn part_of(exponent: u128, places: u32) -> u64
 }
 
 /// `2^(exponent / 2^places)`, rounded down, or `2^bits` where that has more bits.
-fn power_of(exponent: u128, places: u32, bits: u32) -> u128
+pub fn power_of(exponent: u128, places: u32, bits: u32) -> u128
     requires bits { bits ≤ 64 }
     requires places { places ≤ bits }
     ensures { (r : ℕ) × IsExp2Up (exp2_room bits) exponent places r × (result ≡ min r (2 ^ bits)) }

@@ -6,14 +6,14 @@
 #![tactic(auto)]
 
 mod digits;
-mod exponentials;
+pub mod exponentials;
 pub mod laws;
 mod lengths;
-mod logarithms;
+pub mod logarithms;
 mod reciprocals;
 mod roots;
 mod roots_of_two;
-mod wide;
+pub mod wide;
 
 pub use exponentials::exp2_of;
 pub use lengths::hypot_of;

@@ -11,16 +11,16 @@ use fixed_word::{Digits, Outcome, RawWord, Silent, Steps, Valued, Word, outcome_
 
 /// Digits, and the mantissa that is left, in units of `2^-63`.
 #[derive(Clone, Copy)]
-struct Narrow {
-    digits: u64,
-    mantissa: u64,
+pub struct Narrow {
+    pub digits: u64,
+    pub mantissa: u64,
 }
 
 /// Digits, and the mantissa that is left, in units of `2^-127`.
 #[derive(Clone, Copy)]
-struct Broad {
-    digits: u128,
-    mantissa: u128,
+pub struct Broad {
+    pub digits: u128,
+    pub mantissa: u128,
 }
 
 /// How many of the highest bits are 0.
@@ -44,7 +44,7 @@ fn raised(a: u64, by: u32) -> u64
 }
 
 /// The whole logarithm, and the mantissa.
-fn whole(a: u64) -> Narrow
+pub fn whole(a: u64) -> Narrow
     requires { 0 < a }
     ensures { IsMantissa (2 ^ 63) a result.digits result.mantissa }
 {
@@ -56,7 +56,7 @@ fn whole(a: u64) -> Narrow
 }
 
 /// The whole logarithm, and the mantissa in 128 bits.
-fn broad_whole(a: u64) -> Broad
+pub fn broad_whole(a: u64) -> Broad
     requires { 0 < a }
     ensures { IsMantissa (2 ^ 127) a result.digits result.mantissa }
 {
@@ -69,7 +69,7 @@ fn broad_whole(a: u64) -> Broad
 
 /// The digit of the mantissa's square, and what is left of it, rounded down.
 #[inline]
-fn squared(mantissa: u64) -> Narrow
+pub fn squared(mantissa: u64) -> Narrow
     requires { 2 ^ 63 ≤ mantissa }
     ensures { IsSquared (2 ^ 63) mantissa result.digits result.mantissa }
 {
@@ -90,7 +90,7 @@ fn squared(mantissa: u64) -> Narrow
 
 /// The same in 128 bits.
 #[inline]
-fn broad_squared(mantissa: u128) -> Broad
+pub fn broad_squared(mantissa: u128) -> Broad
     requires { 2 ^ 127 ≤ mantissa }
     ensures { IsSquared (2 ^ 127) mantissa result.digits result.mantissa }
 {

@@ -4,7 +4,7 @@ ghost use Rattle.std.specs.Prelude.{◌≡◌, ◌≤◌, ◌<◌, ◌+◌, ◌*
 
 /// A number of 256 bits, by its higher and its lower half.
 #[derive(Clone, Copy)]
-pub(crate) struct Double {
+pub struct Double {
     pub high: u128,
     pub low: u128,
 }
@@ -44,7 +44,7 @@ fn half_product(a: u128, b: u128, more: u128) -> Halves
 
 /// The product of two numbers of 128 bits.
 #[inline]
-pub(crate) fn product(a: u128, b: u128) -> Double
+pub fn product(a: u128, b: u128) -> Double
     ensures { result.high * 2 ^ 128 + result.low ≡ a * b }
 {
     let (a, b) = (split(a), split(b));

@@ -1,0 +1,6 @@
+use Rattle.fixed_natural.proofs.saturating.FixedSaturatingNatural.saturating_ln.Goals as goal
+
+pub returns : goal.returns
+returns g c =
+    let l = c.ln_of.ensures in
+    (l.0, l.1, c.saturating_number.ensures l.0 l.2)

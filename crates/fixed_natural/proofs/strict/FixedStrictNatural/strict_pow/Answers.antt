@@ -1,0 +1,9 @@
+use Rattle.fixed_natural.proofs.UpTo.{same_where_fits}
+use Rattle.fixed_natural.proofs.strict.FixedStrictNatural.strict_pow.Goals as goal
+
+pub returns : goal.returns
+returns g c =
+    let e = c.pow_of.ensures in
+    let range = c.requires.fits e.0 e.1 in
+    let same = same_where_fits g.T.RawWord.SIGNED g.T.Valued.BITS e.0 e.2.other range e.2.alike in
+    rw (c.exact_number.ensures e.2.other e.2.stands (rw same range), same) e.1

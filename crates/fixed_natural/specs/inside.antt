@@ -1,0 +1,4 @@
+-- What private functions alone cite.
+pub mod Exponent
+pub mod PowExponent
+pub mod Scaling

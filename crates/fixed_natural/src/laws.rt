@@ -1,0 +1,53 @@
+//! Laws of logarithms and powers. These functions do nothing: each contract is the law.
+
+ghost use Rattle.std.specs.Prelude.{◌≡◌, ◌≤◌, ◌<◌, ◌+◌, ◌-◌, ◌*◌, ◌^◌, ◌+ℤ◌, ◌≤ℤ◌, ◌<ℤ◌, ℕ, ℤ, true, pos};
+ghost use Rattle.fixed_word.specs.Format.{InRange};
+ghost use Rattle.fixed_natural.specs.Bases.{decimals, log2_e};
+ghost use Rattle.fixed_natural.specs.Exps.{IsExp, exp_room};
+ghost use Rattle.fixed_natural.specs.Logs.{IsLn, IsLog10, IsLogTo};
+ghost use Rattle.fixed_natural.specs.Pows.{IsPow};
+
+/// The natural logarithm of 1 is exactly 0. Two numbers that are the logarithm of one number, each rounded down up to a
+/// part of a unit, differ by one unit at most. On signed words of n bits each logarithm fits where the range of the word
+/// reaches from `-f` to `n - 1 - f`, as that to the base 2 does.
+pub fn ln_law()
+    ensures of_one { (k f : ℕ) (r : ℤ) → 1 ≤ k → IsLn k (pos (2 ^ f)) f r → r ≡ pos 0 }
+    ensures near { (k f : ℕ) (a r s : ℤ) → 1 ≤ k → IsLn k a f r → IsLn k a f s
+        → r ≤ℤ (s +ℤ pos 1) }
+    ensures fits { (k n f : ℕ) (a r : ℤ) → 1 ≤ k → f < n → f * 2 ^ f ≤ 2 ^ (n - 1)
+        → (n - 1 - f) * 2 ^ f < 2 ^ (n - 1) → InRange true n a → pos 0 <ℤ a
+        → IsLn k a f r → InRange true n r }
+{}
+
+/// The same of the logarithm to the base 10. The logarithm of a power of 10 is exact: that of `10^j` to a base `2^(p / q)`
+/// on both sides of 10 is j.
+pub fn log10_law()
+    ensures of_one { (k f : ℕ) (r : ℤ) → 1 ≤ k → IsLog10 k (pos (2 ^ f)) f r → r ≡ pos 0 }
+    ensures of_power { (p q j k f : ℕ) (r : ℤ) → 0 < p → 1 ≤ k → 2 ^ p ≤ 10 ^ q → 10 ^ q ≤ 2 ^ (p + 1)
+        → IsLogTo p q (10 ^ j * 2 ^ f) f k r → IsLogTo (p + 1) q (10 ^ j * 2 ^ f) f k r
+        → r ≡ pos (j * 2 ^ f) }
+    ensures near { (k f : ℕ) (a r s : ℤ) → 1 ≤ k → IsLog10 k a f r → IsLog10 k a f s
+        → r ≤ℤ (s +ℤ pos 1) }
+    ensures fits { (k n f : ℕ) (a r : ℤ) → 1 ≤ k → f < n → f * 2 ^ f ≤ 2 ^ (n - 1)
+        → (n - 1 - f) * 2 ^ f < 2 ^ (n - 1) → InRange true n a → pos 0 <ℤ a
+        → IsLog10 k a f r → InRange true n r }
+{}
+
+/// e to the power of 0 is exactly 1. No power is below 0, with up to 60 fraction bits one of a number that is not above 0
+/// is 1 at most, and one whose exponent of 2 is below `m - f` by more than `2^-61` is below `2^m` units.
+pub fn exp_law()
+    ensures of_zero { (f : ℕ) (r : ℤ) → IsExp (pos 0) f r → r ≡ pos (2 ^ f) }
+    ensures from_zero { (f : ℕ) (a r : ℤ) → IsExp a f r → pos 0 ≤ℤ r }
+    ensures up_to_one { (f : ℕ) (a r : ℤ) → f ≤ 60 → a ≤ℤ pos 0 → IsExp a f r → r ≤ℤ pos (2 ^ f) }
+    ensures below { (m f a : ℕ) (r : ℤ) → (a * log2_e + f * 2 ^ f * decimals) * 2 ^ exp_room
+        + 2 ^ f * decimals < m * 2 ^ f * decimals * 2 ^ exp_room
+        → IsExp (pos a) f r → r <ℤ pos (2 ^ m) }
+{}
+
+/// No power is below 0. One with an exponent of j units that is a whole number n of units, of up to `2^54`, is exact:
+/// `(n / 2^f)^(2^f) = (a / 2^f)^j`.
+pub fn pow_law()
+    ensures from_zero { (f : ℕ) (a b r : ℤ) → IsPow a b f r → pos 0 ≤ℤ r }
+    ensures exact { (a j f n : ℕ) (r : ℤ) → 0 < a → 0 < n → n ≤ 2 ^ 54
+        → n ^ 2 ^ f * 2 ^ (f * j) ≡ a ^ j * 2 ^ (f * 2 ^ f) → IsPow (pos a) (pos j) f r → r ≡ pos n }
+{}

@@ -1,0 +1,57 @@
+//! Logarithms to the bases e and 10: those to the base 2 with more digits, times a constant.
+
+ghost use Rattle.std.specs.Prelude.{◌≡◌, ◌≤◌, ◌<◌, ◌+◌, ◌*◌, ◌^◌, ◌<ℤ◌, ℕ, ℤ, pos, unsigned_abs};
+ghost use Rattle.fixed_word.specs.Format.{with_sign};
+ghost use Rattle.fixed_word.specs.Standing.{StandsFor};
+ghost use Rattle.fixed_natural.specs.Logs.{IsLn, IsLog10, IsLogTo, log_room};
+ghost use Rattle.fixed_natural.specs.inside.Scaling.{IsInverse};
+
+use crate::scaling::{fine_log2, guard_of, in_places, scaled};
+use fixed_word::{Outcome, RawWord, Valued, Word, outcome_of};
+
+/// The natural logarithm of 2, in units of `2^-128`.
+const LN_2: u128 = 0xb172_17f7_d1cf_79ab_c9e3_b398_03f2_f6af;
+
+/// The logarithm of 2 to the base 10, in units of `2^-128`.
+const LOG10_2: u128 = 0x4d10_4d42_7de7_fbcc_47c4_acd6_05be_48bc;
+
+/// The logarithm of `a 2^-frac` to a base, in units of `2^-frac`. The factor is the logarithm of 2 to that base.
+fn log_of<T: Word>(a: T, frac: u32, factor: u128) -> Outcome<T>
+    requires frac { frac ≤ T.BITS }
+    requires sign { pos 0 <ℤ T.value a }
+    requires factor { 4 * (factor + 1) ≤ 3 * 2 ^ 128 }
+    ensures { (r : ℤ)
+        × ((p q : ℕ) → 0 < q → IsInverse factor p q → IsLogTo p q (unsigned_abs (T.value a)) frac (log_room T.BITS) r)
+        × StandsFor T.value T.SIGNED T.BITS r result }
+{
+    let guard = guard_of(T::BITS);
+    let units = fine_log2(T::BITS, a.magnitude(), frac + guard) + 2;
+    let less = in_places(frac, frac + guard);
+    if less <= units {
+        outcome_of(false, scaled(units - less, factor + 1, guard))
+    } else {
+        outcome_of(true, scaled(less - units, factor, guard) + 1)
+    }
+}
+
+/// The natural logarithm of `a 2^-frac`, in units of `2^-frac`, rounded down. Where it lies less than `2^-k` units below
+/// a whole number of units, the result may be that number; k is 24 on words of up to 32 bits, and 32 on words of 64
+/// bits. Precondition: `a` is above 0.
+pub fn ln_of<T: Word>(a: T, frac: u32) -> Outcome<T>
+    requires frac { frac ≤ T.BITS }
+    requires sign { pos 0 <ℤ T.value a }
+    ensures { (r : ℤ) × IsLn (log_room T.BITS) (T.value a) frac r × StandsFor T.value T.SIGNED T.BITS r result }
+{
+    log_of(a, frac, LN_2)
+}
+
+/// The logarithm of `a 2^-frac` to the base 10, in units of `2^-frac`, rounded down. Where it lies less than `2^-k` units
+/// below a whole number of units, the result may be that number; k is 24 on words of up to 32 bits, and 32 on words of
+/// 64 bits. Precondition: `a` is above 0.
+pub fn log10_of<T: Word>(a: T, frac: u32) -> Outcome<T>
+    requires frac { frac ≤ T.BITS }
+    requires sign { pos 0 <ℤ T.value a }
+    ensures { (r : ℤ) × IsLog10 (log_room T.BITS) (T.value a) frac r × StandsFor T.value T.SIGNED T.BITS r result }
+{
+    log_of(a, frac, LOG10_2)
+}
