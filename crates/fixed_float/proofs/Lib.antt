@@ -9,3 +9,6 @@ pub mod Exact
 pub mod Products
 pub mod Ends
 pub mod Beside
+pub mod Sums
+pub mod Joined
+pub mod Raised

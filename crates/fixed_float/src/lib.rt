@@ -13,6 +13,7 @@ mod held;
 mod incoming;
 pub mod laws;
 mod lowered;
+mod nearest;
 mod outgoing;
 mod parts;
 

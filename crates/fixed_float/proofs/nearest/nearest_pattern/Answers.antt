@@ -1,7 +1,7 @@
 use Rattle.std.proofs.Common.{◌+◌, ◌-◌, arith}
 use lib.Count.{count_leading_zeros}
 use Rattle.fixed_float.proofs.Packing.{packed_at, packed_none, packed_room}
-use Rattle.fixed_float.proofs.outgoing.nearest_pattern.Goals as goal
+use Rattle.fixed_float.proofs.nearest.nearest_pattern.Goals as goal
 
 pub returns-then-magnitude-eq0 : goal.returns-then-magnitude-eq0
 returns-then-magnitude-eq0 c = λ f p l. packed_none f c.args.magnitude c.args.frac c.if-magnitude-eq0.true
