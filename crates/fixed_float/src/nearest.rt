@@ -106,8 +106,12 @@ fn by_pattern<T: Word>(a: T, frac: u32) -> f32
     requires { frac ≤ T.BITS }
     ensures { result ≡ nearest_float binary32 (T.value a) frac }
 {
+    let magnitude = a.magnitude();
+    if magnitude == 0 {
+        return 0.0;
+    }
     let sign = sign_bit(a.is_below_zero());
-    f32::from_bits((sign + nearest_pattern(a.magnitude(), frac, 24, 149)) as u32)
+    f32::from_bits((sign + nearest_pattern(magnitude, frac, 24, 149)) as u32)
 }
 
 /// The sign's bit where `below_zero`, and otherwise 0.
@@ -122,15 +126,13 @@ fn sign_bit(below_zero: bool) -> u64
 /// above 0 is `2^-least`.
 #[inline]
 fn nearest_pattern(magnitude: u64, frac: u32, digits: u32, least: u32) -> u64
+    requires some { 0 < magnitude }
     requires frac { frac ≤ 64 }
     requires digits { (24 ≤ digits) × (digits ≤ 53) }
     requires least { (149 ≤ least) × (least ≤ 1074) }
     ensures { (f : Format) → prec f ≡ digits → low f ≡ least
         → IsNearestPattern f magnitude frac result }
 {
-    if magnitude == 0 {
-        return 0;
-    }
     let above = magnitude.leading_zeros();
     let spare = 64 - digits;
     let significand = lowered(false, magnitude << above, spare, Rounding::Even);
