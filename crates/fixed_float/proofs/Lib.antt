@@ -12,3 +12,5 @@ pub mod Beside
 pub mod Sums
 pub mod Joined
 pub mod Raised
+pub mod Centre
+pub mod Quick

@@ -27,7 +27,7 @@ use Rattle.fixed_float.proofs.Formats.{digits_in, field_room, least_in, neg-odd,
 size-gt : (n j : ℕ) → 2 ^ j ≤ n → j < size n
 size-gt n j h = lt_of_not-le (λ (g : size n ≤ j). not-le_of_lt (lt_of_lt_of_le (size-lt n) (pow_mono g)) h)
 
-size_is : (n j : ℕ) → 2 ^ j ≤ n → n < 2 ^ suc j → size n ≡ suc j
+pub size_is : (n j : ℕ) → 2 ^ j ≤ n → n < 2 ^ suc j → size n ≡ suc j
 size_is n j lo hi = le_antisymm (size-le n (suc j) hi) (size-gt n j lo)
 
 power_at : (a b : ℕ) → a ≡ b → 2 ^ a ≡ 2 ^ b

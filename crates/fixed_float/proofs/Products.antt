@@ -25,6 +25,23 @@ pub low_is : (f : Format) → low f + 2 ≡ emax f + prec f
 low_is binary32 = refl
 low_is binary64 = refl
 
+-- ---- the product with a float above 0
+pub times_is : (f : Format) (x y : Float) (s : Bool) (a b c d : ℕ) → 0 < c → 0 < d → HasValue x s a c → HasValue y false b d → mul f x y ≡ round f s (a * b) (c * d)
+unfolding mul
+times_is f nan y s a b c d C D v w = absurd v
+times_is f (inf t) y s a b c d C D v w = absurd v
+times_is f (fin t m e) nan s a b c d C D v w = absurd w
+times_is f (fin t m e) (inf r) s a b c d C D v w = absurd w
+times_is f (fin t m e) (fin true n k) s a b c d C D v w = absurd (true≢false w.0)
+times_is f (fin true m e) (fin false n k) false a b c d C D v w = absurd (true≢false v.0)
+times_is f (fin false m e) (fin false n k) true a b c d C D v w = absurd (true≢false (sym v.0))
+times_is f (fin true m e) (fin false n k) true a b c d C D v w =
+    round_same f true (m * up e * (n * up k)) (down e * down k) (a * b) (c * d) (mul-pos (down_pos e) (down_pos k)) (mul-pos C D)
+    (mul-mul-mul_comm (m * up e) (n * up k) c d ∙ (λ i. v.1 i * w.1 i) ∙ mul-mul-mul_comm a (down e) b (down k))
+times_is f (fin false m e) (fin false n k) false a b c d C D v w =
+    round_same f false (m * up e * (n * up k)) (down e * down k) (a * b) (c * d) (mul-pos (down_pos e) (down_pos k)) (mul-pos C D)
+    (mul-mul-mul_comm (m * up e) (n * up k) c d ∙ (λ i. v.1 i * w.1 i) ∙ mul-mul-mul_comm a (down e) b (down k))
+
 -- ---- the float 2 ^ -by
 module _ (f : Format) (by : ℕ) (B : by ≤ 64) where
   abbrev power_bits : ℕ
@@ -83,18 +100,6 @@ module _ (f : Format) (by : ℕ) (B : by ≤ 64) where
   quotient_is zero fits = ap (λ (z : Float). mul f z (of_bits f power_bits)) (round_none f) ∙ none_times (of_bits f power_bits) _ _ power_value
   quotient_is (suc n) fits = some_times (suc n) (omega arith) fits
 
-  below_times : (x y : Float) (a b c d : ℕ) → 0 < c → 0 < d → HasValue x true a c → HasValue y false b d → mul f x y ≡ round f true (a * b) (c * d)
-  unfolding mul
-  below_times nan y a b c d C D v w = absurd v
-  below_times (inf s) y a b c d C D v w = absurd v
-  below_times (fin s m e) nan a b c d C D v w = absurd w
-  below_times (fin s m e) (inf t) a b c d C D v w = absurd w
-  below_times (fin false m e) (fin t n k) a b c d C D v w = absurd (true≢false (sym v.0))
-  below_times (fin true m e) (fin true n k) a b c d C D v w = absurd (true≢false w.0)
-  below_times (fin true m e) (fin false n k) a b c d C D v w =
-      round_same f true (m * up e * (n * up k)) (down e * down k) (a * b) (c * d) (mul-pos (down_pos e) (down_pos k)) (mul-pos C D)
-      (mul-mul-mul_comm (m * up e) (n * up k) c d ∙ (λ i. v.1 i * w.1 i) ∙ mul-mul-mul_comm a (down e) b (down k))
-
   -- a whole number times the power
   pub product_is : (z : ℤ) → unsigned_abs z ≤ 2 ^ prec f → mul f (of_int f z) (of_bits f power_bits) ≡ nearest_float f z by
   unfolding of_int
@@ -102,7 +107,7 @@ module _ (f : Format) (by : ℕ) (B : by ≤ 64) where
   product_is (negsuc n) fits =
       let h = (hid f + 0) * 2 ^ rise in
       let e : suc n * h * 2 ^ by ≡ suc n * (1 * 2 ^ low f) = mul_assoc (suc n) h (2 ^ by) ∙ ap (λ (z : ℕ). suc n * z) (power_is ∙ omega arith) in
-      below_times (round f true (suc n) 1) (of_bits f power_bits) (suc n) h 1 (2 ^ low f) (omega arith) (pow_pos (low f)) (round_whole f true (suc n) fits) power_value
+      times_is f (round f true (suc n) 1) (of_bits f power_bits) true (suc n) h 1 (2 ^ low f) (omega arith) (pow_pos (low f)) (round_whole f true (suc n) fits) power_value
       ∙ round_same f true (suc n * h) (1 * 2 ^ low f) (suc n) (2 ^ by) (omega (arith, pow_pos (low f))) (pow_pos by) e
 
 -- each whole number of so few bits is a float

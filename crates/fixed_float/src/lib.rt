@@ -13,6 +13,7 @@ mod held;
 mod incoming;
 pub mod laws;
 mod lowered;
+mod near;
 mod nearest;
 mod outgoing;
 mod parts;
