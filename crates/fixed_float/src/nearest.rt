@@ -1,4 +1,4 @@
-//! The nearest floats of a word, by operations that loops take side by side.
+//! The floats nearest to words, by operations that a compiler vectorises.
 
 ghost use Rattle.std.specs.Prelude.{◌≡◌, ◌≤◌, ◌<◌, ◌^◌, ◌-◌, ◌+ℤ◌, ◌-ℤ◌, ◌⊎◌, pos, if◌then◌else◌};
 ghost use Rattle.std.specs.Float.{Format, binary32, binary64};
@@ -11,9 +11,10 @@ ghost use Rattle.fixed_float.specs.inside.Raised.{offset};
 use crate::lowered::lowered;
 use fixed_word::{RawWord, Rounding, Valued, Word};
 
-/// Of how many bits every whole number is a float.
+/// Every word of so many bits is an `f64`.
 const WHOLE_F64: u32 = 32;
 
+/// Every word of so many bits is an `f32`.
 const WHOLE_F32: u32 = 16;
 
 /// The `f64` nearest to `a / 2^frac`, of two as near the one whose last bit is 0.
@@ -73,8 +74,9 @@ fn whole_of<T: Word>(a: T) -> i64
     raised(a) as i64 - offset::<T>() as i64
 }
 
-/// The `f64` nearest to `raised - offset` over `2^frac`, from the halves of `raised`: both are put into the fractions
-/// of floats, which differ from what they stand for by a power of two. Only the last sum rounds.
+/// The `f64` nearest to `raised - offset` over `2^frac`. Each half of `raised` becomes the fraction of a float: the last
+/// bit of `high` counts `2^(32 - frac)`, and that of `low` counts `2^-frac`. The leading digits of both, and the offset,
+/// are `past`. The difference is exact, so only the sum rounds.
 #[inline]
 fn joined_f64(raised: u64, offset: u64, frac: u32) -> f64
     requires frac { frac ≤ 64 }
@@ -84,10 +86,11 @@ fn joined_f64(raised: u64, offset: u64, frac: u32) -> f64
     let (upper, lower) = ((1107 - frac as u64) << 52, (1075 - frac as u64) << 52);
     let high = f64::from_bits(upper + (raised >> 32));
     let past = f64::from_bits(upper + (1 << 20) + (offset >> 32));
-    high - past + f64::from_bits(lower + raised % (1 << 32))
+    let low = f64::from_bits(lower + raised % (1 << 32));
+    high - past + low
 }
 
-/// The same of an `f32`.
+/// The same of an `f32`, whose halves have 16 bits.
 #[inline]
 fn joined_f32(raised: u32, offset: u32, frac: u32) -> f32
     requires frac { frac ≤ 32 }
@@ -97,7 +100,8 @@ fn joined_f32(raised: u32, offset: u32, frac: u32) -> f32
     let (upper, lower) = ((166 - frac) << 23, (150 - frac) << 23);
     let high = f32::from_bits(upper + (raised >> 16));
     let past = f32::from_bits(upper + (1 << 7) + (offset >> 16));
-    high - past + f32::from_bits(lower + raised % (1 << 16))
+    let low = f32::from_bits(lower + raised % (1 << 16));
+    high - past + low
 }
 
 /// The `f32` nearest to `a / 2^frac`, by its bits.

@@ -29,8 +29,8 @@ float_from_bits-past c =
     let o = c.args.offset / 65536 in
     subst (λ (b : ℕ). T (not (nan_bits binary32 b))) (sym (past_is c.args.frac o c.requires.frac)) (packed_not_nan binary32 (16 + (149 - c.args.frac)) (128 + o) (omega arith) (halves_of c.args.offset c.requires.offset).0)
 
-pub float_from_bits-result : goal.float_from_bits-result
-float_from_bits-result c =
+pub float_from_bits-low : goal.float_from_bits-low
+float_from_bits-low c =
     let l = c.args.raised % 65536 in
     subst (λ (b : ℕ). T (not (nan_bits binary32 b))) (sym (lower_is c.args.frac l c.requires.frac)) (packed_not_nan binary32 (149 - c.args.frac) l (omega arith) (omega arith))
 
