@@ -7,7 +7,7 @@ use Rattle.std.proofs.lemmas.Bool.{cases_lt, le-ltb, lt-ltb}
 use Rattle.std.proofs.lemmas.Nat.{div-add-mod', mod_below}
 use lib.Arith.{digits_div, digits_mod}
 use lib.Pow.{pow-add, pow_mono, pow_pos}
-use Rattle.std.specs.Float.{Float, Format, nan, inf, fin, float_is_finite}
+use Rattle.std.specs.Float.{Float, Format, nan, inf, fin, float_is_finite, float_with_sign}
 use lib.Ieee.{add, down, emax, eq, hid, is_nan, le, low, lt, neg, prec, round, size, sum, to_bits, units, up}
 use lib.Ieee.Exact.{HasValue, units_val}
 use lib.Ieee.Fits.{down_pos, reach, round_is}
@@ -26,15 +26,6 @@ or_le a b r h = elim (cases_lt b a) [
   | inr g ↦ g
 ]
 
-or_ge : (a b : ℕ) (r : Bool) → (ltb b a || (eqb a b && r)) ≡ true → b ≤ a
-or_ge a b r h = elim (cases_lt a b) [
-  | inl l ↦
-      let e : ltb b a ≡ false = le-ltb b a (omega arith) in
-      let q : eqb a b ≡ false = ne_eqb a b (omega arith) in
-      absurd (true≢false (sym h ∙ (λ i. e i || (q i && r))))
-  | inr g ↦ g
-]
-
 cross : (p a c e q b d k : ℕ) → 0 < e → 0 < k → p * c ≡ a * e → q * d ≡ b * k → p * k ≤ q * e → a * d ≤ b * c
 cross p a c e q b d k E K h g l =
     let x : p * k * (c * d) ≡ a * d * (e * k) = mul-mul-mul_comm p k c d ∙ ap (λ (z : ℕ). z * (k * d)) h ∙ simp (mul_assoc, mul_comm, mul_left_comm) in
@@ -42,36 +33,30 @@ cross p a c e q b d k E K h g l =
     let m : p * k * (c * d) ≤ q * e * (c * d) = mul-le-mul_right (c * d) l in
     le_of_mul-le-mul_right (subst (λ (z : ℕ). z ≤ b * c * (e * k)) x (subst (λ (z : ℕ). p * k * (c * d) ≤ z) y m)) (mul-pos E K)
 
-pub size_above : (x y : Float) (a c b d : ℕ) → HasValue x false a c → HasValue y false b d → le x y ≡ true → a * d ≤ b * c
+pub size_under : (x y : Float) (a c b d : ℕ) → HasValue x false a c → HasValue y false b d → le x y ≡ true → a * d ≤ b * c
 unfolding le lt eq
-size_above nan y a c b d v w h = absurd v
-size_above (inf s) y a c b d v w h = absurd v
-size_above (fin s m e) nan a c b d v w h = absurd w
-size_above (fin s m e) (inf t) a c b d v w h = absurd w
-size_above (fin true m e) (fin t n k) a c b d v w h = absurd (true≢false v.0)
-size_above (fin false m e) (fin true n k) a c b d v w h = absurd (true≢false w.0)
-size_above (fin false m e) (fin false n k) a c b d v w h =
+size_under nan y a c b d v w h = absurd v
+size_under (inf s) y a c b d v w h = absurd v
+size_under (fin s m e) nan a c b d v w h = absurd w
+size_under (fin s m e) (inf t) a c b d v w h = absurd w
+size_under (fin true m e) (fin t n k) a c b d v w h = absurd (true≢false v.0)
+size_under (fin false m e) (fin true n k) a c b d v w h = absurd (true≢false w.0)
+size_under (fin false m e) (fin false n k) a c b d v w h =
     cross (m * up e) a c (down e) (n * up k) b d (down k) (down_pos e) (down_pos k) v.1 w.1 (or_le (m * up e * down k) (n * up k * down e) _ h)
 
-pub size_below : (x y : Float) (a c b d : ℕ) → HasValue x true a c → HasValue y false b d → le (neg y) x ≡ true → a * d ≤ b * c
-unfolding le lt eq neg
-size_below nan y a c b d v w h = absurd v
-size_below (inf s) y a c b d v w h = absurd v
-size_below (fin s m e) nan a c b d v w h = absurd w
-size_below (fin s m e) (inf t) a c b d v w h = absurd w
-size_below (fin false m e) (fin t n k) a c b d v w h = absurd (true≢false (sym v.0))
-size_below (fin true m e) (fin true n k) a c b d v w h = absurd (true≢false w.0)
-size_below (fin true m e) (fin false n k) a c b d v w h =
-    cross (m * up e) a c (down e) (n * up k) b d (down k) (down_pos e) (down_pos k) v.1 w.1 (or_ge (n * up k * down e) (m * up e * down k) _ h)
+pub abs_value : (x : Float) (s : Bool) (a c : ℕ) → HasValue x s a c → HasValue (float_with_sign false x) false a c
+unfolding float_with_sign
+abs_value nan s a c v = absurd v
+abs_value (inf t) s a c v = absurd v
+abs_value (fin t m e) s a c v = (refl, v.1)
 
-pub finite_between : (x y : Float) (b d : ℕ) → HasValue y false b d → le (neg y) x ≡ true → le x y ≡ true → float_is_finite x ≡ true
-unfolding le lt eq neg float_is_finite
-finite_between x nan b d w g h = absurd w
-finite_between x (inf t) b d w g h = absurd w
-finite_between nan (fin t n k) b d w g h = absurd (true≢false (sym h))
-finite_between (inf true) (fin t n k) b d w g h = absurd (true≢false (sym g))
-finite_between (inf false) (fin t n k) b d w g h = absurd (true≢false (sym h))
-finite_between (fin s m e) (fin t n k) b d w g h = refl
+pub finite_under : (x y : Float) (b d : ℕ) → HasValue y false b d → le (float_with_sign false x) y ≡ true → float_is_finite x ≡ true
+unfolding le lt eq float_with_sign float_is_finite
+finite_under x nan b d w h = absurd w
+finite_under x (inf t) b d w h = absurd w
+finite_under nan (fin t n k) b d w h = absurd (true≢false (sym h))
+finite_under (inf s) (fin t n k) b d w h = absurd (true≢false (sym h))
+finite_under (fin s m e) (fin t n k) b d w h = refl
 
 -- ---- the sum of ±n and b, over one divisor
 pub moved : (f : Format) (x y : Float) (s : Bool) (n b l : ℕ) → HasValue x s n (2 ^ l) → HasValue y false b (2 ^ l) → n < b

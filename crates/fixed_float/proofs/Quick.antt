@@ -3,8 +3,8 @@ use Rattle.std.proofs.Common.{◌≡◌, ◌+◌, ◌-◌, ◌*◌, ◌/◌, ◌
 use Rattle.std.specs.Prelude.{Some}
 use native.Mathlib.Nat.{div-lt_iff_lt-mul, le_of_mul-le-mul_right, le_trans, lt_of_le_of_lt, mul_assoc, mul_comm, mul-le-mul_right, mul-pos}
 use lib.Pow.{pow-add, pow_pos}
-use Rattle.std.specs.Float.{Float, binary64}
-use lib.Ieee.{add, fits, is_nan, le, mul, neg, of_bits, round, to_bits}
+use Rattle.std.specs.Float.{Float, binary64, float_with_sign}
+use lib.Ieee.{add, fits, is_nan, le, mul, of_bits, round, to_bits}
 use lib.Ieee.Exact.{HasValue, round_exact}
 use lib.Ieee.Fits.{nearest-le}
 use lib.Ieee.Nearest.{closest}
@@ -15,7 +15,7 @@ use Rattle.fixed_word.specs.declared.rounding.Rounding.TheVariants.{Even}
 use Rattle.fixed_float.specs.Rows.{units_of_float}
 use Rattle.fixed_float.specs.inside.Parts.{AreParts}
 use Rattle.fixed_float.specs.declared.parts.Parts.{Parts}
-use Rattle.fixed_float.proofs.Centre.{bits_at, closest_minus, closest_plus, finite_between, is_number, moved, size_above, size_below, value_at}
+use Rattle.fixed_float.proofs.Centre.{abs_value, bits_at, closest_minus, closest_plus, finite_under, is_number, moved, size_under, value_at}
 use Rattle.fixed_float.proofs.Joined.{packed_value}
 use Rattle.fixed_float.proofs.Products.{times_is}
 use Rattle.fixed_float.proofs.Roundings.{closest_stepped, rounded_at}
@@ -95,7 +95,7 @@ module _ (x : Float) (fit : T (fits binary64 x)) (g : ℕ) (G : g ≤ 64) where
   centre_value = packed_value binary64 1074 (2 ^ 51) (lit< tt) (lit< tt)
 
   -- x is d * 2 ^ k of the least floats, or minus that
-  module _ (p : Parts) (are : AreParts x p) (above : le (neg bound) x ≡ true) (under : le x bound ≡ true) where
+  module _ (p : Parts) (are : AreParts x p) (under : le (float_with_sign false x) bound ≡ true) where
     abbrev d : ℕ
     d = p.digits * 2 ^ p.scale
 
@@ -105,15 +105,14 @@ module _ (x : Float) (fit : T (fits binary64 x)) (g : ℕ) (G : g ≤ 64) where
     n_is : n ≡ d * 2 ^ g
     n_is = ap (λ (z : ℕ). p.digits * z) (pow-add 2 p.scale g) ∙ sym (mul_assoc p.digits (2 ^ p.scale) (2 ^ g))
 
-    sized : (s : Bool) → HasValue x s d (2 ^ 1074) → d * 2 ^ 1074 ≤ (2 ^ 52 + 0) * 2 ^ (1072 - g) * 2 ^ 1074
-    sized true v = size_below x bound d (2 ^ 1074) ((2 ^ 52 + 0) * 2 ^ (1072 - g)) (2 ^ 1074) v bound_value above
-    sized false v = size_above x bound d (2 ^ 1074) ((2 ^ 52 + 0) * 2 ^ (1072 - g)) (2 ^ 1074) v bound_value under
+    sized : d * 2 ^ 1074 ≤ (2 ^ 52 + 0) * 2 ^ (1072 - g) * 2 ^ 1074
+    sized = size_under (float_with_sign false x) bound d (2 ^ 1074) ((2 ^ 52 + 0) * 2 ^ (1072 - g)) (2 ^ 1074) (abs_value x p.below_zero d (2 ^ 1074) are.value) bound_value under
 
     small : n ≤ 2 ^ 50 * 2 ^ 1074
     small =
         let e : (2 ^ 52 + 0) * 2 ^ (1072 - g) * 2 ^ g ≡ (2 ^ 52 + 0) * 2 ^ 1072 =
         mul_assoc (2 ^ 52 + 0) (2 ^ (1072 - g)) (2 ^ g) ∙ ap (λ (z : ℕ). (2 ^ 52 + 0) * z) (sym (pow-add 2 (1072 - g) g) ∙ ap (λ (z : ℕ). 2 ^ z) {x = 1072 - g + g} {y = 1072} (omega (arith, G))) in
-        let l : d ≤ (2 ^ 52 + 0) * 2 ^ (1072 - g) = le_of_mul-le-mul_right (sized p.below_zero are.value) (pow_pos 1074) in
+        let l : d ≤ (2 ^ 52 + 0) * 2 ^ (1072 - g) = le_of_mul-le-mul_right sized (pow_pos 1074) in
         let m : d * 2 ^ g ≤ (2 ^ 52 + 0) * 2 ^ (1072 - g) * 2 ^ g = mul-le-mul_right (2 ^ g) l in
         omega (arith, n_is, m, e)
 
@@ -149,8 +148,8 @@ module _ (x : Float) (fit : T (fits binary64 x)) (g : ℕ) (G : g ≤ 64) where
           row = row_of_parts x p g Even are ∙ ap Some (rounded_at Even p.below_zero n (2 ^ 1074) (pow_pos 1074) ∙ ap (with_sign p.below_zero) (sym (closest_stepped n (2 ^ 1074) p.below_zero)));
         }
 
-  pub quick : le (neg bound) x ≡ true → le x bound ≡ true → IsMoved x g (add binary64 (mul binary64 x power) centre)
-  quick above under =
-      let finite = finite_between x bound ((2 ^ 52 + 0) * 2 ^ (1072 - g)) (2 ^ 1074) bound_value above under in
+  pub quick : le (float_with_sign false x) bound ≡ true → IsMoved x g (add binary64 (mul binary64 x power) centre)
+  quick under =
+      let finite = finite_under x bound ((2 ^ 52 + 0) * 2 ^ (1072 - g)) (2 ^ 1074) bound_value under in
       let p = parts_exist x fit finite in
-      rounded_by_sum p.0 p.1 above under
+      rounded_by_sum p.0 p.1 under

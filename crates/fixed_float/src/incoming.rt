@@ -32,10 +32,18 @@ pub fn from_float_round_of<X: Binary, T: Word>(
         (units_of_float (X.float x) frac rounding) result }
 {
     let wide = x.widened();
-    if let Some(whole) = whole_near(wide, frac, rounding) {
-        return Some(outcome_of(whole < 0, whole.unsigned_abs() as u128));
+    match whole_near(wide, frac, rounding) {
+        Some(whole) => Some(outcome_of(whole < 0, whole.unsigned_abs() as u128)),
+        None => outcome_by_parts(wide, frac, rounding),
     }
-    let parts = parts_of(wide)?;
+}
+
+/// The same of every `f64`, by its bits.
+#[inline]
+pub(crate) fn outcome_by_parts<T: Word>(x: f64, frac: u32, rounding: Rounding) -> Option<Outcome<T>>
+    ensures { IsOutcomeOfRow T.value T.SIGNED T.BITS (units_of_float x frac rounding) result }
+{
+    let parts = parts_of(x)?;
     Some(outcome_of_parts(parts, frac, rounding))
 }
 
