@@ -230,7 +230,6 @@ fn roundings() {
 }
 
 fn floats() {
-    let n32 = |draw: u64| FixedI32::<16>::from_bits(draw as i32);
     row(
         "saturating f64 to i32<16>",
         float,
@@ -252,7 +251,7 @@ fn floats() {
     floats_out();
 }
 
-/// Rows of a word with half of its bits behind the point, to both floats.
+/// The rows of a word with half of its bits behind the point, to both floats.
 macro_rules! floats_of {
     ($name:literal, $word:ty, $fixed:ty, $half:expr) => {
         row(
