@@ -230,7 +230,6 @@ fn roundings() {
 }
 
 fn floats() {
-    let n32 = |draw: u64| FixedI32::<16>::from_bits(draw as i32);
     row(
         "saturating f64 to i32<16>",
         float,
@@ -249,24 +248,36 @@ fn floats() {
         |x| (x * 256.0).round_ties_even() as i16,
         |x| FixedI16::<8>::saturating_from_num(x).to_bits(),
     );
-    row(
-        "i32<16> to f64",
-        n32,
-        |a| f64::from(a.to_bits()) / 65536.0,
-        |a| a.to_float::<f64>(),
-    );
-    row(
-        "i32<16> to f32",
-        n32,
-        |a| a.to_bits() as f32 / 65536.0,
-        |a| a.to_float::<f32>(),
-    );
-    row(
-        "i16<8> to f32",
-        |draw| FixedI16::<8>::from_bits(draw as i16),
-        |a| f32::from(a.to_bits()) / 256.0,
-        |a| a.to_float::<f32>(),
-    );
+    floats_out();
+}
+
+/// The rows of a word with half of its bits behind the point, to both floats.
+macro_rules! floats_of {
+    ($name:literal, $word:ty, $fixed:ty, $half:expr) => {
+        row(
+            concat!($name, " to f64"),
+            |draw| <$fixed>::from_bits(draw.rotate_left(40) as $word),
+            |a| a.to_bits() as f64 / $half,
+            |a| a.to_float::<f64>(),
+        );
+        row(
+            concat!($name, " to f32"),
+            |draw| <$fixed>::from_bits(draw.rotate_left(40) as $word),
+            |a| a.to_bits() as f32 / $half,
+            |a| a.to_float::<f32>(),
+        );
+    };
+}
+
+fn floats_out() {
+    floats_of!("i8<4>", i8, FixedI8<4>, 16.0);
+    floats_of!("u8<4>", u8, FixedU8<4>, 16.0);
+    floats_of!("i16<8>", i16, FixedI16<8>, 256.0);
+    floats_of!("u16<8>", u16, FixedU16<8>, 256.0);
+    floats_of!("i32<16>", i32, FixedI32<16>, 65536.0);
+    floats_of!("u32<16>", u32, FixedU32<16>, 65536.0);
+    floats_of!("i64<32>", i64, FixedI64<32>, 4294967296.0);
+    floats_of!("u64<32>", u64, FixedU64<32>, 4294967296.0);
 }
 
 fn comparisons() {

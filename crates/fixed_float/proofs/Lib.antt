@@ -9,3 +9,8 @@ pub mod Exact
 pub mod Products
 pub mod Ends
 pub mod Beside
+pub mod Sums
+pub mod Joined
+pub mod Raised
+pub mod Centre
+pub mod Quick

@@ -27,7 +27,7 @@ use Rattle.fixed_float.proofs.Formats.{digits_in, field_room, least_in, neg-odd,
 size-gt : (n j : ℕ) → 2 ^ j ≤ n → j < size n
 size-gt n j h = lt_of_not-le (λ (g : size n ≤ j). not-le_of_lt (lt_of_lt_of_le (size-lt n) (pow_mono g)) h)
 
-size_is : (n j : ℕ) → 2 ^ j ≤ n → n < 2 ^ suc j → size n ≡ suc j
+pub size_is : (n j : ℕ) → 2 ^ j ≤ n → n < 2 ^ suc j → size n ≡ suc j
 size_is n j lo hi = le_antisymm (size-le n (suc j) hi) (size-gt n j lo)
 
 power_at : (a b : ℕ) → a ≡ b → 2 ^ a ≡ 2 ^ b
@@ -196,8 +196,9 @@ packed_at f n g digits least kept p l some bound G e =
     λ i. (l i + (64 - p i) - a - g) * 2 ^ (p i - 1) % 2 ^ 64 in
     subst (λ (b : ℕ). IsNearestPattern f n g b) (λ i. (d ∙ m) i + s i) is
 
-pub packed_none : (f : Format) (n g : ℕ) → n ≡ 0 → IsNearestPattern f n g 0
-packed_none f n g z = subst (λ (k : ℕ). IsNearestPattern f k g 0) (sym z) (packed_zero f g)
+pub zero_at : (f : Format) (x : ℤ) (n g : ℕ) → n ≡ unsigned_abs x → n ≡ 0 → of_bits f 0 ≡ nearest_float f x g
+zero_at f (pos m) n g e z = zero_is f (2 ^ g) (pow_pos g) ∙ ap (λ (k : ℕ). round f false k (2 ^ g)) (sym z ∙ e)
+zero_at f (negsuc m) n g e z = absurd (omega arith)
 
 -- both parts have room in 64 bits
 pub packed_room : (n a k digits kept : ℕ) → 24 ≤ digits → digits ≤ 53 → k < 2 ^ 11

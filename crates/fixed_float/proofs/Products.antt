@@ -1,27 +1,46 @@
 -- A whole number that the format has, times a power of two.
-use Rattle.std.proofs.Common.{◌≡◌, ◌+◌, ◌-◌, ◌*◌, ◌^◌, ◌<◌, ◌≤◌, ◌<ℤ◌, ℕ, ℤ, zero, suc, Bool, true, false, pos, negsuc, T, not, unsigned_abs, refl, ap, sym, ◌∙◌, subst, arith, true≢false}
-use native.Mathlib.Nat.{le_refl, le_trans, mod-le, mul_assoc, mul-pos, pow-succ'}
+use Rattle.std.proofs.Common.{◌≡◌, ◌+◌, ◌-◌, ◌*◌, ◌^◌, ◌<◌, ◌≤◌, ℕ, ℤ, zero, suc, Bool, true, false, pos, negsuc, T, not, unsigned_abs, refl, ap, sym, ◌∙◌, subst, arith, true≢false}
+use native.Mathlib.Nat.{le_refl, le_trans, mod-le, mul-mul-mul_comm, mul_assoc, mul-pos, pow-succ'}
 use Rattle.std.proofs.lemmas.Int.{ints}
 use Rattle.std.proofs.lemmas.Nat.{mul-le}
 use lib.Pow.{pow-add, pow_pos}
 use Rattle.std.specs.Float.{Float, Format, binary32, binary64, nan, inf, fin}
-use lib.Ieee.{emax, hid, low, mul, nan_bits, neg, of_bits, of_int, ones, prec, round, top}
+use lib.Dec.{le→leb, lt→ltb}
+use lib.Ieee.{down, emax, hid, in_float, low, mul, nan_bits, of_bits, of_int, ones, prec, round, top, up}
 use lib.Ieee.Back.{round_whole}
 use lib.Ieee.Exact.{HasValue}
+use lib.Ieee.Fits.{down_pos}
 use lib.Ieee.Positive.{mul_at, positive_of_value}
 use lib.Ieee.Scale.{round_same}
 use Rattle.fixed_word.specs.Format.{InRange}
 use Rattle.fixed_float.specs.Patterns.{field_of, fraction_of, least_floats}
 use Rattle.fixed_float.specs.Rows.{nearest_float}
 use Rattle.fixed_float.proofs.Fields.{fields_at, pattern_value, below_top}
-use Rattle.fixed_float.proofs.Formats.{below_nans, digits_in, neg-round, reach_in, round_none}
+use Rattle.fixed_float.proofs.Formats.{below_nans, digits_in, reach_in, round_none}
 
-field_is : (f : Format) → ones f ≡ 2 * emax f + 1
+pub field_is : (f : Format) → ones f ≡ 2 * emax f + 1
 field_is f = refl
 
-low_is : (f : Format) → low f + 2 ≡ emax f + prec f
+pub low_is : (f : Format) → low f + 2 ≡ emax f + prec f
 low_is binary32 = refl
 low_is binary64 = refl
+
+-- ---- the product with a float above 0
+pub times_is : (f : Format) (x y : Float) (s : Bool) (a b c d : ℕ) → 0 < c → 0 < d → HasValue x s a c → HasValue y false b d → mul f x y ≡ round f s (a * b) (c * d)
+unfolding mul
+times_is f nan y s a b c d C D v w = absurd v
+times_is f (inf t) y s a b c d C D v w = absurd v
+times_is f (fin t m e) nan s a b c d C D v w = absurd w
+times_is f (fin t m e) (inf r) s a b c d C D v w = absurd w
+times_is f (fin t m e) (fin true n k) s a b c d C D v w = absurd (true≢false w.0)
+times_is f (fin true m e) (fin false n k) false a b c d C D v w = absurd (true≢false v.0)
+times_is f (fin false m e) (fin false n k) true a b c d C D v w = absurd (true≢false (sym v.0))
+times_is f (fin true m e) (fin false n k) true a b c d C D v w =
+    round_same f true (m * up e * (n * up k)) (down e * down k) (a * b) (c * d) (mul-pos (down_pos e) (down_pos k)) (mul-pos C D)
+    (mul-mul-mul_comm (m * up e) (n * up k) c d ∙ (λ i. v.1 i * w.1 i) ∙ mul-mul-mul_comm a (down e) b (down k))
+times_is f (fin false m e) (fin false n k) false a b c d C D v w =
+    round_same f false (m * up e * (n * up k)) (down e * down k) (a * b) (c * d) (mul-pos (down_pos e) (down_pos k)) (mul-pos C D)
+    (mul-mul-mul_comm (m * up e) (n * up k) c d ∙ (λ i. v.1 i * w.1 i) ∙ mul-mul-mul_comm a (down e) b (down k))
 
 -- ---- the float 2 ^ -by
 module _ (f : Format) (by : ℕ) (B : by ≤ 64) where
@@ -81,14 +100,21 @@ module _ (f : Format) (by : ℕ) (B : by ≤ 64) where
   quotient_is zero fits = ap (λ (z : Float). mul f z (of_bits f power_bits)) (round_none f) ∙ none_times (of_bits f power_bits) _ _ power_value
   quotient_is (suc n) fits = some_times (suc n) (omega arith) fits
 
--- ---- with the sign of a number
-pub signed_below : (f : Format) (x : ℤ) (r : Float) (g : ℕ) → x <ℤ pos 0 → r ≡ round f false (unsigned_abs x) (2 ^ g) → neg r ≡ nearest_float f x g
-signed_below f (pos n) r g h e = absurd (omega (arith, ints))
-signed_below f (negsuc n) r g h e = ap neg e ∙ sym (neg-round f (suc n) (2 ^ g))
+  -- a whole number times the power
+  pub product_is : (z : ℤ) → unsigned_abs z ≤ 2 ^ prec f → mul f (of_int f z) (of_bits f power_bits) ≡ nearest_float f z by
+  unfolding of_int
+  product_is (pos n) fits = quotient_is n fits
+  product_is (negsuc n) fits =
+      let h = (hid f + 0) * 2 ^ rise in
+      let e : suc n * h * 2 ^ by ≡ suc n * (1 * 2 ^ low f) = mul_assoc (suc n) h (2 ^ by) ∙ ap (λ (z : ℕ). suc n * z) (power_is ∙ omega arith) in
+      times_is f (round f true (suc n) 1) (of_bits f power_bits) true (suc n) h 1 (2 ^ low f) (omega arith) (pow_pos (low f)) (round_whole f true (suc n) fits) power_value
+      ∙ round_same f true (suc n * h) (1 * 2 ^ low f) (suc n) (2 ^ by) (omega (arith, pow_pos (low f))) (pow_pos by) e
 
-pub signed_above : (f : Format) (x : ℤ) (r : Float) (g : ℕ) → (x <ℤ pos 0 → ⊥) → r ≡ round f false (unsigned_abs x) (2 ^ g) → r ≡ nearest_float f x g
-signed_above f (pos n) r g h e = e
-signed_above f (negsuc n) r g h e = absurd (h (omega (arith, ints)))
+-- each whole number of so few bits is a float
+pub whole_in : (f : Format) (z : ℤ) → unsigned_abs z ≤ 2 ^ prec f → T (in_float f z)
+unfolding in_float
+whole_in f (pos n) h = le→leb n (2 ^ prec f) h
+whole_in f (negsuc n) h = lt→ltb n (2 ^ prec f) h
 
 -- ---- the magnitude of a word
 pub magnitude_below : (s : Bool) (n : ℕ) (x : ℤ) → 0 < n → InRange s n x → unsigned_abs x < 2 ^ n

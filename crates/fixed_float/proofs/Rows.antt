@@ -129,3 +129,10 @@ module _ (x : Float) (f : T (fits binary64 x)) (h : float_is_finite x ≡ true) 
       let t : fraction_of binary64 bits ≡ bits % 2 ^ 63 % 2 ^ 52 = omega arith in
       apart (bits % 2 ^ 63 % 2 ^ 52 + 2 ^ 52) (bits % 2 ^ 63 / 2 ^ 52 - 1) (omega arith) (omega arith)
       (high_size (field_of binary64 bits) (fraction_of binary64 bits) n ∙ ap (λ (k : ℕ). (k + 2 ^ 52) * 2 ^ (bits % 2 ^ 63 / 2 ^ 52 - 1)) t)
+
+pub parts_exist : (x : Float) → T (fits binary64 x) → float_is_finite x ≡ true → (p : Parts) × AreParts x p
+parts_exist x f h = go (to_bits binary64 x % 2 ^ 63 / 2 ^ 52) refl
+  where
+    go : (k : ℕ) → to_bits binary64 x % 2 ^ 63 / 2 ^ 52 ≡ k → (p : Parts) × AreParts x p
+    go zero e = (_, apart_low x f h e)
+    go (suc k) e = (_, apart_high x f h (λ z. let c : suc k ≡ 0 = sym e ∙ z in omega arith))

@@ -1,3 +1,4 @@
 -- What private functions alone cite.
 pub mod Parts
 pub mod Packed
+pub mod Raised

@@ -3,6 +3,10 @@
 ghost use Rattle.std.specs.Prelude.{◌≡◌, ◌*◌, ◌%◌, ◌^◌, ◌<◌, ◌≤◌, ℕ, false, refl};
 ghost use Rattle.std.specs.Float.{Float, Format, binary32, binary64};
 ghost use Rattle.std.specs.Float.Ieee.{hid, low, neg, of_bits, ones, prec, round, top};
+ghost use Rattle.fixed_float.specs.Rows.{nearest_float};
+
+use crate::nearest::{nearest_f32, nearest_f64};
+use fixed_word::Word;
 
 /// A float type of IEEE 754: `f32` or `f64`.
 pub trait Binary: Copy {
@@ -51,6 +55,11 @@ pub trait Binary: Copy {
         requires whole { whole < 2 ^ WHOLE }
         requires by { by ≤ 64 }
         ensures { float result ≡ round format false whole (2 ^ by) };
+
+    // The float nearest to `a / 2^frac`, of two as near the one whose last bit is 0.
+    fn nearest<T: Word>(a: T, frac: u32) -> Self
+        requires { frac ≤ T.BITS }
+        ensures { float result ≡ nearest_float format (T.value a) frac };
 
     /// The float with the other sign.
     fn negated(self) -> Self
@@ -106,6 +115,11 @@ impl Binary for f32 {
     }
 
     #[inline]
+    fn nearest<T: Word>(a: T, frac: u32) -> f32 {
+        nearest_f32(a, frac)
+    }
+
+    #[inline]
     fn negated(self) -> f32 {
         -self
     }
@@ -157,6 +171,11 @@ impl Binary for f64 {
     #[inline]
     fn quotient(whole: u64, by: u32) -> f64 {
         f64::from(whole as u32) * f64::from_bits((1023 - by as u64) << 52)
+    }
+
+    #[inline]
+    fn nearest<T: Word>(a: T, frac: u32) -> f64 {
+        nearest_f64(a, frac)
     }
 
     #[inline]

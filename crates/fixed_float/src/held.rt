@@ -3,10 +3,12 @@
 ghost use Rattle.std.specs.Prelude.{◌≡◌, Bool, Some, if◌then◌else◌};
 ghost use Rattle.std.specs.Float.{NotNan, inf};
 ghost use Rattle.fixed_word.specs.Format.{highest, lowest};
+ghost use Rattle.fixed_word.specs.Policies.{saturating};
 ghost use Rattle.fixed_float.specs.Rows.{saturated_float};
 
 use crate::binary::Binary;
-use crate::incoming::from_float_round_of;
+use crate::incoming::outcome_by_parts;
+use crate::near::whole_near;
 use fixed_word::{RawWord, Rounding, Word, saturating_of};
 
 /// The float in units of `2^-frac`, rounded, held at the ends of the range; for an infinity the end on its side.
@@ -17,17 +19,51 @@ pub fn saturating_float_of<X: Binary, T: Word>(x: X, frac: u32, rounding: Roundi
     ensures { Some (T.value result)
         ≡ saturated_float T.SIGNED T.BITS (X.float x) frac rounding }
 {
-    match from_float_round_of(x, frac, rounding) {
+    let wide = x.widened();
+    match whole_near(wide, frac, rounding) {
+        Some(whole) => whole_held(whole),
+        None => far_held(wide, frac, rounding),
+    }
+}
+
+/// The same of every `f64`, by its bits. Condition: it is no NaN.
+#[inline]
+fn far_held<T: Word>(x: f64, frac: u32, rounding: Rounding) -> T
+    requires { NotNan x }
+    ensures { Some (T.value result) ≡ saturated_float T.SIGNED T.BITS x frac rounding }
+{
+    match outcome_by_parts(x, frac, rounding) {
         Some(outcome) => saturating_of(outcome),
         None => end_beside(x),
     }
 }
 
+/// The whole number, held at the ends of the range.
+#[inline]
+fn whole_held<T: Word>(whole: i64) -> T
+    ensures { Some (T.value result) ≡ saturating T.SIGNED T.BITS (Some whole) }
+{
+    let below_zero = whole < 0;
+    let magnitude = whole.unsigned_abs();
+    let end: T = end_on(below_zero);
+    let past = magnitude > end.magnitude();
+    T::residue(below_zero, magnitude as u128).unless(past, end)
+}
+
 /// The end of the range on the side of an infinity.
 #[inline]
-fn end_beside<X: Binary, T: Word>(x: X) -> T
-    ensures { (s : Bool) → X.float x ≡ inf s → T.value result
+fn end_beside<T: Word>(x: f64) -> T
+    ensures { (s : Bool) → x ≡ inf s → T.value result
         ≡ (if s then lowest T.SIGNED T.BITS else highest T.SIGNED T.BITS) }
 {
-    if x.widened() < 0.0 { T::MIN } else { T::MAX }
+    end_on(x < 0.0)
+}
+
+/// The lower end of the range where `below_zero`, and otherwise the upper end.
+#[inline]
+fn end_on<T: Word>(below_zero: bool) -> T
+    ensures { T.value result
+        ≡ (if below_zero then lowest T.SIGNED T.BITS else highest T.SIGNED T.BITS) }
+{
+    if below_zero { T::MIN } else { T::MAX }
 }

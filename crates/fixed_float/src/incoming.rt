@@ -9,6 +9,7 @@ ghost use Rattle.fixed_float.specs.Rows.{IsOutcomeOfRow, units_of_float};
 
 use crate::binary::Binary;
 use crate::lowered::lowered;
+use crate::near::whole_near;
 use crate::parts::{LEAST, Parts, parts_of};
 use fixed_word::{Outcome, Rounding, Word, outcome_of};
 
@@ -30,7 +31,19 @@ pub fn from_float_round_of<X: Binary, T: Word>(
     ensures { IsOutcomeOfRow T.value T.SIGNED T.BITS
         (units_of_float (X.float x) frac rounding) result }
 {
-    let parts = parts_of(x.widened())?;
+    let wide = x.widened();
+    match whole_near(wide, frac, rounding) {
+        Some(whole) => Some(outcome_of(whole < 0, whole.unsigned_abs() as u128)),
+        None => outcome_by_parts(wide, frac, rounding),
+    }
+}
+
+/// The same of every `f64`, by its bits.
+#[inline]
+pub(crate) fn outcome_by_parts<T: Word>(x: f64, frac: u32, rounding: Rounding) -> Option<Outcome<T>>
+    ensures { IsOutcomeOfRow T.value T.SIGNED T.BITS (units_of_float x frac rounding) result }
+{
+    let parts = parts_of(x)?;
     Some(outcome_of_parts(parts, frac, rounding))
 }
 

@@ -13,6 +13,8 @@ mod held;
 mod incoming;
 pub mod laws;
 mod lowered;
+mod near;
+mod nearest;
 mod outgoing;
 mod parts;
 

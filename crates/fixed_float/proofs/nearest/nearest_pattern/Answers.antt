@@ -1,10 +1,7 @@
 use Rattle.std.proofs.Common.{◌+◌, ◌-◌, arith}
 use lib.Count.{count_leading_zeros}
-use Rattle.fixed_float.proofs.Packing.{packed_at, packed_none, packed_room}
-use Rattle.fixed_float.proofs.outgoing.nearest_pattern.Goals as goal
-
-pub returns-then-magnitude-eq0 : goal.returns-then-magnitude-eq0
-returns-then-magnitude-eq0 c = λ f p l. packed_none f c.args.magnitude c.args.frac c.if-magnitude-eq0.true
+use Rattle.fixed_float.proofs.Packing.{packed_at, packed_room}
+use Rattle.fixed_float.proofs.nearest.nearest_pattern.Goals as goal
 
 pub overflow_add-result : goal.overflow_add-result
 overflow_add-result c =
@@ -13,4 +10,4 @@ overflow_add-result c =
     record { fits = packed_room a.magnitude (count_leading_zeros 64 a.magnitude) k a.digits c.lowered-significand.result c.requires.digits.0 c.requires.digits.1 (omega (arith, c.requires.digits, c.requires.least)) c.lowered-significand.ensures }
 
 pub returns : goal.returns
-returns c = λ f p l. packed_at f c.args.magnitude c.args.frac c.args.digits c.args.least c.lowered-significand.result p l c.if-magnitude-eq0.false c.ranges.magnitude.fits c.requires.frac c.lowered-significand.ensures
+returns c = λ f p l. packed_at f c.args.magnitude c.args.frac c.args.digits c.args.least c.lowered-significand.result p l (λ e. let l = c.requires.some in omega arith) c.ranges.magnitude.fits c.requires.frac c.lowered-significand.ensures

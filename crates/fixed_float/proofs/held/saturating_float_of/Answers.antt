@@ -1,5 +1,0 @@
-use Rattle.fixed_float.proofs.Ends.{end_is}
-use Rattle.fixed_float.proofs.held.saturating_float_of.Goals as goal
-
-pub returns-in-None : goal.returns-in-None
-returns-in-None g c = end_is g.T.RawWord.SIGNED g.T.Valued.BITS (g.X.Binary.float c.args.x) c.args.frac c.args.rounding (g.T.Valued.value c.end_beside.result) c.requires c.in-None.ensures c.end_beside.ensures

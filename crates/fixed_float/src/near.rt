@@ -1,0 +1,41 @@
+//! Floats near 0, rounded to whole numbers by one sum.
+
+ghost use Rattle.std.specs.Prelude.{◌≡◌, ◌≤◌, ℤ, Some};
+ghost use Rattle.fixed_word.specs.declared.rounding.Rounding.TheVariants.{Even};
+ghost use Rattle.fixed_float.specs.Rows.{units_of_float};
+
+use fixed_word::Rounding;
+
+/// The float in units of `2^-frac`, rounded to the nearest, ties to even. `None` says nothing: another rounding, or more
+/// than `2^50` units.
+#[inline]
+pub(crate) fn whole_near(x: f64, frac: u32, rounding: Rounding) -> Option<i64>
+    ensures { (whole : ℤ) → result ≡ Some whole → units_of_float x frac rounding ≡ Some whole }
+{
+    match rounding {
+        Rounding::Even if frac <= 64 => even_near(x, frac),
+        _ => None,
+    }
+}
+
+/// `1.5 * 2^52`. The last bit of a float from `2^52` to `2^53` counts 1, so a sum there is rounded to a whole number.
+const CENTRE: f64 = 6755399441055744.0;
+
+/// The bits of the centre.
+const CENTRE_BITS: i64 = 0x4338_0000_0000_0000;
+
+/// The same where the rounding is to the nearest, by the sum with the centre.
+#[inline]
+fn even_near(x: f64, frac: u32) -> Option<i64>
+    requires { frac ≤ 64 }
+    ensures { (whole : ℤ) → result ≡ Some whole → units_of_float x frac Even ≡ Some whole }
+{
+    let bound = f64::from_bits((1073 - frac as u64) << 52);
+    if x.abs() <= bound {
+        let units = x * f64::from_bits((1023 + frac as u64) << 52);
+        let sum = units + CENTRE;
+        Some(sum.to_bits() as i64 - CENTRE_BITS)
+    } else {
+        None
+    }
+}
