@@ -44,10 +44,13 @@ pub fn exp_law()
         → IsExp (pos a) f r → r <ℤ pos (2 ^ m) }
 {}
 
-/// No power is below 0. One with an exponent of j units that is a whole number n of units, of up to `2^54`, is exact:
+/// No power is below 0, and with up to 54 fraction bits that of a number up to 1 is 1 at most, if the exponent is not below
+/// 0. One with an exponent of j units that is a whole number n of units, of up to `2^54`, is exact:
 /// `(n / 2^f)^(2^f) = (a / 2^f)^j`.
 pub fn pow_law()
     ensures from_zero { (f : ℕ) (a b r : ℤ) → IsPow a b f r → pos 0 ≤ℤ r }
+    ensures up_to_one { (a j f : ℕ) (r : ℤ) → 0 < a → a ≤ 2 ^ f → f ≤ 54
+        → IsPow (pos a) (pos j) f r → r ≤ℤ pos (2 ^ f) }
     ensures exact { (a j f n : ℕ) (r : ℤ) → 0 < a → 0 < n → n ≤ 2 ^ 54
         → n ^ 2 ^ f * 2 ^ (f * j) ≡ a ^ j * 2 ^ (f * 2 ^ f) → IsPow (pos a) (pos j) f r → r ≡ pos n }
 {}
