@@ -1,3 +1,4 @@
+pub mod Decimals
 pub mod Enclosed
 pub mod Exponents
 pub mod Factors

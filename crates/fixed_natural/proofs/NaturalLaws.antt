@@ -286,3 +286,42 @@ pow_exact_to a j f n r o some small e h =
 
 pub pow_exact : (a j f n : ℕ) (r : ℤ) → 0 < a → 0 < n → n ≤ 2 ^ 54 → n ^ 2 ^ f * 2 ^ (f * j) ≡ a ^ j * 2 ^ (f * 2 ^ f) → IsPow (pos a) (pos j) f r → r ≡ pos n
 pow_exact a j f n r o some small e h = h.1 ∙ ap pos (pow_exact_to a j f n h.0 o some small e h.2)
+
+-- a is at most 1
+pow_up_to_one_to : (a j f r : ℕ) → 0 < a → a ≤ 2 ^ f → f ≤ 54 → IsPowTo a (pos j) f pow_room r → r ≤ 2 ^ f
+pow_up_to_one_to a j f r o one small h =
+    let v = h.value in
+    let down = h.down in
+    let sum : h.up ≡ j + down = omega (arith, ints) in
+    let x : a ^ h.up ≡ a ^ j * a ^ down = ap (λ k. a ^ k) sum ∙ pow-add a j down in
+    let m : f * h.up ≡ f * j + f * down = rw sum (omega arith) in
+    let y : 2 ^ (f * h.up) ≡ 2 ^ (f * j) * 2 ^ (f * down) = ap (λ k. 2 ^ k) m ∙ pow-add 2 (f * j) (f * down) in
+    let z = pow-add 2 (f * down) (f * 2 ^ f) in
+    let B = a ^ down * 2 ^ (f * h.up) in
+    let A = a ^ h.up * 2 ^ (f * down + f * 2 ^ f) in
+    let p : a ^ j ≤ (2 ^ f) ^ j = pow-le-pow_left one j in
+    let e = pow_times 2 f j in
+    let g : a ^ j ≤ 2 ^ (f * j) = omega arith in
+    let rest = 2 ^ (f * 2 ^ f) * (a ^ down * 2 ^ (f * down)) in
+    let c : a ^ j * rest ≤ 2 ^ (f * j) * rest = mul-le-mul_right rest g in
+    let all : A ≤ 2 ^ (f * 2 ^ f) * B = rw (x, y, z) (omega arith) in
+    let i = 2 ^ 55 in
+    let d : A ^ i ≤ (2 ^ (f * 2 ^ f) * B) ^ i = pow-le-pow_left all i in
+    let fold : (2 ^ (f * 2 ^ f)) ^ i ≡ (2 ^ f) ^ (2 ^ f * i) =
+    let s : f * 2 ^ f * i ≡ f * (2 ^ f * i) = omega arith in
+    pow_times 2 (f * 2 ^ f) i ∙ ap (λ k. 2 ^ k) s ∙ sym (pow_times 2 f (2 ^ f * i)) in
+    let s = mul-pow (2 ^ (f * 2 ^ f)) B i ∙ ap (λ k. k * B ^ i) fold in
+    let t : A ^ i ≤ (2 ^ f) ^ (2 ^ f * i) * B ^ i = subst (λ k. A ^ i ≤ k) s d in
+    let up = mul-le-mul_right (2 ^ 2 ^ f) t in
+    let low = h.below in
+    let q : r ^ (2 ^ f * i) * B ^ i ≤ (2 ^ f) ^ (2 ^ f * i) * 2 ^ 2 ^ f * B ^ i = omega arith in
+    let positive : 0 < B = mul-le 1 1 (a ^ down) (2 ^ (f * h.up)) (one-le-pow down a o) (pow_pos (f * h.up)) in
+    let u = le_of_mul-le-mul_right q (one-le-pow i B positive) in
+    let w : 2 ^ f ≤ 2 ^ 54 = pow-le-pow_right {n = 2} (omega arith) {i = f} {j = 54} small in
+    no_more (2 ^ f) (2 ^ f) i r (pow_pos f) (pow_pos f) (omega arith) u
+
+pub pow_up_to_one : (a j f : ℕ) (r : ℤ) → 0 < a → a ≤ 2 ^ f → f ≤ 54 → IsPow (pos a) (pos j) f r → r ≤ℤ pos (2 ^ f)
+pow_up_to_one a j f r o one small h =
+    let v = h.1 in
+    let t = pow_up_to_one_to a j f h.0 o one small h.2 in
+    omega (arith, ints)

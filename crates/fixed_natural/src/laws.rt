@@ -2,9 +2,9 @@
 
 ghost use Rattle.std.specs.Prelude.{◌≡◌, ◌≤◌, ◌<◌, ◌+◌, ◌-◌, ◌*◌, ◌^◌, ◌+ℤ◌, ◌≤ℤ◌, ◌<ℤ◌, ℕ, ℤ, true, pos};
 ghost use Rattle.fixed_word.specs.Format.{InRange};
-ghost use Rattle.fixed_natural.specs.Bases.{decimals, log2_e};
+ghost use Rattle.fixed_natural.specs.Bases.{decimals, log2_10, log2_e};
 ghost use Rattle.fixed_natural.specs.Exps.{IsExp, exp_room};
-ghost use Rattle.fixed_natural.specs.Logs.{IsLn, IsLog10, IsLogTo};
+ghost use Rattle.fixed_natural.specs.Logs.{IsLn, IsLog10};
 ghost use Rattle.fixed_natural.specs.Pows.{IsPow};
 
 /// The natural logarithm of 1 is exactly 0. Two numbers that are the logarithm of one number, each rounded down up to a
@@ -19,13 +19,12 @@ pub fn ln_law()
         → IsLn k a f r → InRange true n r }
 {}
 
-/// The same of the logarithm to the base 10. The logarithm of a power of 10 is exact: that of `10^j` to a base `2^(p / q)`
-/// on both sides of 10 is j.
+/// The same of the logarithm to the base 10, and that of a power of 10 is exact. The decimals of log2 10 are right: it
+/// lies between them and the next.
 pub fn log10_law()
     ensures of_one { (k f : ℕ) (r : ℤ) → 1 ≤ k → IsLog10 k (pos (2 ^ f)) f r → r ≡ pos 0 }
-    ensures of_power { (p q j k f : ℕ) (r : ℤ) → 0 < p → 1 ≤ k → 2 ^ p ≤ 10 ^ q → 10 ^ q ≤ 2 ^ (p + 1)
-        → IsLogTo p q (10 ^ j * 2 ^ f) f k r → IsLogTo (p + 1) q (10 ^ j * 2 ^ f) f k r
-        → r ≡ pos (j * 2 ^ f) }
+    ensures of_power { (j k f : ℕ) (r : ℤ) → 1 ≤ k → IsLog10 k (pos (10 ^ j * 2 ^ f)) f r → r ≡ pos (j * 2 ^ f) }
+    ensures between { (p q : ℕ) → p ≡ log2_10 → q ≡ decimals → (2 ^ p ≤ 10 ^ q) × (10 ^ q < 2 ^ (p + 1)) }
     ensures near { (k f : ℕ) (a r s : ℤ) → 1 ≤ k → IsLog10 k a f r → IsLog10 k a f s
         → r ≤ℤ (s +ℤ pos 1) }
     ensures fits { (k n f : ℕ) (a r : ℤ) → 1 ≤ k → f < n → f * 2 ^ f ≤ 2 ^ (n - 1)
@@ -44,10 +43,13 @@ pub fn exp_law()
         → IsExp (pos a) f r → r <ℤ pos (2 ^ m) }
 {}
 
-/// No power is below 0. One with an exponent of j units that is a whole number n of units, of up to `2^54`, is exact:
+/// No power is below 0, and with up to 54 fraction bits that of a number up to 1 is 1 at most, if the exponent is not below
+/// 0. One with an exponent of j units that is a whole number n of units, of up to `2^54`, is exact:
 /// `(n / 2^f)^(2^f) = (a / 2^f)^j`.
 pub fn pow_law()
     ensures from_zero { (f : ℕ) (a b r : ℤ) → IsPow a b f r → pos 0 ≤ℤ r }
+    ensures up_to_one { (a j f : ℕ) (r : ℤ) → 0 < a → a ≤ 2 ^ f → f ≤ 54
+        → IsPow (pos a) (pos j) f r → r ≤ℤ pos (2 ^ f) }
     ensures exact { (a j f n : ℕ) (r : ℤ) → 0 < a → 0 < n → n ≤ 2 ^ 54
         → n ^ 2 ^ f * 2 ^ (f * j) ≡ a ^ j * 2 ^ (f * 2 ^ f) → IsPow (pos a) (pos j) f r → r ≡ pos n }
 {}
