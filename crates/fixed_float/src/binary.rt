@@ -56,7 +56,7 @@ pub trait Binary: Copy {
         requires by { by ≤ 64 }
         ensures { float result ≡ round format false whole (2 ^ by) };
 
-    // The float nearest to `a / 2^frac`, of two as near the one whose last bit is 0.
+    /// The float nearest to `a / 2^frac`, of two as near the one whose last bit is 0.
     fn nearest<T: Word>(a: T, frac: u32) -> Self
         requires { frac ≤ T.BITS }
         ensures { float result ≡ nearest_float format (T.value a) frac };
