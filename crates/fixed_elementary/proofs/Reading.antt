@@ -15,20 +15,20 @@ pow_times b m (suc n) =
     let e : m * suc n ≡ m * n + m = omega arith in
     pow-suc (b ^ m) n ∙ ap (λ x. x * b ^ m) (pow_times b m n) ∙ sym (pow-add b (m * n) m) ∙ ap (λ x. b ^ x) (sym e)
 
-twice_more : (b n : ℕ) → b ^ n * b ^ n * b ≡ b ^ (n + n + 1)
+pub twice_more : (b n : ℕ) → b ^ n * b ^ n * b ≡ b ^ (n + n + 1)
 twice_more b n =
     let f = pow-suc b (n + n) in
     let g = pow-add b n n in
     let e : n + n + 1 ≡ suc (n + n) = omega arith in
     rw (e, f, g) refl
 
-twice_power : (a i : ℕ) → a ^ 2 ^ suc i ≡ a ^ 2 ^ i * a ^ 2 ^ i
+pub twice_power : (a i : ℕ) → a ^ 2 ^ suc i ≡ a ^ 2 ^ i * a ^ 2 ^ i
 twice_power a i =
     let f = pow-suc 2 i in
     let e : 2 ^ suc i ≡ 2 ^ i + 2 ^ i = omega arith in
     ap (λ n. a ^ n) e ∙ pow-add a (2 ^ i) (2 ^ i)
 
-doubled : (r b : ℕ) → 2 ^ (2 * r + b) ≡ 2 ^ r * 2 ^ r * 2 ^ b
+pub doubled : (r b : ℕ) → 2 ^ (2 * r + b) ≡ 2 ^ r * 2 ^ r * 2 ^ b
 doubled r b =
     let e : 2 * r + b ≡ r + r + b = omega arith in
     let f = pow-add 2 (r + r) b in

@@ -22,7 +22,7 @@ forced_is zero f t = t
 forced_is (suc n) f t = t
 
 -- the digits after k more squares pass the test: low and high enclose them
-abbrev reads : ℕ → ℕ → ℕ → ℕ → ℕ → ℕ → Bool
+abbrev pub reads : ℕ → ℕ → ℕ → ℕ → ℕ → ℕ → Bool
 reads zero w d m low high = leb low d && leb d high
 reads (suc k) w d m low high = if leb (2 * w * w) (m * m) then forced (m * m / (2 * w)) (λ n. reads k w (2 * d + 1) n low high) else forced (m * m / w) (λ n. reads k w (2 * d) n low high)
 
@@ -57,38 +57,45 @@ no_digit w m o l h =
     let c = div_below (m * m) w (2 * w) o (omega arith) in
     record { digit = omega arith; least = b; most = c; below = rw one (omega arith); above = rw one (omega arith) }
 
-record Ends (w a i low high : ℕ) : Type 0 where
-  d : ℕ
-  m : ℕ
-  read : IsRead w a i d m
-  least : low ≤ d
-  most : d ≤ high
+-- P holds of digits between low and high, after i squares
+pub record Ends (P : ℕ → ℕ → ℕ → Type 0) (i low high : ℕ) : Type 0 where
+  pub d : ℕ
+  pub m : ℕ
+  pub read : P i d m
+  pub least : low ≤ d
+  pub most : d ≤ high
 
-all_read : (k w a i d m low high : ℕ) → 0 < w → IsRead w a i d m → T (reads k w d m low high) → Ends w a (i + k) low high
-all_read zero w a i d m low high o h t =
+-- what P needs
+pub record Reads (P : ℕ → ℕ → ℕ → Type 0) (w : ℕ) : Type 0 where
+  pub bounds : (i d m : ℕ) → P i d m → (w ≤ m) × (m < 2 * w)
+  pub turn : (i d m n b : ℕ) → P i d m → IsSquared w m b n → P (i + 1) (2 * d + b) n
+
+pub all_read : (P : ℕ → ℕ → ℕ → Type 0) (k w i d m low high : ℕ) → 0 < w → Reads P w → P i d m → T (reads k w d m low high) → Ends P (i + k) low high
+all_read P zero w i d m low high o s h t =
     let e : i ≡ i + 0 = omega arith in
     record {
       d = d;
       m = m;
-      read = subst (λ n. IsRead w a n d m) e h;
+      read = subst (λ n. P n d m) e h;
       least = leb→le low d (and_l (leb low d) (leb d high) t);
       most = leb→le d high (and_r (leb low d) (leb d high) t);
     }
-all_read (suc k) w a i d m low high o h t =
+all_read P (suc k) w i d m low high o s h t =
     let e : i + 1 + k ≡ i + suc k = omega arith in
+    let b = s.bounds i d m h in
     elim (either (leb (2 * w * w) (m * m)) (forced (m * m / (2 * w)) (λ n. reads k w (2 * d + 1) n low high)) (forced (m * m / w) (λ n. reads k w (2 * d) n low high)) t) [
       | inl y ↦
-          let s = one_digit w m o h.least h.most (leb→le (2 * w * w) (m * m) y.0) in
-          subst (λ n. Ends w a n low high) e (all_read k w a (i + 1) (2 * d + 1) (m * m / (2 * w)) low high o (read_turn w a i d m (m * m / (2 * w)) 1 o h s) (forced_is (m * m / (2 * w)) (λ n. reads k w (2 * d + 1) n low high) y.1))
+          let x = one_digit w m o b.0 b.1 (leb→le (2 * w * w) (m * m) y.0) in
+          subst (λ n. Ends P n low high) e (all_read P k w (i + 1) (2 * d + 1) (m * m / (2 * w)) low high o s (s.turn i d m (m * m / (2 * w)) 1 h x) (forced_is (m * m / (2 * w)) (λ n. reads k w (2 * d + 1) n low high) y.1))
       | inr y ↦
-          let s = no_digit w m o h.least (not_le (2 * w * w) (m * m) y.0) in
+          let x = no_digit w m o b.0 (not_le (2 * w * w) (m * m) y.0) in
           let z : 2 * d + 0 ≡ 2 * d = omega arith in
-          let r = subst (λ n. IsRead w a (i + 1) n (m * m / w)) z (read_turn w a i d m (m * m / w) 0 o h s) in
-          subst (λ n. Ends w a n low high) e (all_read k w a (i + 1) (2 * d) (m * m / w) low high o r (forced_is (m * m / w) (λ n. reads k w (2 * d) n low high) y.1))
+          let r = subst (λ n. P (i + 1) n (m * m / w)) z (s.turn i d m (m * m / w) 0 h x) in
+          subst (λ n. Ends P n low high) e (all_read P k w (i + 1) (2 * d) (m * m / w) low high o s r (forced_is (m * m / w) (λ n. reads k w (2 * d) n low high) y.1))
     ]
 
 -- from digits to decimals
-decimals_from : (room w a h low high p q : ℕ) → w ≡ 2 ^ (room + 1) → h ≤ room → Ends w a h low high → 0 < q → p * 2 ^ h ≤ low * q → (high + 2) * q ≤ (p + 1) * 2 ^ h → (2 ^ p ≤ a ^ q) × (a ^ q < 2 ^ (p + 1))
+decimals_from : (room w a h low high p q : ℕ) → w ≡ 2 ^ (room + 1) → h ≤ room → Ends (IsRead w a) h low high → 0 < q → p * 2 ^ h ≤ low * q → (high + 2) * q ≤ (p + 1) * 2 ^ h → (2 ^ p ≤ a ^ q) × (a ^ q < 2 ^ (p + 1))
 decimals_from room w a h low high p q u l e o f g =
     let x = enclosed room w a h h e.d e.m u l refl e.read in
     let s = mul-le-mul_right q e.least in
@@ -109,8 +116,8 @@ decimals_from room w a h low high p q u l e o f g =
 begun : IsMantissa (2 ^ 300) 10 3 (10 * 2 ^ 297)
 begun = record { least = omega arith; most = omega arith; digits = omega arith; value = refl }
 
-ends : Ends (2 ^ 300) 10 150 (log2_10 * 2 ^ 150 / decimals + 1) ((log2_10 + 1) * 2 ^ 150 / decimals - 2)
-ends = all_read 150 (2 ^ 300) 10 0 3 (10 * 2 ^ 297) (log2_10 * 2 ^ 150 / decimals + 1) ((log2_10 + 1) * 2 ^ 150 / decimals - 2) (omega arith) (read_none (2 ^ 300) 10 3 (10 * 2 ^ 297) (omega arith) begun) tt
+ends : Ends (IsRead (2 ^ 300) 10) 150 (log2_10 * 2 ^ 150 / decimals + 1) ((log2_10 + 1) * 2 ^ 150 / decimals - 2)
+ends = all_read (IsRead (2 ^ 300) 10) 150 (2 ^ 300) 0 3 (10 * 2 ^ 297) (log2_10 * 2 ^ 150 / decimals + 1) ((log2_10 + 1) * 2 ^ 150 / decimals - 2) (omega arith) (record { bounds = λ i d m h. (h.least, h.most); turn = λ i d m n b h x. read_turn (2 ^ 300) 10 i d m n b (omega arith) h x }) (read_none (2 ^ 300) 10 3 (10 * 2 ^ 297) (omega arith) begun) tt
 
 -- log2 10 lies between its decimals
 pub ten_between : (p q : ℕ) → p ≡ log2_10 → q ≡ decimals → (2 ^ p ≤ 10 ^ q) × (10 ^ q < 2 ^ (p + 1))

@@ -1,4 +1,5 @@
 pub mod Decimals
+pub mod EDecimals
 pub mod Enclosed
 pub mod Exponents
 pub mod Factors

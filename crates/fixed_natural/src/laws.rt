@@ -2,15 +2,18 @@
 
 ghost use Rattle.std.specs.Prelude.{◌≡◌, ◌≤◌, ◌<◌, ◌+◌, ◌-◌, ◌*◌, ◌^◌, ◌+ℤ◌, ◌≤ℤ◌, ◌<ℤ◌, ℕ, ℤ, true, pos};
 ghost use Rattle.fixed_word.specs.Format.{InRange};
-ghost use Rattle.fixed_natural.specs.Bases.{decimals, log2_10, log2_e};
+ghost use Rattle.fixed_natural.specs.Bases.{decimals, e_sum, factorial, log2_10, log2_e};
 ghost use Rattle.fixed_natural.specs.Exps.{IsExp, exp_room};
 ghost use Rattle.fixed_natural.specs.Logs.{IsLn, IsLog10};
 ghost use Rattle.fixed_natural.specs.Pows.{IsPow};
 
 /// The natural logarithm of 1 is exactly 0. Two numbers that are the logarithm of one number, each rounded down up to a
 /// part of a unit, differ by one unit at most. On signed words of n bits each logarithm fits where the range of the word
-/// reaches from `-f` to `n - 1 - f`, as that to the base 2 does.
+/// reaches from `-f` to `n - 1 - f`, as that to the base 2 does. The decimals of log2 e are right: 2 to the power of them
+/// is at most e, and to the power of the next at least e, where e lies between the sums of its series.
 pub fn ln_law()
+    ensures between { (p q : ℕ) → p ≡ log2_e → q ≡ decimals
+        → (2 ^ p * factorial 40 ^ q ≤ e_sum 40 ^ q) × ((e_sum 40 + 1) ^ q ≤ 2 ^ (p + 1) * factorial 40 ^ q) }
     ensures of_one { (k f : ℕ) (r : ℤ) → 1 ≤ k → IsLn k (pos (2 ^ f)) f r → r ≡ pos 0 }
     ensures near { (k f : ℕ) (a r s : ℤ) → 1 ≤ k → IsLn k a f r → IsLn k a f s
         → r ≤ℤ (s +ℤ pos 1) }
