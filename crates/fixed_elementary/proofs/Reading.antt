@@ -6,7 +6,8 @@ use Rattle.std.specs.Prelude.{neg_ℤ, unsigned_abs}
 use Rattle.std.proofs.lemmas.Int.{ints}
 use Rattle.std.proofs.lemmas.Bool.{cases_lt}
 use Rattle.fixed_elementary.specs.Log2.{IsLog2, IsLog2Of, log2_room}
-use Rattle.fixed_elementary.specs.inside.Squaring.{IsFound, IsMantissa, IsRead, IsSquared}
+use Rattle.fixed_elementary.specs.Squaring.{IsMantissa, IsSquared}
+use Rattle.fixed_elementary.specs.inside.Digits.{IsFound, IsRead}
 use Rattle.fixed_elementary.proofs.Squarings.{growth_within, lower, upper}
 
 pub pow_times : (b m n : ℕ) → (b ^ m) ^ n ≡ b ^ (m * n)

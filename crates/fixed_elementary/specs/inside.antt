@@ -1,4 +1,4 @@
 -- What private functions alone cite.
+pub mod Digits
 pub mod Power
 pub mod RecipParts
-pub mod Squaring

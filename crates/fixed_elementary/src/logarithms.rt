@@ -4,7 +4,8 @@ ghost use Rattle.std.specs.Prelude.{◌≡◌, ◌≤◌, ◌<◌, ◌+◌, ◌*
 ghost use Rattle.fixed_word.specs.Format.{with_sign};
 ghost use Rattle.fixed_word.specs.Standing.{StandsFor};
 ghost use Rattle.fixed_elementary.specs.Log2.{IsLog2Of, log2_room};
-ghost use Rattle.fixed_elementary.specs.inside.Squaring.{IsFound, IsMantissa, IsSquared};
+ghost use Rattle.fixed_elementary.specs.Squaring.{IsMantissa, IsSquared};
+ghost use Rattle.fixed_elementary.specs.inside.Digits.{IsFound};
 
 use crate::wide::product;
 use fixed_word::{Digits, Outcome, RawWord, Silent, Steps, Valued, Word, outcome_of};

@@ -4,7 +4,8 @@ use Rattle.std.specs.Prelude.{if◌then◌else◌}
 use Rattle.std.proofs.lemmas.Nat.{mul-le, div-add-mod', mod_below, div_below, le-div, pow_pos}
 use Rattle.std.proofs.Math.Nat.{mul-le-mul_right, pow-le-pow_left, pow-le-pow_right, pow-lt-pow_left}
 use lib.Ieee.Fits.{and_l, and_r}
-use Rattle.fixed_elementary.specs.inside.Squaring.{IsMantissa, IsRead, IsSquared}
+use Rattle.fixed_elementary.specs.Squaring.{IsMantissa, IsSquared}
+use Rattle.fixed_elementary.specs.inside.Digits.{IsRead}
 use Rattle.fixed_elementary.proofs.Reading.{pow_times, read_none, read_turn}
 use Rattle.fixed_natural.specs.Bases.{decimals, log2_10}
 use Rattle.fixed_natural.specs.Logs.{IsLog10, IsLogTo}

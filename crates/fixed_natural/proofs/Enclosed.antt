@@ -4,7 +4,7 @@ use Rattle.std.specs.Prelude.{neg_ℤ}
 use Rattle.std.proofs.lemmas.Int.{ints}
 use Rattle.std.proofs.lemmas.Nat.{pow_pos, pow-add}
 use Rattle.std.proofs.Math.Nat.{pow-le-pow_right, mul-le-mul_right}
-use Rattle.fixed_elementary.specs.inside.Squaring.{IsRead}
+use Rattle.fixed_elementary.specs.inside.Digits.{IsRead}
 use Rattle.fixed_elementary.proofs.Reading.{read_near}
 use Rattle.fixed_word.specs.Format.{IsWidth}
 use Rattle.fixed_natural.specs.Logs.{IsLogTo, log_room}

@@ -1,5 +1,5 @@
 use Rattle.std.proofs.Common.{◌^◌}
-use Rattle.fixed_elementary.specs.inside.Squaring.{IsRead}
+use Rattle.fixed_elementary.specs.inside.Digits.{IsRead}
 use Rattle.fixed_natural.proofs.scaling.broad_log2.Given as goal
 
 abbrev pub invariant-loop-i : goal.invariant-loop-i
