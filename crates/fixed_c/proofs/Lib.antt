@@ -2,3 +2,4 @@ pub mod Moved
 pub mod Choices
 pub mod EndsLeft
 pub mod PlacesLeft
+pub mod Unread

@@ -46,6 +46,7 @@ few : (f : ℕ) → f ≤ 64 → f * 3 / 10 + 1 ≤ 20
 few f le = omega arith
 
 pub found_law : (a : ℤ) (f : ℕ) → f ≤ 64 → IsLeast (ReadsBack a f) (shortest a f)
+unfolding shortest
 found_law a f le =
     let p = f * 3 / 10 + 1 in
     let back = reads_from_close a (nat_abs a) f p refl (close_enough (nat_abs a) (10 ^ p) (2 ^ f) (one-le-pow f 2 (omega arith)) (enough f le)) in

@@ -51,5 +51,5 @@ abbrev pub reads_back : ℤ → ℕ → ℕ → Bool
 reads_back a f p = int_eq (rounded (to_places a f p Even *ℤ pos (2 ^ f)) (pos (10 ^ p)) Even) a
 
 -- how many digits behind the point the shortest text has
-abbrev pub shortest : ℤ → ℕ → ℕ
+unfoldable pub shortest : ℤ → ℕ → ℕ
 shortest a f = first_of (reads_back a f) 20
