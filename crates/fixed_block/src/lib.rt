@@ -10,5 +10,5 @@ mod operations;
 mod pairs;
 
 pub use each::{Each, checked_each, saturating_each, wrapping_each};
-pub use operations::{Add, Convert, Dist, Mul, MulAdd, MulInt, Neg, Scale, Sub};
+pub use operations::{Abs, Add, Convert, Dist, Mul, MulAdd, MulInt, Neg, Scale, Sub};
 pub use pairs::{Pairs, checked_pairs, saturating_pairs, wrapping_pairs};

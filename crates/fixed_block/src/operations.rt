@@ -7,8 +7,8 @@ ghost use Rattle.fixed_kernel.specs.Rows.{exact_abs, exact_mul, exact_mul_add};
 use crate::each::Each;
 use crate::pairs::Pairs;
 use fixed_convert::{Castable, convert_round_of};
-use fixed_kernel::{add_of, dist_of, mul_add_of, mul_int_of, mul_of, neg_of, sub_of};
-use fixed_word::{Outcome, Rounding, Word};
+use fixed_kernel::{abs_of, add_of, dist_of, mul_add_of, mul_int_of, mul_of, neg_of, sub_of};
+use fixed_word::{Outcome, Rounding, SignedWord, Word};
 
 /// `-x`
 #[derive(Clone, Copy, Debug)]
@@ -17,11 +17,36 @@ pub struct Neg;
 impl<T: Word> Each<T> for Neg {
     ghost exact = { λ s x. neg_ℤ x };
 
-    ghost ready = { λ s. Unit };
+    ghost each_ready = { λ s. Unit };
+
+    #[inline(always)]
+    fn is_ready(&self) -> bool {
+        true
+    }
 
     #[inline(always)]
     fn outcome(&self, x: T) -> Outcome<T> {
         neg_of(x)
+    }
+}
+
+/// The magnitude of `x`.
+#[derive(Clone, Copy, Debug)]
+pub struct Abs;
+
+impl<T: SignedWord> Each<T> for Abs {
+    ghost exact = { λ s x. exact_abs x };
+
+    ghost each_ready = { λ s. Unit };
+
+    #[inline(always)]
+    fn is_ready(&self) -> bool {
+        true
+    }
+
+    #[inline(always)]
+    fn outcome(&self, x: T) -> Outcome<T> {
+        abs_of(x)
     }
 }
 
@@ -37,7 +62,12 @@ pub struct Scale<T> {
 impl<T: Word> Each<T> for Scale<T> {
     ghost exact = { λ s x. exact_mul x (T.value s.by) s.frac };
 
-    ghost ready = { λ s. s.frac ≤ T.BITS };
+    ghost each_ready = { λ s. s.frac ≤ T.BITS };
+
+    #[inline(always)]
+    fn is_ready(&self) -> bool {
+        self.frac <= T::BITS
+    }
 
     #[inline(always)]
     fn outcome(&self, x: T) -> Outcome<T> {
@@ -55,7 +85,12 @@ pub struct MulInt<T> {
 impl<T: Word> Each<T> for MulInt<T> {
     ghost exact = { λ s x. x *ℤ T.value s.k };
 
-    ghost ready = { λ s. Unit };
+    ghost each_ready = { λ s. Unit };
+
+    #[inline(always)]
+    fn is_ready(&self) -> bool {
+        true
+    }
 
     #[inline(always)]
     fn outcome(&self, x: T) -> Outcome<T> {
@@ -77,7 +112,12 @@ pub struct Convert {
 impl<T: Castable> Each<T> for Convert {
     ghost exact = { λ s x. rounded_convert x s.from s.to s.rounding };
 
-    ghost ready = { λ s. (s.from ≤ T.BITS) × (s.to ≤ T.BITS) };
+    ghost each_ready = { λ s. (s.from ≤ T.BITS) × (s.to ≤ T.BITS) };
+
+    #[inline(always)]
+    fn is_ready(&self) -> bool {
+        self.from <= T::BITS && self.to <= T::BITS
+    }
 
     #[inline(always)]
     fn outcome(&self, x: T) -> Outcome<T> {
@@ -92,7 +132,12 @@ pub struct Add;
 impl<T: Word> Pairs<T> for Add {
     ghost exact = { λ s x y. x +ℤ y };
 
-    ghost ready = { λ s. Unit };
+    ghost pairs_ready = { λ s. Unit };
+
+    #[inline(always)]
+    fn is_ready(&self) -> bool {
+        true
+    }
 
     #[inline(always)]
     fn outcome(&self, x: T, y: T) -> Outcome<T> {
@@ -107,7 +152,12 @@ pub struct Sub;
 impl<T: Word> Pairs<T> for Sub {
     ghost exact = { λ s x y. x -ℤ y };
 
-    ghost ready = { λ s. Unit };
+    ghost pairs_ready = { λ s. Unit };
+
+    #[inline(always)]
+    fn is_ready(&self) -> bool {
+        true
+    }
 
     #[inline(always)]
     fn outcome(&self, x: T, y: T) -> Outcome<T> {
@@ -122,7 +172,12 @@ pub struct Dist;
 impl<T: Word> Pairs<T> for Dist {
     ghost exact = { λ s x y. exact_abs (x -ℤ y) };
 
-    ghost ready = { λ s. Unit };
+    ghost pairs_ready = { λ s. Unit };
+
+    #[inline(always)]
+    fn is_ready(&self) -> bool {
+        true
+    }
 
     #[inline(always)]
     fn outcome(&self, x: T, y: T) -> Outcome<T> {
@@ -140,7 +195,12 @@ pub struct Mul {
 impl<T: Word> Pairs<T> for Mul {
     ghost exact = { λ s x y. exact_mul x y s.frac };
 
-    ghost ready = { λ s. s.frac ≤ T.BITS };
+    ghost pairs_ready = { λ s. s.frac ≤ T.BITS };
+
+    #[inline(always)]
+    fn is_ready(&self) -> bool {
+        self.frac <= T::BITS
+    }
 
     #[inline(always)]
     fn outcome(&self, x: T, y: T) -> Outcome<T> {
@@ -160,7 +220,12 @@ pub struct MulAdd<T> {
 impl<T: Word> Pairs<T> for MulAdd<T> {
     ghost exact = { λ s x y. exact_mul_add y (T.value s.by) x s.frac };
 
-    ghost ready = { λ s. s.frac ≤ T.BITS };
+    ghost pairs_ready = { λ s. s.frac ≤ T.BITS };
+
+    #[inline(always)]
+    fn is_ready(&self) -> bool {
+        self.frac <= T::BITS
+    }
 
     #[inline(always)]
     fn outcome(&self, x: T, y: T) -> Outcome<T> {
