@@ -2,7 +2,8 @@
  * computation in 64 bits, with each rounding; bad fractions, zero divisors and negative roots by their codes. Numbers of
  * other formats and doubles into 8 bits, and numbers of every word as doubles. Texts that are drawn, read; and each number
  * of 8 bits at each fraction as text, as printf prints it. Intervals over samples of ends, and polynomials and filters
- * over arrays that are drawn, against plain loops; each code. By every word, null pointers to arrays whose count is 0.
+ * over arrays that are drawn, against plain loops; each code. By every word, blocks beside single calls, and null pointers
+ * to arrays whose count is 0.
  * From the top:
  *
  *     cc -O2 -Wall -Wextra -Iinclude -o /tmp/face checks/face.c LIBRARY -lm && /tmp/face
@@ -529,6 +530,84 @@ static struct exact_ends plain_ends(int64_t low, int64_t high) {
 CHECK_MORE(fixed_i8, int8_t, INT8_MIN, INT8_MAX)
 CHECK_MORE(fixed_u8, uint8_t, 0, UINT8_MAX)
 
+/* Blocks that are drawn, by each policy, beside the single calls. */
+#define BLOCK_CALL(name, operation, single, of_block)                                                              \
+  for (uint32_t policy = 0; policy < 4; policy++) {                                                                \
+    size_t place = 99;                                                                                             \
+    memcpy(block, first, sizeof block);                                                                            \
+    const int32_t got = of_block;                                                                                  \
+    int32_t want = FIXED_OK;                                                                                       \
+    size_t want_place = 99;                                                                                        \
+    memcpy(expected, first, sizeof block);                                                                         \
+    for (size_t i = 0; i < count && want == FIXED_OK; i++) {                                                       \
+      name result = {0, 0};                                                                                        \
+      want = single;                                                                                               \
+      if (want == FIXED_OK && policy > FIXED_CHECKED) want = FIXED_NO_POLICY;                                      \
+      if (want == FIXED_OK && policy == FIXED_CHECKED && result.side != FIXED_FITS) {                              \
+        want = FIXED_OUT_OF_RANGE, want_place = i;                                                                 \
+      }                                                                                                            \
+      if (want == FIXED_OK) {                                                                                      \
+        expected[i] = policy == FIXED_SATURATING ? name##_saturating(result) : result.bits;                        \
+      }                                                                                                            \
+    }                                                                                                              \
+    compared++;                                                                                                    \
+    if (got != want || place != want_place || memcmp(block, expected, sizeof block) != 0) {                        \
+      printf(#name "_" #operation "_block: code %d, place %zu, but by single calls %d, %zu\n", (int)got, place,    \
+             (int)want, want_place);                                                                               \
+      exit(1);                                                                                                     \
+    }                                                                                                              \
+  }
+
+#define CHECK_BLOCKS(name, word, width, of_sign)                                                                   \
+  static void check_blocks_##name(void) {                                                                          \
+    enum { most = 37 };                                                                                            \
+    word block[most], first[most], others[most], expected[most];                                                   \
+    for (int tried = 0; tried < 3000; tried++) {                                                                   \
+      const size_t count = (size_t)draw(1, most);                                                                  \
+      const int by_bits = (int)draw(0, 63);                                                                        \
+      for (size_t i = 0; i < most; i++) {                                                                          \
+        first[i] = (word)(draw(INT64_MIN / 2, INT64_MAX / 2) * 2 >> by_bits);                                      \
+        others[i] = (word)(draw(INT64_MIN / 2, INT64_MAX / 2) * 2 >> by_bits);                                     \
+      }                                                                                                            \
+      const word k = (word)draw(-3, 3);                                                                            \
+      const uint32_t f = (uint32_t)draw(0, width), g = (uint32_t)draw(0, width), r = roundings[draw(0, 3)];        \
+      const uint32_t bad = (uint32_t)draw(0, 9) == 0 ? width + 1 : f;                                              \
+      BLOCK_CALL(name, neg, name##_neg(first[i], &result), name##_neg_block(block, count, policy, &place))         \
+      BLOCK_CALL(name, mul_int, name##_mul_int(first[i], k, &result),                                              \
+                 name##_mul_int_block(block, count, k, policy, &place))                                            \
+      BLOCK_CALL(name, scale, name##_mul(first[i], others[0], bad, &result),                                       \
+                 name##_scale_block(block, count, others[0], bad, policy, &place))                                 \
+      BLOCK_CALL(name, convert, convert_##of_sign(name, first[i], bad > width ? 65 : f, g, r),                     \
+                 name##_convert_block(block, count, bad, g, r, policy, &place))                                    \
+      BLOCK_CALL(name, add, name##_add(first[i], others[i], &result),                                              \
+                 name##_add_block(block, count, others, count, policy, &place))                                    \
+      BLOCK_CALL(name, sub, name##_sub(first[i], others[i], &result),                                              \
+                 name##_sub_block(block, count, others, count, policy, &place))                                    \
+      BLOCK_CALL(name, mul, name##_mul(first[i], others[i], bad, &result),                                         \
+                 name##_mul_block(block, count, others, count, bad, policy, &place))                               \
+      BLOCK_CALL(name, mul_add, name##_mul_add(others[i], k, first[i], bad, &result),                              \
+                 name##_mul_add_block(block, count, others, count, k, bad, policy, &place))                        \
+      BLOCK_CALL(name, sub, FIXED_COUNTS_DIFFER,                                                                   \
+                 name##_sub_block(block, count, others, count - 1, policy, &place))                                \
+      of_sign##_BLOCKS(name)                                                                                       \
+    }                                                                                                              \
+  }
+
+#define convert_SIGNED(name, x, from, to, r) name##_convert(x, from, to, r, &result)
+#define convert_UNSIGNED(name, x, from, to, r) name##_convert_unsigned(x, from, to, r, &result)
+#define SIGNED_BLOCKS(name) \
+  BLOCK_CALL(name, abs, name##_abs(first[i], &result), name##_abs_block(block, count, policy, &place))
+#define UNSIGNED_BLOCKS(name)
+
+CHECK_BLOCKS(fixed_i8, int8_t, 8, SIGNED)
+CHECK_BLOCKS(fixed_i16, int16_t, 16, SIGNED)
+CHECK_BLOCKS(fixed_i32, int32_t, 32, SIGNED)
+CHECK_BLOCKS(fixed_i64, int64_t, 64, SIGNED)
+CHECK_BLOCKS(fixed_u8, uint8_t, 8, UNSIGNED)
+CHECK_BLOCKS(fixed_u16, uint16_t, 16, UNSIGNED)
+CHECK_BLOCKS(fixed_u32, uint32_t, 32, UNSIGNED)
+CHECK_BLOCKS(fixed_u64, uint64_t, 64, UNSIGNED)
+
 /* What the header states of a call to which an array is passed as null with a count of 0. */
 static void compare_code(const char *call, int32_t want, int32_t got) {
   compared++;
@@ -557,6 +636,9 @@ static void compare_code(const char *call, int32_t want, int32_t got) {
     compare_code(#name "_print_shortest", FIXED_NO_ROOM, name##_print_shortest(8, 3, NULL, 0, &place));            \
     compare_code(#name "_print_shortest: length", 1, (int32_t)place);                                              \
     place = 78;                                                                                                    \
+    compare_code(#name "_neg_block", FIXED_OK, name##_neg_block(NULL, 0, FIXED_CHECKED, &place));                  \
+    compare_code(#name "_add_block", FIXED_OK, name##_add_block(NULL, 0, NULL, 0, FIXED_WRAPPING, &place));        \
+    compare_code(#name "_add_block", FIXED_COUNTS_DIFFER, name##_add_block(past, 1, NULL, 0, 0, &place));          \
     if (past[0] != 5 || left != 77 || place != 78 || answer.bits != 1 || answer.side != 2) {                       \
       printf(#name ": a call that returned a code has written\n");                                                 \
       exit(1);                                                                                                     \
@@ -582,6 +664,8 @@ int main(void) {
   check_doubles_fixed_u8(), check_doubles_fixed_u16(), check_doubles_fixed_u32(), check_doubles_fixed_u64();
   check_texts_fixed_i8(), check_texts_fixed_u8();
   check_ends_fixed_i8(), check_ends_fixed_u8();
+  check_blocks_fixed_i8(), check_blocks_fixed_i16(), check_blocks_fixed_i32(), check_blocks_fixed_i64();
+  check_blocks_fixed_u8(), check_blocks_fixed_u16(), check_blocks_fixed_u32(), check_blocks_fixed_u64();
   check_horner_fixed_i8(), check_horner_fixed_u8();
   check_filter_fixed_i8(), check_filter_fixed_u8();
   printf("%ld calls answer as plain C does\n", compared);

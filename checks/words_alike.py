@@ -16,7 +16,7 @@ from pathlib import Path
 
 TOP = Path(__file__).resolve().parent.parent
 FOLDER = TOP / "crates/fixed_c/src"
-SIGNED_ALONE = ["fixed_u8_abs", "fixed_u8_signum"]
+SIGNED_ALONE = ["fixed_u8_abs", "fixed_u8_signum", "fixed_u8_abs_block"]
 UNSIGNED_ALONE = ["fixed_u8_next_power_of_two"]
 
 

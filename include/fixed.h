@@ -12,8 +12,9 @@
  * what is left of the exact number in the word, and the side of the word's range on which that number lies. One of
  * five policies then makes a number of it: checked, saturating, wrapping, overflowing or strict.
  *
- * Beside the operations stand intervals, whose calls leave two ends, and calls over arrays: a polynomial by Horner's
- * rule and a step of a filter, which leave a number, or the place at which one does not fit.
+ * Beside the operations stand intervals, whose calls leave two ends; decimal text, read and written; and calls over
+ * arrays: blocks, on which an operation writes each result over its operand, a polynomial by Horner's rule and a step of a
+ * filter, which leave a number, or the place at which one does not fit.
  *
  * What C has to guarantee, since nothing checks it: a pointer to what a call leaves points to a whole, aligned one, and
  * nothing else reads or writes that during the call. It may hold anything before, as what an earlier call left. An
@@ -52,7 +53,8 @@ enum {
   FIXED_INVALID_DIGIT = 11,      /* a byte of the text is neither a digit nor a point */
   FIXED_TOO_MANY_POINTS = 12,    /* the text has a second point */
   FIXED_TOO_MANY_PLACES = 13,    /* more than 64 digits after the point are requested */
-  FIXED_NO_ROOM = 14             /* the text and its '\0' do not fit into the buffer */
+  FIXED_NO_ROOM = 14,            /* the text and its '\0' do not fit into the buffer */
+  FIXED_NO_POLICY = 15           /* no policy of blocks has the number */
 };
 
 /* How a number between two units is rounded, where a call takes a rounding. */
@@ -60,6 +62,13 @@ enum {
   FIXED_DOWN = 0,        /* to the unit below */
   FIXED_TOWARD_ZERO = 1, /* to the unit nearer to 0 */
   FIXED_NEAREST_EVEN = 2 /* to the nearest unit, and to the even one if two are as near */
+};
+
+/* What a call over a block writes where an exact result does not fit. */
+enum {
+  FIXED_SATURATING = 0, /* the number of the word that is nearest to it */
+  FIXED_WRAPPING = 1,   /* the number of the word that differs from it by a multiple of 2^n units */
+  FIXED_CHECKED = 2     /* nothing, from there on */
 };
 
 /* Where the exact number lies beside the range of the word. */
@@ -188,9 +197,35 @@ enum {
   int32_t name##_filter(const word *taps, size_t taps_count, word *past, size_t past_count, word sample,           \
                         uint32_t out_frac, uint32_t coef_frac, uint32_t sample_frac, word *output, size_t *tap);
 
-/* The calls of signed words alone: the magnitude of a; one by the sign of a, 2^frac, 0 or -2^frac. */
-#define FIXED_SIGNED_CALLS(name, word)        \
-  int32_t name##_abs(word a, name *result);   \
+/* Blocks: arrays whose numbers have one fraction. The result for each number of the block is written over it, by a policy.
+ * By FIXED_CHECKED the first result that does not fit ends the call: FIXED_OUT_OF_RANGE is returned, its place, from 0, is
+ * left in *place, and the block is as it was from there on. Else *place stays as it was, and so does all at another code. A
+ * fraction that is too large returns FIXED_FRACTION_PAST_WIDTH, then a number that no rounding has FIXED_NO_ROUNDING, then
+ * another count of the other block FIXED_COUNTS_DIFFER, and then a number that no policy has FIXED_NO_POLICY. */
+#define FIXED_BLOCKS(name, word)                                                                                   \
+  /* -x; x k, for an integer k; x by / 2^frac, rounded down */                                                     \
+  int32_t name##_neg_block(word *block, size_t count, uint32_t policy, size_t *place);                             \
+  int32_t name##_mul_int_block(word *block, size_t count, word k, uint32_t policy, size_t *place);                 \
+  int32_t name##_scale_block(word *block, size_t count, word by, uint32_t frac, uint32_t policy, size_t *place);   \
+  /* x / 2^from in units of 2^-to, rounded */                                                                      \
+  int32_t name##_convert_block(word *block, size_t count, uint32_t from, uint32_t to, uint32_t rounding,           \
+                               uint32_t policy, size_t *place);                                                    \
+  /* x + y; x - y; x y / 2^frac, rounded down; for each x of the block and the y at its place in the other */      \
+  int32_t name##_add_block(word *block, size_t count, const word *others, size_t others_count, uint32_t policy,    \
+                           size_t *place);                                                                         \
+  int32_t name##_sub_block(word *block, size_t count, const word *others, size_t others_count, uint32_t policy,    \
+                           size_t *place);                                                                         \
+  int32_t name##_mul_block(word *block, size_t count, const word *others, size_t others_count, uint32_t frac,      \
+                           uint32_t policy, size_t *place);                                                        \
+  /* x + y by / 2^frac, the product rounded down */                                                                \
+  int32_t name##_mul_add_block(word *block, size_t count, const word *others, size_t others_count, word by,        \
+                               uint32_t frac, uint32_t policy, size_t *place);
+
+/* The calls of signed words alone: the magnitude of a, and of each number of a block; one by the sign of a, 2^frac, 0
+ * or -2^frac. */
+#define FIXED_SIGNED_CALLS(name, word)                                                  \
+  int32_t name##_abs(word a, name *result);                                             \
+  int32_t name##_abs_block(word *block, size_t count, uint32_t policy, size_t *place); \
   int32_t name##_signum(word a, uint32_t frac, name *result);
 
 /* The call of unsigned words alone: the least power of two that is at least a. */
@@ -235,6 +270,7 @@ enum {
   FIXED_TEXTS(name, word)                         \
   FIXED_INTERVAL_CALLS(name, word)                \
   FIXED_ARRAY_CALLS(name, word)                   \
+  FIXED_BLOCKS(name, word)                        \
   FIXED_SIGNED_CALLS(name, word)                  \
   FIXED_POLICIES(name, word, least, greatest)
 
@@ -247,6 +283,7 @@ enum {
   FIXED_TEXTS(name, word)                    \
   FIXED_INTERVAL_CALLS(name, word)           \
   FIXED_ARRAY_CALLS(name, word)              \
+  FIXED_BLOCKS(name, word)                   \
   FIXED_UNSIGNED_CALLS(name, word)           \
   FIXED_POLICIES(name, word, 0, greatest)
 

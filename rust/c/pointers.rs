@@ -7,13 +7,24 @@ use std::ops::Range;
 const WORDS: [&str; 8] = ["i8", "i16", "i32", "i64", "u8", "u16", "u32", "u64"];
 
 /// The exports `fixed_WORD_NAME` that take slices, and the names of these.
-const SLICES: [(&str, &[&str]); 5] = [
+const SLICES: [(&str, &[&str]); 13] = [
     ("parse", &["decimal"]),
     ("print", &["buffer"]),
     ("print_shortest", &["buffer"]),
     ("horner", &["coefs"]),
     ("filter", &["taps", "past"]),
+    ("neg_block", &["block"]),
+    ("mul_int_block", &["block"]),
+    ("scale_block", &["block"]),
+    ("convert_block", &["block"]),
+    ("add_block", &["block", "others"]),
+    ("sub_block", &["block", "others"]),
+    ("mul_block", &["block", "others"]),
+    ("mul_add_block", &["block", "others"]),
 ];
+
+/// Likewise of the exports that signed words alone have.
+const SIGNED_SLICES: [(&str, &[&str]); 1] = [("abs_block", &["block"])];
 
 /// A slice that an export takes: its name, its whole parameter, the word and whether it is written.
 struct Slice<'a> {
@@ -51,8 +62,10 @@ pub fn with_pointers(text: &str) -> Result<String, String> {
 /// The slices of the table, each behind the name of its export.
 fn table() -> Vec<String> {
     let of_word = |word: &str| {
+        let signed: &[_] = if word.starts_with('i') { &SIGNED_SLICES } else { &[] };
         let entries = SLICES
             .iter()
+            .chain(signed)
             .flat_map(|(name, slices)| slices.iter().map(move |slice| (name, slice)));
         let named = entries.map(|(name, slice)| format!("fixed_{word}_{name}: {slice}"));
         named.collect::<Vec<_>>()

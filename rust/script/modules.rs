@@ -15,7 +15,7 @@ use std::path::Path;
 use std::{env, fs};
 
 /// The crates of the library, lowest first, without the `fixed_` in front.
-pub const LIBRARY: [&str; 22] = [
+pub const LIBRARY: [&str; 23] = [
     "word",
     "bits",
     "root",
@@ -23,6 +23,7 @@ pub const LIBRARY: [&str; 22] = [
     "kernel",
     "elementary",
     "convert",
+    "block",
     "digits",
     "text",
     "decimal",

@@ -6,4 +6,5 @@ pub mod Filters
 pub mod Words
 pub mod Roundings
 pub mod Texts
+pub mod Blocks
 pub mod inside

@@ -36,6 +36,8 @@ pub enum Code {
     TooManyPlaces,
     /// A text does not fit into the buffer.
     NoRoom,
+    /// No policy has the number.
+    NoPolicy,
 }
 
 impl Code {
@@ -59,6 +61,7 @@ impl Code {
             Code::TooManyPoints => 12,
             Code::TooManyPlaces => 13,
             Code::NoRoom => 14,
+            Code::NoPolicy => 15,
         }
     }
 }

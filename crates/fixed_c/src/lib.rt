@@ -12,6 +12,7 @@
 
 mod answer;
 mod arrays;
+mod blocks;
 mod calls;
 mod conversions;
 mod intervals;

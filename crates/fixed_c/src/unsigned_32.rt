@@ -1,6 +1,6 @@
 //! The calls of `u32`.
 
-ghost use Rattle.std.specs.Prelude.{◌≡◌, ℤ, Result, Ok, false, pos, neg_ℤ, ◌*ℤ◌, ◌+ℤ◌, ◌-ℤ◌};
+ghost use Rattle.std.specs.Prelude.{◌≡◌, ℤ, Result, Ok, false, pos, neg_ℤ, ◌*ℤ◌, ◌+ℤ◌, ◌-ℤ◌, map};
 ghost use Rattle.std.specs.Float.{binary64};
 ghost use Rattle.fixed_word.specs.declared.rounding.Rounding.TheVariants.{Even};
 ghost use Rattle.fixed_word.specs.Quotient.{euclidean_remainder, truncated_quotient};
@@ -14,11 +14,13 @@ ghost use Rattle.fixed_decimal.specs.Text.{shortest, text_of};
 ghost use Rattle.fixed_float.specs.Rows.{nearest_float, units_of_float};
 ghost use Rattle.fixed_c.specs.declared.answer.Code.{Code};
 ghost use Rattle.fixed_c.specs.declared.answer.Code.TheVariants.{ZeroDivisor, NegativeRoot, NotFinite};
+ghost use Rattle.fixed_block.specs.Blocks.{of_pairs};
 ghost use Rattle.fixed_c.specs.Answers.{ValueAnswers, at_fraction, row_or};
+ghost use Rattle.fixed_c.specs.Blocks.{BlockAnswers, at_policy};
 ghost use Rattle.fixed_c.specs.inside.Calls.{IsResultOf, given};
 ghost use Rattle.fixed_c.specs.Filters.{filter_of, fractions, output_in, past_after};
 ghost use Rattle.fixed_c.specs.Intervals.{difference_in, from_to, product_in, quotient_in, root_in, sum_in};
-ghost use Rattle.fixed_c.specs.Places.{PlaceAnswers};
+ghost use Rattle.fixed_c.specs.Places.{PlaceAnswers, with_as_many};
 ghost use Rattle.fixed_c.specs.Polynomials.{horner_in};
 ghost use Rattle.fixed_c.specs.Roundings.{at_rounding};
 ghost use Rattle.fixed_c.specs.Texts.{TextAnswers, at_places, or_code};
@@ -26,7 +28,7 @@ ghost use Rattle.fixed_c.specs.Words.{AnswersU32, EndsU32Answers};
 
 use crate::answer::{Code, side_of};
 use crate::calls::{Call, result_of};
-use crate::{arrays, conversions, intervals, one_sign, texts};
+use crate::{arrays, blocks, conversions, intervals, one_sign, texts};
 use fixed_filter::Shape;
 use fixed_word::Outcome;
 
@@ -603,4 +605,126 @@ pub extern "C" fn fixed_u32_filter(
         sample_frac,
     };
     arrays::filter(taps, past, sample, shape, output, tap)
+}
+
+/// `-x` for each x of the block.
+#[unsafe(no_mangle)]
+pub extern "C" fn fixed_u32_neg_block(block: &mut [u32], policy: u32, place: &mut usize) -> i32
+    ensures { BlockAnswers pos false 32
+        (at_policy policy (map neg_ℤ (map pos block.old)))
+        (block.old, place.old) (block.new, place.new) result }
+{
+    blocks::neg(block, policy, place)
+}
+
+/// `x k` for each x of the block, for an integer `k`.
+#[unsafe(no_mangle)]
+pub extern "C" fn fixed_u32_mul_int_block(
+    block: &mut [u32],
+    k: u32,
+    policy: u32,
+    place: &mut usize,
+) -> i32
+    ensures { BlockAnswers pos false 32
+        (at_policy policy (map (λ x. x *ℤ (pos k)) (map pos block.old)))
+        (block.old, place.old) (block.new, place.new) result }
+{
+    blocks::mul_int(block, k, policy, place)
+}
+
+/// `x by / 2^frac`, rounded down, for each x of the block.
+#[unsafe(no_mangle)]
+pub extern "C" fn fixed_u32_scale_block(
+    block: &mut [u32],
+    by: u32,
+    frac: u32,
+    policy: u32,
+    place: &mut usize,
+) -> i32
+    ensures { BlockAnswers pos false 32
+        (at_fraction 32 frac (at_policy policy (map (λ x. exact_mul x (pos by) frac) (map pos block.old))))
+        (block.old, place.old) (block.new, place.new) result }
+{
+    blocks::scale(block, by, frac, policy, place)
+}
+
+/// `x / 2^from` in units of `2^-to`, rounded, for each x of the block.
+#[unsafe(no_mangle)]
+pub extern "C" fn fixed_u32_convert_block(
+    block: &mut [u32],
+    from: u32,
+    to: u32,
+    rounding: u32,
+    policy: u32,
+    place: &mut usize,
+) -> i32
+    ensures { BlockAnswers pos false 32
+        (at_fraction 32 from (at_fraction 32 to (at_rounding rounding
+        (λ r. at_policy policy (map (λ x. rounded_convert x from to r) (map pos block.old))))))
+        (block.old, place.old) (block.new, place.new) result }
+{
+    blocks::convert(block, from, to, rounding, policy, place)
+}
+
+/// `x + y` for each x of the block and the y at its place.
+#[unsafe(no_mangle)]
+pub extern "C" fn fixed_u32_add_block(
+    block: &mut [u32],
+    others: &[u32],
+    policy: u32,
+    place: &mut usize,
+) -> i32
+    ensures { BlockAnswers pos false 32
+        (with_as_many block.old others.now (at_policy policy (of_pairs (λ x y. x +ℤ y) (map pos block.old) (map pos others.now))))
+        (block.old, place.old) (block.new, place.new) result }
+{
+    blocks::add(block, others, policy, place)
+}
+
+/// `x - y` for each x of the block and the y at its place.
+#[unsafe(no_mangle)]
+pub extern "C" fn fixed_u32_sub_block(
+    block: &mut [u32],
+    others: &[u32],
+    policy: u32,
+    place: &mut usize,
+) -> i32
+    ensures { BlockAnswers pos false 32
+        (with_as_many block.old others.now (at_policy policy (of_pairs (λ x y. x -ℤ y) (map pos block.old) (map pos others.now))))
+        (block.old, place.old) (block.new, place.new) result }
+{
+    blocks::sub(block, others, policy, place)
+}
+
+/// `x y / 2^frac`, rounded down, for each x of the block and the y at its place.
+#[unsafe(no_mangle)]
+pub extern "C" fn fixed_u32_mul_block(
+    block: &mut [u32],
+    others: &[u32],
+    frac: u32,
+    policy: u32,
+    place: &mut usize,
+) -> i32
+    ensures { BlockAnswers pos false 32
+        (at_fraction 32 frac (with_as_many block.old others.now (at_policy policy (of_pairs (λ x y. exact_mul x y frac) (map pos block.old) (map pos others.now)))))
+        (block.old, place.old) (block.new, place.new) result }
+{
+    blocks::mul(block, others, frac, policy, place)
+}
+
+/// `x + y by / 2^frac`, the product rounded down, for each x of the block and the y at its place.
+#[unsafe(no_mangle)]
+pub extern "C" fn fixed_u32_mul_add_block(
+    block: &mut [u32],
+    others: &[u32],
+    by: u32,
+    frac: u32,
+    policy: u32,
+    place: &mut usize,
+) -> i32
+    ensures { BlockAnswers pos false 32
+        (at_fraction 32 frac (with_as_many block.old others.now (at_policy policy (of_pairs (λ x y. exact_mul_add y (pos by) x frac) (map pos block.old) (map pos others.now)))))
+        (block.old, place.old) (block.new, place.new) result }
+{
+    blocks::mul_add(block, others, by, frac, policy, place)
 }

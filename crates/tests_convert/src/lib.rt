@@ -1,5 +1,8 @@
-//! Tests of `fixed_convert`: rows from the Rust crate's documentation, ends of words, and each call through its bound.
+//! Tests of `fixed_convert` and `fixed_block`: rows from the Rust crate's documentation, ends of words, and each call through its bound.
 #![tactic(auto)]
+
+#[cfg(test)]
+mod blocks;
 
 #[cfg(test)]
 mod rows {

@@ -1,0 +1,13 @@
+use Rattle.std.proofs.Common.{◌≤◌, map}
+use Rattle.fixed_block.specs.Blocks.{fitting}
+use Rattle.fixed_block.proofs.Fronts.{IsFront}
+use Rattle.fixed_block.proofs.each.checked_each.Given as goal
+
+abbrev pub invariant-loop-at : goal.invariant-loop-at
+invariant-loop-at g l =
+    let xs = map g.T.Valued.value l.initial.block in
+    let rows = map (g.O.Each.exact l.operation) xs in
+    record {
+      front : IsFront rows xs l.at (map g.T.Valued.value l.block);
+      fit : l.at ≤ fitting g.T.RawWord.SIGNED g.T.Valued.BITS rows;
+    }

@@ -1,0 +1,234 @@
+//! The operations on blocks.
+
+ghost use Rattle.std.specs.Prelude.{◌≤◌, ◌+ℤ◌, ◌-ℤ◌, ◌*ℤ◌, neg_ℤ};
+ghost use Rattle.fixed_convert.specs.Convert.{rounded_convert};
+ghost use Rattle.fixed_kernel.specs.Rows.{exact_abs, exact_mul, exact_mul_add};
+
+use crate::each::Each;
+use crate::pairs::Pairs;
+use fixed_convert::{Castable, convert_round_of};
+use fixed_kernel::{abs_of, add_of, dist_of, mul_add_of, mul_int_of, mul_of, neg_of, sub_of};
+use fixed_word::{Outcome, Rounding, SignedWord, Word};
+
+/// `-x`
+#[derive(Clone, Copy, Debug)]
+pub struct Neg;
+
+impl<T: Word> Each<T> for Neg {
+    ghost exact = { λ s x. neg_ℤ x };
+
+    ghost each_ready = { λ s. Unit };
+
+    #[inline(always)]
+    fn is_ready(&self) -> bool {
+        true
+    }
+
+    #[inline(always)]
+    fn outcome(&self, x: T) -> Outcome<T> {
+        neg_of(x)
+    }
+}
+
+/// The magnitude of `x`.
+#[derive(Clone, Copy, Debug)]
+pub struct Abs;
+
+impl<T: SignedWord> Each<T> for Abs {
+    ghost exact = { λ s x. exact_abs x };
+
+    ghost each_ready = { λ s. Unit };
+
+    #[inline(always)]
+    fn is_ready(&self) -> bool {
+        true
+    }
+
+    #[inline(always)]
+    fn outcome(&self, x: T) -> Outcome<T> {
+        abs_of(x)
+    }
+}
+
+/// `x by / 2^frac`, rounded down. Precondition: `frac` is at most the width.
+#[derive(Clone, Copy, Debug)]
+pub struct Scale<T> {
+    /// The other factor.
+    pub by: T,
+    /// The fraction of the other factor.
+    pub frac: u32,
+}
+
+impl<T: Word> Each<T> for Scale<T> {
+    ghost exact = { λ s x. exact_mul x (T.value s.by) s.frac };
+
+    ghost each_ready = { λ s. s.frac ≤ T.BITS };
+
+    #[inline(always)]
+    fn is_ready(&self) -> bool {
+        self.frac <= T::BITS
+    }
+
+    #[inline(always)]
+    fn outcome(&self, x: T) -> Outcome<T> {
+        mul_of(x, self.by, self.frac)
+    }
+}
+
+/// `x k`, for an integer `k`.
+#[derive(Clone, Copy, Debug)]
+pub struct MulInt<T> {
+    /// The integer.
+    pub k: T,
+}
+
+impl<T: Word> Each<T> for MulInt<T> {
+    ghost exact = { λ s x. x *ℤ T.value s.k };
+
+    ghost each_ready = { λ s. Unit };
+
+    #[inline(always)]
+    fn is_ready(&self) -> bool {
+        true
+    }
+
+    #[inline(always)]
+    fn outcome(&self, x: T) -> Outcome<T> {
+        mul_int_of(x, self.k)
+    }
+}
+
+/// The number `x / 2^from` in units of `2^-to`, rounded. Preconditions: both fractions are at most the width.
+#[derive(Clone, Copy, Debug)]
+pub struct Convert {
+    /// The fraction of the numbers of the block.
+    pub from: u32,
+    /// The fraction of the results.
+    pub to: u32,
+    /// How the results are rounded.
+    pub rounding: Rounding,
+}
+
+impl<T: Castable> Each<T> for Convert {
+    ghost exact = { λ s x. rounded_convert x s.from s.to s.rounding };
+
+    ghost each_ready = { λ s. (s.from ≤ T.BITS) × (s.to ≤ T.BITS) };
+
+    #[inline(always)]
+    fn is_ready(&self) -> bool {
+        self.from <= T::BITS && self.to <= T::BITS
+    }
+
+    #[inline(always)]
+    fn outcome(&self, x: T) -> Outcome<T> {
+        convert_round_of(x, self.from, self.to, self.rounding)
+    }
+}
+
+/// `x + y`
+#[derive(Clone, Copy, Debug)]
+pub struct Add;
+
+impl<T: Word> Pairs<T> for Add {
+    ghost exact = { λ s x y. x +ℤ y };
+
+    ghost pairs_ready = { λ s. Unit };
+
+    #[inline(always)]
+    fn is_ready(&self) -> bool {
+        true
+    }
+
+    #[inline(always)]
+    fn outcome(&self, x: T, y: T) -> Outcome<T> {
+        add_of(x, y)
+    }
+}
+
+/// `x - y`
+#[derive(Clone, Copy, Debug)]
+pub struct Sub;
+
+impl<T: Word> Pairs<T> for Sub {
+    ghost exact = { λ s x y. x -ℤ y };
+
+    ghost pairs_ready = { λ s. Unit };
+
+    #[inline(always)]
+    fn is_ready(&self) -> bool {
+        true
+    }
+
+    #[inline(always)]
+    fn outcome(&self, x: T, y: T) -> Outcome<T> {
+        sub_of(x, y)
+    }
+}
+
+/// The magnitude of `x - y`.
+#[derive(Clone, Copy, Debug)]
+pub struct Dist;
+
+impl<T: Word> Pairs<T> for Dist {
+    ghost exact = { λ s x y. exact_abs (x -ℤ y) };
+
+    ghost pairs_ready = { λ s. Unit };
+
+    #[inline(always)]
+    fn is_ready(&self) -> bool {
+        true
+    }
+
+    #[inline(always)]
+    fn outcome(&self, x: T, y: T) -> Outcome<T> {
+        dist_of(x, y)
+    }
+}
+
+/// `x y / 2^frac`, rounded down. Precondition: `frac` is at most the width.
+#[derive(Clone, Copy, Debug)]
+pub struct Mul {
+    /// The fraction of the numbers.
+    pub frac: u32,
+}
+
+impl<T: Word> Pairs<T> for Mul {
+    ghost exact = { λ s x y. exact_mul x y s.frac };
+
+    ghost pairs_ready = { λ s. s.frac ≤ T.BITS };
+
+    #[inline(always)]
+    fn is_ready(&self) -> bool {
+        self.frac <= T::BITS
+    }
+
+    #[inline(always)]
+    fn outcome(&self, x: T, y: T) -> Outcome<T> {
+        mul_of(x, y, self.frac)
+    }
+}
+
+/// `x + y by / 2^frac`, the product rounded down. Precondition: `frac` is at most the width.
+#[derive(Clone, Copy, Debug)]
+pub struct MulAdd<T> {
+    /// The other factor.
+    pub by: T,
+    /// The fraction of the other factor.
+    pub frac: u32,
+}
+
+impl<T: Word> Pairs<T> for MulAdd<T> {
+    ghost exact = { λ s x y. exact_mul_add y (T.value s.by) x s.frac };
+
+    ghost pairs_ready = { λ s. s.frac ≤ T.BITS };
+
+    #[inline(always)]
+    fn is_ready(&self) -> bool {
+        self.frac <= T::BITS
+    }
+
+    #[inline(always)]
+    fn outcome(&self, x: T, y: T) -> Outcome<T> {
+        mul_add_of(y, self.by, x, self.frac)
+    }
+}
