@@ -19,7 +19,7 @@
 //! ```
 //!
 //! [`Enclosure`] and [`interval`] have intervals whose ends are rounded outward, [`poly`] polynomials by Horner's rule, and
-//! [`filter`] steps of a filter, each with a proved bound on its rounding. [`math`] has lengths, logarithms and powers.
+//! [`filter`] steps of a filter, each with a proved bound on its rounding. [`math`] and [`natural`] have lengths, logarithms and powers.
 //!
 //! ```
 //! use zugyelmas::{Interval, PolyReply, div_in, horner_of};
@@ -192,6 +192,10 @@ pub use interval::{Interval, abs_in, add_in, div_in, mul_in, neg_in, sqrt_in, sq
 pub use math::{
     CheckedMath, OverflowingMath, SaturatingMath, StrictMath, UnwrappedMath, WrappingMath,
 };
+pub use natural::{
+    CheckedNatural, OverflowingNatural, SaturatingNatural, StrictNatural, UnwrappedNatural,
+    WrappingNatural,
+};
 pub use num::{
     Constants, Fixed, FixedI8, FixedI16, FixedI32, FixedI64, FixedU8, FixedU16, FixedU32, FixedU64,
     Held, Number,
@@ -230,6 +234,10 @@ pub mod prelude {
     };
     pub use crate::{
         CheckedMath, OverflowingMath, SaturatingMath, StrictMath, UnwrappedMath, WrappingMath,
+    };
+    pub use crate::{
+        CheckedNatural, OverflowingNatural, SaturatingNatural, StrictNatural, UnwrappedNatural,
+        WrappingNatural,
     };
     pub use crate::{
         Constants, Fixed, FixedI8, FixedI16, FixedI32, FixedI64, FixedU8, FixedU16, FixedU32,
