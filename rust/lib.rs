@@ -51,9 +51,9 @@
 //! - `stopping::exact_number` in `rust/lib.rs`, which every strict and unwrapped call makes: Rust without a proof.
 //! - `rust/edge.rs`, `rust/between.rs`, and `references.rs` and `between.rs` of `rust/script/`: operators on references and
 //!   between types, `From` and `TryFrom`, [`Sum`](core::iter::Sum) and [`Product`](core::iter::Product), `{:b}` to `{:X}`,
-//!   and replies as results, which forward to proved calls; and that a format holds every number that `From` takes, which
-//!   they assert at compile time. Before Rust 1.87 also `rust/casts.rs`, and with a feature `rust/memory.rs`, which forwards
-//!   to `alloc`.
+//!   and replies as results, which forward to proved calls; `{:e}` and `{:E}`, which move the point in a proved text and
+//!   round it; and that a format holds every number that `From` takes, which they assert at compile time. Before Rust 1.87
+//!   also `rust/casts.rs`, and with a feature `rust/memory.rs`, which forwards to `alloc`.
 //! - A `usize` of 64 bits, as in every proof. On smaller targets nothing is proved of lengths and indexes.
 //! - Every implementation of this library's traits in another crate. Nothing is proved of one, nor of a generic call
 //!   that uses it. The traits of words and floats are sealed, since a word that misstates itself would break every call.
