@@ -1,5 +1,9 @@
 //! Logarithms to the bases e and 10, and powers, beside floats, and beside numbers that were computed apart.
 
+#[allow(dead_code)]
+#[path = "../examples/orbit.rs"]
+mod orbit;
+
 use std::fmt::Debug;
 use zugyelmas::natural::{exp_of, ln_of, log10_of, pow_of};
 use zugyelmas::prelude::*;
@@ -343,4 +347,22 @@ fn typed_calls() {
     assert_eq!(least.saturating_ln(), FixedI32::MIN);
     assert_eq!(least.wrapping_ln(), wrapped);
     assert_eq!(least.overflowing_ln(), (wrapped, true));
+}
+
+/// What the example prints; the same was computed apart with 200 bits.
+const ORBIT: &str = "   0  400.000  400.000  92.560
+ 100  392.550  392.544  92.408
+ 200  384.011  383.998  92.233
+ 300  374.010  373.986  92.028
+ 400  361.943  361.899  91.782
+ 500  346.726  346.646  91.471
+ 600  326.115  325.959  91.051
+ 700  294.051  293.663  90.399
+ 800  218.052  215.565  88.859
+ 827 below 150 km
+";
+
+#[test]
+fn the_example() {
+    assert_eq!(orbit::table().as_deref(), Some(ORBIT));
 }
