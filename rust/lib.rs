@@ -75,7 +75,8 @@
 //! names under "Compile errors" or "Panics":
 //!
 //! - A number of fraction bits above the width is a compile error if it is a constant, and panics if it is an argument.
-//! - Each call but the checked ones panics on a divisor of 0 and on the root of a negative number.
+//! - Each call but the checked ones panics on a divisor of 0, on the root of a negative number, and on the logarithm,
+//!   power or reciprocal root of a number that is not above 0.
 //! - Operators and strict and unwrapped forms panic on a shift by the width or more.
 //! - Strict and unwrapped forms panic if the result does not fit. Operators and plain calls do so only in builds with debug
 //!   assertions. In other builds they wrap, as those of integers do.

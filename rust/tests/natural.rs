@@ -255,12 +255,16 @@ fn known_numbers_of_64_bits() {
     known_powers::<i64>(&POW_64);
 }
 
-/// Those of numbers close to 1 lie so near below a whole number of units that they are that number.
+/// Logarithms and roots of numbers close to 1 may lie so near below a whole number of units that they are that number.
 #[test]
-fn logarithms_of_numbers_close_to_one() {
-    assert_eq!(ln_of(i32::MAX, 31), fitting(-1)); // -1.0000000002..
-    assert_eq!(ln_of((1_i64 << 48) + 1, 48), fitting(1)); // 0.99999999999999822..
-    assert_eq!(ln_of((1_i32 << 16) + 1, 16), fitting(0)); // 0.999992..
+fn results_that_are_not_rounded_down() {
+    assert_eq!(ln_of((1_i32 << 16) + 1, 16), fitting(0)); // 0.99999237..
+    assert_eq!(ln_of((1_i32 << 24) + 1, 24), fitting(1)); // 0.99999997..
+    assert_eq!(ln_of(i32::MAX, 31), fitting(-1)); // -1.00000000023..
+    assert_eq!(ln_of((1_i64 << 48) + 1, 48), fitting(1)); // 0.9999999999999982..
+    let one = 1_i32 << 28;
+    let root = pow_of(one + 2, one / 2, 28);
+    assert_eq!(root, fitting((1 << 28) + 1)); // 2^28 + 0.9999999981..
 }
 
 /// Logarithms that do not fit have a wrapped number.
