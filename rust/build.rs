@@ -12,13 +12,14 @@ use script::modules::{CALCULATOR, LIBRARY, write, write_library};
 use std::env;
 
 /// The tests of the library, and the example that they test.
-const TESTS: [&str; 6] = [
+const TESTS: [&str; 7] = [
     "guide",
     "tests_kernel",
     "tests_num",
     "tests_convert",
     "tests_float",
     "tests_policy",
+    "tests_math",
 ];
 
 /// The crates of the runs over text. With the feature `runs` they take memory.

@@ -19,7 +19,7 @@
 //! ```
 //!
 //! [`Enclosure`] and [`interval`] have intervals whose ends are rounded outward, [`poly`] polynomials by Horner's rule, and
-//! [`filter`] steps of a filter, each with a proved bound on its rounding. [`math`] has lengths, logarithms and powers.
+//! [`filter`] steps of a filter, each with a proved bound on its rounding. [`math`] and [`natural`] have lengths, logarithms and powers.
 //!
 //! ```
 //! use zugyelmas::{Interval, PolyReply, div_in, horner_of};
@@ -51,9 +51,9 @@
 //! - `stopping::exact_number` in `rust/lib.rs`, which every strict and unwrapped call makes: Rust without a proof.
 //! - `rust/edge.rs`, `rust/between.rs`, and `references.rs` and `between.rs` of `rust/script/`: operators on references and
 //!   between types, `From` and `TryFrom`, [`Sum`](core::iter::Sum) and [`Product`](core::iter::Product), `{:b}` to `{:X}`,
-//!   and replies as results, which forward to proved calls; and that a format holds every number that `From` takes, which
-//!   they assert at compile time. Before Rust 1.87 also `rust/casts.rs`, and with a feature `rust/memory.rs`, which forwards
-//!   to `alloc`.
+//!   and replies as results, which forward to proved calls; `{:e}` and `{:E}`, which move the point in a proved text and
+//!   round it; and that a format holds every number that `From` takes, which they assert at compile time. Before Rust 1.87
+//!   also `rust/casts.rs`, and with a feature `rust/memory.rs`, which forwards to `alloc`.
 //! - A `usize` of 64 bits, as in every proof. On smaller targets nothing is proved of lengths and indexes.
 //! - Every implementation of this library's traits in another crate. Nothing is proved of one, nor of a generic call
 //!   that uses it. The traits of words and floats are sealed, since a word that misstates itself would break every call.
@@ -75,7 +75,8 @@
 //! names under "Compile errors" or "Panics":
 //!
 //! - A number of fraction bits above the width is a compile error if it is a constant, and panics if it is an argument.
-//! - Each call but the checked ones panics on a divisor of 0 and on the root of a negative number.
+//! - Each call but the checked ones panics on a divisor of 0, on the root of a negative number, and on the logarithm,
+//!   power or reciprocal root of a number that is not above 0.
 //! - Operators and strict and unwrapped forms panic on a shift by the width or more.
 //! - Strict and unwrapped forms panic if the result does not fit. Operators and plain calls do so only in builds with debug
 //!   assertions. In other builds they wrap, as those of integers do.
@@ -192,6 +193,10 @@ pub use interval::{Interval, abs_in, add_in, div_in, mul_in, neg_in, sqrt_in, sq
 pub use math::{
     CheckedMath, OverflowingMath, SaturatingMath, StrictMath, UnwrappedMath, WrappingMath,
 };
+pub use natural::{
+    CheckedNatural, OverflowingNatural, SaturatingNatural, StrictNatural, UnwrappedNatural,
+    WrappingNatural,
+};
 pub use num::{
     Constants, Fixed, FixedI8, FixedI16, FixedI32, FixedI64, FixedU8, FixedU16, FixedU32, FixedU64,
     Held, Number,
@@ -230,6 +235,10 @@ pub mod prelude {
     };
     pub use crate::{
         CheckedMath, OverflowingMath, SaturatingMath, StrictMath, UnwrappedMath, WrappingMath,
+    };
+    pub use crate::{
+        CheckedNatural, OverflowingNatural, SaturatingNatural, StrictNatural, UnwrappedNatural,
+        WrappingNatural,
     };
     pub use crate::{
         Constants, Fixed, FixedI8, FixedI16, FixedI32, FixedI64, FixedU8, FixedU16, FixedU32,

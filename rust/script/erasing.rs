@@ -20,6 +20,8 @@ pub struct Erasing<'a> {
     pub file: &'a str,
     /// The known conditions of public calls. Where there are none, contracts go.
     pub known: Option<&'a Known>,
+    /// The functions that the file offers, unless it offers each that is public.
+    pub offered: Option<Vec<String>>,
     /// Whether calls stop in every build.
     pub is_strict: bool,
     pub traits: &'a Traits,
@@ -211,7 +213,15 @@ impl Erasing<'_> {
 
     /// Whether a function is public, in a file whose calls are offered.
     fn is_offered(&self, item: &Item, function: &Function) -> bool {
-        self.known.is_some() && (function.is_public || self.is_of_trait(item))
+        let is_public = function.is_public || self.is_of_trait(item);
+        self.known.is_some() && is_public && !self.is_shared(item, function)
+    }
+
+    /// Whether a function is public for other crates alone.
+    fn is_shared(&self, item: &Item, function: &Function) -> bool {
+        let name = self.source.sign(function.name);
+        let is_left_out = |names: &Vec<String>| !names.iter().any(|offered| offered == name);
+        item.block.is_none() && self.offered.as_ref().is_some_and(is_left_out)
     }
 
     fn is_of_trait(&self, item: &Item) -> bool {

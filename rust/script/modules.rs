@@ -5,7 +5,7 @@ use crate::script::conditions::Known;
 use crate::script::edits::{Edits, bytes};
 use crate::script::erasing::Erasing;
 use crate::script::errors::errors;
-use crate::script::items::{Part, Source};
+use crate::script::items::{Item, Part, Source};
 use crate::script::names::Names;
 use crate::script::pages::Pages;
 use crate::script::traits::{Traits, imports};
@@ -34,6 +34,7 @@ pub const LIBRARY: [&str; 23] = [
     "policy",
     "strict",
     "math",
+    "natural",
     "ops",
     "poly",
     "filter",
@@ -45,7 +46,7 @@ pub const LIBRARY: [&str; 23] = [
 pub const CALCULATOR: [&str; 4] = ["stream", "script", "machine", "calc"];
 
 /// The crates with strict forms, which stop in every build where a number does not fit.
-pub const STRICT: [&str; 2] = ["strict", "math"];
+pub const STRICT: [&str; 3] = ["strict", "math", "natural"];
 
 /// The files that the library does not offer: their public calls are made by the proved code beside them alone.
 pub const INSIDE: [&str; 11] = [
@@ -60,6 +61,14 @@ pub const INSIDE: [&str; 11] = [
     "logs/exact",
     "text/added",
     "text/pieces",
+];
+
+/// The public modules that a crate has for other proved crates. The library offers of them what their crate offers by
+/// `pub use`.
+pub const SHARED: [&str; 3] = [
+    "elementary/exponentials",
+    "elementary/logarithms",
+    "elementary/wide",
 ];
 
 /// The files that take memory, or serve the runs that do, and so are left out where there is none.
@@ -171,7 +180,7 @@ fn unmatched<'a>(
     crates: &'a [&str],
     files: &'a BTreeMap<String, File>,
 ) -> impl Iterator<Item = String> + 'a {
-    let entries = INSIDE.iter().chain(&LEFT_OUT);
+    let entries = INSIDE.iter().chain(&SHARED).chain(&LEFT_OUT);
     let of_crates = entries.filter(|entry| {
         crates
             .iter()
@@ -250,6 +259,7 @@ impl Modules<'_> {
             source,
             file: name,
             known: is_offered.then_some(known),
+            offered: SHARED.contains(&name).then(|| self.offered_of(name)),
             is_strict: STRICT.contains(&krate),
             traits: &self.traits,
             pages: self.pages,
@@ -268,6 +278,24 @@ impl Modules<'_> {
         let memory = if has_memory { MEMORY } else { "" };
         let casts = if source.text.contains(".cast_") { CASTS } else { "" };
         Ok(edits.applied(source.text) + memory + casts + &errors(source))
+    }
+
+    /// The names that a crate offers of one of its files.
+    fn offered_of(&self, name: &str) -> Vec<String> {
+        let (krate, module) = name.split_once('/').unwrap_or((name, ""));
+        let path = format!("{krate}/{}", root(krate));
+        let Some((_, source)) = self.sources.get(path.as_str()) else {
+            return Vec::new();
+        };
+        let is_of_file = |item: &&Item| match &item.part {
+            Part::Use(path) => {
+                let first = source.sign(source.past_root(path.start));
+                source.is_public(item.place.start) && first == module
+            }
+            _ => false,
+        };
+        let uses = source.items.iter().filter(is_of_file);
+        uses.flat_map(|item| offered(source, &item.part)).collect()
     }
 
     /// The edits for the modules that a file names. It says which names would be offered by those that are left out.
@@ -295,6 +323,12 @@ impl Modules<'_> {
                     let error =
                         source.at_line(*start, "a public module of a file that is not offered");
                     return Err(file.named(&error));
+                }
+                Part::Module(_) if SHARED.contains(&path.as_str()) => {
+                    let head = source.sign(*start);
+                    let text = self.written(&path, known)?;
+                    let module = format!("pub(crate) mod {head} {{\n{text}}}");
+                    edits.replace(bytes(source, &item.place), &module);
                 }
                 Part::Module(_) if path == FIRST => {
                     let text = self.written(&path, known)?;

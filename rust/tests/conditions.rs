@@ -7,7 +7,7 @@ use std::sync::Once;
 use zugyelmas::{Binary, Enclosure};
 use zugyelmas::prelude::*;
 use zugyelmas::{
-    bits, elementary, filter, float, interval, kernel, logs, num, ops, policy, poly, root, strict,
+    bits, elementary, filter, float, interval, kernel, logs, natural, num, ops, policy, poly, root, strict,
     word,
 };
 
@@ -170,6 +170,16 @@ stops! {
     math_logarithm, "the number is above 0", byte(-1).saturating_log2();
     math_power, "the number fits", byte(48).unwrapped_exp2();
     math_strict_logarithm, "the number fits", FixedI8::<7>::from_bits(1).strict_log2();
+    natural_fraction, "the fraction frac is at most the width", natural::exp_of(1_u8, 9);
+    natural_zero, "the number is above 0", natural::ln_of(0_i8, 4);
+    natural_power_of_zero, "the number is above 0", natural::pow_of(0_u8, 16, 4);
+    natural_below_zero, "the number is above 0", byte(-1).wrapping_ln();
+    natural_overflowing, "the number is above 0", byte(0).overflowing_log10();
+    natural_saturating, "the number is above 0", byte(0).saturating_pow(byte(16));
+    natural_logarithm, "the number fits", FixedI8::<7>::from_bits(1).strict_ln();
+    natural_decimal_logarithm, "the number fits", FixedI8::<7>::from_bits(1).unwrapped_log10();
+    natural_power_of_e, "the number fits", byte(48).strict_exp();
+    natural_power, "the number fits", byte(32).unwrapped_pow(byte(48));
     ops_divisor, "the divisor is not 0", byte(0).recip();
     ops_root, "the number is not below 0", byte(-1).sqrt();
     ops_product_of_none, "the number 1 fits", ops::product::<i8, 7>(&[]);

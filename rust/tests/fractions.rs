@@ -6,7 +6,7 @@ use std::time::SystemTime;
 use std::{env, fs};
 
 /// Each call that does not compile, and the condition in words.
-const REFUSED: [(&str, &str); 21] = [
+const REFUSED: [(&str, &str); 23] = [
     ("Past::int_nbits()", "the fraction F is at most the width"),
     ("past * past", "the fraction F is at most the width"),
     (
@@ -27,6 +27,11 @@ const REFUSED: [(&str, &str); 21] = [
         "the fraction F is at most the width",
     ),
     ("past.recip()", "the fraction F is at most the width"),
+    ("past.wrapping_ln()", "the fraction F is at most the width"),
+    (
+        "past.checked_pow(past)",
+        "the fraction F is at most the width",
+    ),
     (
         "byte.checked_mul_add(past, byte)",
         "the fraction G is at most the width",

@@ -6,7 +6,7 @@
 #[allow(dead_code)]
 mod script;
 
-use script::modules::{CALCULATOR, CASTS, FIRST, INSIDE, LEFT_OUT, LIBRARY, MEMORY};
+use script::modules::{CALCULATOR, CASTS, FIRST, INSIDE, LEFT_OUT, LIBRARY, MEMORY, SHARED};
 use script::tokens::{Kind, code, tokens};
 use std::fs;
 
@@ -242,6 +242,9 @@ fn replaced(krate: &str, rest: &[Sign]) -> (String, usize) {
         _ if is_module => (format!("mod {} {{", rest[1].text), 3),
         _ if is_use && is_left_out(krate, &rest[2]) => (String::new(), length(rest, &[";"])),
         _ if is_use && is_of(&INSIDE, krate, &rest[2]) => ("pub(crate)".to_string(), 1),
+        _ if begin(rest, "pub mod") && is_of(&SHARED, krate, &rest[2]) => {
+            ("pub(crate)".to_string(), 1)
+        }
         name if begin(&rest[1..], "::") => (crate_name(krate, name), 1),
         sign => (sign.clone(), 1),
     }
@@ -252,7 +255,9 @@ fn crate_name(krate: &str, name: &str) -> String {
     match name {
         "crate" => format!("crate::{krate}"),
         "std" => "core".to_string(),
-        "fixed_num" if matches!(krate, "strict" | "math") => "crate::stopping".to_string(),
+        "fixed_num" if matches!(krate, "strict" | "math" | "natural") => {
+            "crate::stopping".to_string()
+        }
         _ => name
             .strip_prefix("fixed_")
             .map_or(name.to_string(), |of| format!("crate::{of}")),

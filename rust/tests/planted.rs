@@ -263,6 +263,34 @@ fn what_is_inside() {
     assert_eq!(said.as_deref(), Some(error));
 }
 
+/// A public module for other crates: users have what its crate offers of it, with each condition.
+#[test]
+fn what_is_shared() {
+    let power = (
+        "fixed_elementary/src/exponentials.rt",
+        "requires bits { bits ≤ 64 }",
+        "requires bits { bits ≤ 63 }",
+    );
+    let crates = ["elementary"];
+    let library = of_crates("shared", &crates, &[power]).expect("a library");
+    for name in ["exponentials", "logarithms", "wide"] {
+        let module = format!("pub(crate) mod {name} {{");
+        assert!(library.contains(&module), "{name}");
+    }
+    let exponentials = module(&library, "exponentials");
+    assert!(exponentials.contains("assert!(frac <= T::BITS"));
+    assert!(!exponentials.contains("assert!(bits"));
+    let offered = (
+        "fixed_elementary/src/lib.rt",
+        "exponentials::exp2_of",
+        "exponentials::{exp2_of, power_of}",
+    );
+    let said = of_crates("shared_and_offered", &crates, &[offered]).err();
+    let error =
+        "fixed_elementary/src/exponentials.rt:146: power_of: a clause of no known form: bits ≤ 64";
+    assert_eq!(said.as_deref(), Some(error));
+}
+
 /// A clause counts wherever it stands.
 #[test]
 fn a_clause_behind_another_on_its_line() {

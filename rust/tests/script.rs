@@ -18,6 +18,7 @@ fn erased(text: &str, known: Option<&Known>) -> Result<String, String> {
         source: &source,
         file: "a/b",
         known,
+        offered: None,
         is_strict: false,
         traits: &traits,
         pages: None,
