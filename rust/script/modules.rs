@@ -15,7 +15,7 @@ use std::path::Path;
 use std::{env, fs};
 
 /// The crates of the library, lowest first, without the `fixed_` in front.
-pub const LIBRARY: [&str; 23] = [
+pub const LIBRARY: [&str; 24] = [
     "word",
     "bits",
     "root",
