@@ -167,7 +167,6 @@ mod sealed {
 }
 
 mod casts;
-mod nearest;
 
 /// What the strict forms know as the numbers: the same, but that the number has to fit in every build.
 mod stopping {

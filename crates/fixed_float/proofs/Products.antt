@@ -1,11 +1,10 @@
 -- The float nearest to a whole number, times a power of two.
 use Rattle.std.proofs.Common.{◌≡◌, ◌+◌, ◌-◌, ◌*◌, ◌/◌, ◌%◌, ◌^◌, ◌<◌, ◌≤◌, ℕ, ℤ, zero, suc, Bool, true, false, pos, negsuc, T, not, unsigned_abs, refl, ap, sym, ◌∙◌, subst, arith, inl, inr, true≢false}
 use Prim.Native.Nat.{compare}
-use native.Mathlib.Nat.{div-div-eq-div-mul, div-lt_iff_lt-mul, le_refl, le_trans, lt_of_le_of_lt, lt_of_lt_of_le, mod-le, mul-le-mul_right, mul-mul-mul_comm, mul_assoc, mul_comm, mul-pos, pow-succ'}
+use native.Mathlib.Nat.{div-div-eq-div-mul, div-lt_iff_lt-mul, le_refl, le_trans, lt_of_le_of_lt, lt_of_lt_of_le, mul-le-mul_right, mul-mul-mul_comm, mul_assoc, mul_comm, mul-pos, pow-succ'}
 use Rattle.std.proofs.Math.Nat.{le-mul_of_pos_right}
 use Rattle.std.proofs.lemmas.Bool.{cases_lt}
 use Rattle.std.proofs.lemmas.Int.{ints}
-use Rattle.std.proofs.lemmas.Nat.{mul-le}
 use lib.Pow.{pow-add, pow-lt, pow_mono, pow_pos, shl_lt}
 use Rattle.std.specs.Float.{Float, Format, binary32, binary64, nan, inf, fin}
 use lib.Ieee.{down, emax, hid, low, mul, nan_bits, of_bits, of_int, ones, prec, round, size, top, up}
@@ -16,10 +15,9 @@ use lib.Ieee.Order.{drop, kept}
 use lib.Ieee.Scale.{grid, grid_scale, normal_of_fraction, overflow, round_same}
 use Rattle.fixed_word.specs.Format.{InRange, IsWidth}
 use Rattle.fixed_word.proofs.Wraps.{width_pos}
-use Rattle.fixed_float.specs.Patterns.{field_of, fraction_of, least_floats}
 use Rattle.fixed_float.specs.Rows.{nearest_float}
-use Rattle.fixed_float.proofs.Fields.{fields_at, pattern_value, below_top}
-use Rattle.fixed_float.proofs.Formats.{below_nans, digits_in, least_in, reach_in, round_none, same_value, twice_hid}
+use Rattle.fixed_float.proofs.Fields.{packed_not_nan, packed_value}
+use Rattle.fixed_float.proofs.Formats.{digits_in, least_in, reach_in, round_none, same_value, twice_hid}
 
 pub field_is : (f : Format) → ones f ≡ 2 * emax f + 1
 field_is f = refl
@@ -120,24 +118,17 @@ module _ (f : Format) (by : ℕ) (B : by ≤ 64) where
   abbrev rise : ℕ
   rise = emax f - by - 1
 
-  power_fields : (field_of f power_bits ≡ suc rise) × (fraction_of f power_bits ≡ 0)
-  power_fields =
-      let at = fields_at f (suc rise) 0 (omega (arith, reach_in f, field_is f)) (pow_pos (prec f - 1)) in
-      let e : power_bits ≡ suc rise * hid f + 0 = ap (λ (z : ℕ). z * hid f) {x = emax f - by} {y = suc rise} (omega (arith, reach_in f)) ∙ omega arith in
-      (ap (field_of f) e ∙ at.0, ap (fraction_of f) e ∙ at.1)
+  rise_in : suc rise < ones f
+  rise_in = omega (arith, reach_in f, field_is f)
 
-  pub power_room : power_bits ≤ ones f * hid f
-  power_room = mul-le (emax f - by) (hid f) (ones f) (hid f) (omega (arith, field_is f)) (le_refl (hid f))
+  same : suc rise * hid f + 0 ≡ power_bits
+  same = ap (λ (z : ℕ). z * hid f + 0) {x = suc rise} {y = emax f - by} (omega (arith, reach_in f)) ∙ omega arith
 
   pub power_not_nan : T (not (nan_bits f power_bits))
-  power_not_nan = below_nans f power_bits (le_trans (mod-le power_bits (top f)) power_room)
+  power_not_nan = subst (λ (b : ℕ). T (not (nan_bits f b))) same (packed_not_nan f rise 0 rise_in (pow_pos (prec f - 1)))
 
   power_value : HasValue (of_bits f power_bits) false ((hid f + 0) * 2 ^ rise) (2 ^ low f)
-  power_value =
-      let finite : field_of f power_bits < ones f = omega (arith, power_fields.0, reach_in f, field_is f) in
-      subst (λ (s : Bool). HasValue (of_bits f power_bits) s ((hid f + 0) * 2 ^ rise) (2 ^ low f)) (below_top f power_bits power_room)
-      (subst (λ (z : ℕ). HasValue (of_bits f power_bits) (lib.Dec.leb (lib.Ieee.top f) power_bits) z (2 ^ low f))
-      (λ i. least_floats f (power_fields.0 i) (power_fields.1 i)) (pattern_value f power_bits finite))
+  power_value = subst (λ (b : ℕ). HasValue (of_bits f b) false ((hid f + 0) * 2 ^ rise) (2 ^ low f)) same (packed_value f rise 0 rise_in (pow_pos (prec f - 1)))
 
   power_is : (hid f + 0) * 2 ^ rise * 2 ^ by ≡ 2 ^ low f
   power_is =

@@ -1,5 +1,5 @@
 -- The value of a signed word, by its bits moved to the top of 64.
-use Rattle.std.proofs.Common.{◌≡◌, ◌+◌, ◌-◌, ◌*◌, ◌/◌, ◌%◌, ◌^◌, ◌<◌, ◌≤◌, ℕ, ℤ, zero, suc, true, false, pos, negsuc, unsigned_abs, w64, refl, ap, sym, ◌∙◌, subst, arith, inl, inr}
+use Rattle.std.proofs.Common.{◌≡◌, ◌+◌, ◌-◌, ◌*◌, ◌/◌, ◌%◌, ◌^◌, ◌<◌, ◌≤◌, ℕ, ℤ, suc, true, false, pos, negsuc, unsigned_abs, w64, ap, sym, ◌∙◌, subst, arith}
 use native.Mathlib.Nat.{add-mul, mod-eq_of_lt, mul-div_cancel, mul-le-mul_right, mul-lt-mul_of_pos_right, mul-pos, suc-mul}
 use Rattle.std.proofs.lemmas.Bool.{lt-ltb, le-ltb}
 use Rattle.std.proofs.lemmas.Int.{ints}

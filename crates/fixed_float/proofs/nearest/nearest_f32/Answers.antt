@@ -1,4 +1,4 @@
-use Rattle.std.proofs.Common.{◌≡◌, ◌-◌, ◌*◌, ◌%◌, ◌^◌, ◌<◌, ◌≤◌, ℕ, ℤ, T, not, sym, ◌∙◌, subst, arith}
+use Rattle.std.proofs.Common.{◌≡◌, ◌-◌, ◌*◌, ◌%◌, ◌^◌, ◌≤◌, ℕ, T, not, sym, ◌∙◌, subst, arith}
 use Rattle.std.specs.Float.{binary32}
 use lib.Ieee.{mul, nan_bits, of_bits}
 use Rattle.fixed_float.proofs.Products.{power_not_nan, product_is, width_in, word_below}

@@ -1,4 +1,4 @@
-use Rattle.std.proofs.Common.{◌≡◌, ◌-◌, ◌*◌, ◌%◌, ◌^◌, ℕ, ℤ, true, unsigned_abs, ap, ◌∙◌, subst, w64}
+use Rattle.std.proofs.Common.{◌-◌, ◌*◌, ◌%◌, ◌^◌, ℤ, unsigned_abs, ap, ◌∙◌, subst, w64}
 use native.Mathlib.Nat.{lt_of_le_of_lt}
 use lib.Signed.{mag_shr, shr_z}
 use mir.Val.{of_z, to_z}
