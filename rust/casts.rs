@@ -1,4 +1,29 @@
-//! Calls that std has from Rust 1.87 on, for older compilers. Where std has them, its own go first.
+//! Casts of integers: to floats, which the proved language has as calls of its std, and to words of the other sign,
+//! which Rust's std has from 1.87 on. Where std has a method, its own goes first.
+
+/// The `f32` nearest to `n`, and of two as near the one whose last bit is 0: so Rust's reference defines `as`.
+#[inline]
+pub fn nearest_i64_to_f32(n: i64) -> f32 {
+    n as f32
+}
+
+/// The `f64` nearest to `n`, and of two as near the one whose last bit is 0.
+#[inline]
+pub fn nearest_i64_to_f64(n: i64) -> f64 {
+    n as f64
+}
+
+/// The `f32` nearest to `n`, and of two as near the one whose last bit is 0.
+#[inline]
+pub fn nearest_u64_to_f32(n: u64) -> f32 {
+    n as f32
+}
+
+/// The `f64` nearest to `n`, and of two as near the one whose last bit is 0.
+#[inline]
+pub fn nearest_u64_to_f64(n: u64) -> f64 {
+    n as f64
+}
 
 /// The signed word of the same bits.
 pub trait CastSigned {

@@ -1,6 +1,6 @@
 -- What a pattern stands for.
-use Rattle.std.proofs.Common.{◌≡◌, ◌≢◌, ◌+◌, ◌-◌, ◌*◌, ◌/◌, ◌^◌, ◌<◌, ◌≤◌, ℕ, zero, suc, Bool, false, ap, sym, ◌∙◌, subst, arith, inl, inr}
-use native.Mathlib.Nat.{mod-eq_of_lt, mul-le-mul_right, mul_assoc, mul_comm, pow-succ'}
+use Rattle.std.proofs.Common.{◌≡◌, ◌≢◌, ◌+◌, ◌-◌, ◌*◌, ◌/◌, ◌^◌, ◌<◌, ◌≤◌, ℕ, zero, suc, Bool, false, T, not, ap, sym, ◌∙◌, subst, arith, inl, inr}
+use native.Mathlib.Nat.{le_trans, mod-eq_of_lt, mod-le, mul-le-mul_right, mul_assoc, mul_comm, pow-succ'}
 use lib.Arith.{digits_div, digits_mod}
 use lib.Pow.{pow_pos}
 use Rattle.std.proofs.lemmas.Bool.{cases_lt}
@@ -8,8 +8,9 @@ use mathlib.Core.Bool.{cond}
 use lib.Dec.{eqb, leb}
 use borrow.Author.Tests.{eq-eqb, lt-leb, ne_eqb}
 use Rattle.std.specs.Float.{Format, nan, inf}
-use lib.Ieee.{hid, low, of_bits, of_fields, odd, ones, prec, top}
+use lib.Ieee.{hid, low, nan_bits, of_bits, of_fields, odd, ones, prec, top}
 use lib.Ieee.Exact.{HasValue, odd_sign}
+use Rattle.fixed_float.proofs.Formats.{below_nans}
 use Rattle.fixed_float.specs.Patterns.{field_of, fraction_of, least_floats}
 
 fields_value : (f : Format) (s : Bool) (x t : ℕ) → x < ones f → HasValue (of_fields f s x t) s (least_floats f x t) (2 ^ low f)
@@ -74,3 +75,21 @@ module _ (f : Format) (m k : ℕ) (lo : hid f ≤ m) (hi : m ≤ 2 * hid f) (roo
 
 pub below_top : (f : Format) (b : ℕ) → b ≤ ones f * hid f → leb (top f) b ≡ false
 below_top f b h = lt-leb (top f) b (omega (arith, h, mul_comm (hid f) (ones f), pow_pos (prec f - 1)))
+
+-- ---- the pattern of the field suc x and the fraction t
+module _ (f : Format) (x t : ℕ) (X : suc x < ones f) (H : t < hid f) where
+  abbrev pub packed : ℕ
+  packed = suc x * hid f + t
+
+  room : packed ≤ ones f * hid f
+  room = omega (arith, mul-le-mul_right (hid f) X)
+
+  pub packed_not_nan : T (not (nan_bits f packed))
+  packed_not_nan = below_nans f packed (le_trans (mod-le packed (top f)) room)
+
+  pub packed_value : HasValue (of_bits f packed) false ((hid f + t) * 2 ^ x) (2 ^ low f)
+  packed_value =
+      let at = fields_at f (suc x) t (omega arith) H in
+      let finite : field_of f packed < ones f = omega (arith, at.0) in
+      subst (λ (s : Bool). HasValue (of_bits f packed) s ((hid f + t) * 2 ^ x) (2 ^ low f)) (below_top f packed room)
+      (subst (λ (z : ℕ). HasValue (of_bits f packed) (leb (top f) packed) z (2 ^ low f)) (λ i. least_floats f (at.0 i) (at.1 i)) (pattern_value f packed finite))

@@ -10,7 +10,6 @@ pub mod Products
 pub mod Ends
 pub mod Beside
 pub mod Sums
-pub mod Joined
-pub mod Raised
+pub mod Signed
 pub mod Centre
 pub mod Quick

@@ -12,7 +12,7 @@ use Rattle.fixed_word.specs.Format.{with_sign}
 use Rattle.fixed_kernel.proofs.ToNearest.{IsNear, nearest_is}
 use Rattle.fixed_float.specs.Patterns.{distance, field_of, fraction_of, least_floats, number_of, IsNearestOfAll}
 use Rattle.fixed_float.proofs.Fields.{below_top}
-use Rattle.fixed_float.proofs.Formats.{digits_in, hid_even, least_in}
+use Rattle.fixed_float.proofs.Formats.{digits_in, hid_even, least_in, zero_is}
 use Rattle.fixed_float.proofs.Roundings.{closest_nearest}
 use Rattle.fixed_float.proofs.Packing
 
@@ -196,8 +196,8 @@ zero_nearest f d = record {
 }
 
 pub nearest_of_all : (f : Format) (n g : ℕ) → g ≤ 64 → n < 2 ^ 64 → (b : ℕ) × (of_bits f b ≡ round f false n (2 ^ g)) × IsNearestOfAll f (pos n) (2 ^ g) b
-nearest_of_all f zero g G N = (0, (Packing.packed_zero f g).float, zero_nearest f (2 ^ g))
+nearest_of_all f zero g G N = (0, zero_is f (2 ^ g) (pow_pos g), zero_nearest f (2 ^ g))
 nearest_of_all f (suc n) g G N =
     let t = leading_top 64 (suc n) (omega arith) N in
     let a = count_leading_zeros 64 (suc n) in
-    (packed f (suc n) t.0 a g t.1 t.2 t.3 G, (Packing.packed f (suc n) t.0 a g t.1 t.2 t.3 G).float, none_nearer f (suc n) t.0 a g t.1 t.2 t.3 G)
+    (packed f (suc n) t.0 a g t.1 t.2 t.3 G, Packing.packed f (suc n) t.0 a g t.1 t.2 t.3 G, none_nearer f (suc n) t.0 a g t.1 t.2 t.3 G)

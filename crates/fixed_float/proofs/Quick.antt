@@ -16,7 +16,7 @@ use Rattle.fixed_float.specs.Rows.{units_of_float}
 use Rattle.fixed_float.specs.inside.Parts.{AreParts}
 use Rattle.fixed_float.specs.declared.parts.Parts.{Parts}
 use Rattle.fixed_float.proofs.Centre.{abs_value, bits_at, closest_minus, closest_plus, finite_under, is_number, moved, size_under, value_at}
-use Rattle.fixed_float.proofs.Joined.{packed_value}
+use Rattle.fixed_float.proofs.Fields.{packed_value}
 use Rattle.fixed_float.proofs.Products.{times_is}
 use Rattle.fixed_float.proofs.Roundings.{closest_stepped, rounded_at}
 use Rattle.fixed_float.proofs.Rows.{parts_exist, row_of_parts}

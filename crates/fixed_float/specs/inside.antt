@@ -1,4 +1,2 @@
 -- What private functions alone cite.
 pub mod Parts
-pub mod Packed
-pub mod Raised

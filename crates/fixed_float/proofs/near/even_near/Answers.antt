@@ -6,7 +6,7 @@ use Rattle.std.proofs.lemmas.Int.{ints, to_z_pos, to_z-of_z}
 use lib.Ieee.{add, fits, le, mul, nan_bits, of_bits}
 use mir.Val.{SFits, to_z}
 use Rattle.fixed_word.specs.Format.{with_sign}
-use Rattle.fixed_float.proofs.Joined.{packed_not_nan}
+use Rattle.fixed_float.proofs.Fields.{packed_not_nan}
 use Rattle.fixed_float.proofs.Quick.{IsMoved, quick}
 use Rattle.fixed_float.proofs.near.even_near.Goals as goal
 
