@@ -1,0 +1,184 @@
+-- The series at an angle, and the numbers that are rounded.
+use Rattle.std.proofs.Common.{◌≡◌, ◌+◌, ◌-◌, ◌*◌, ◌/◌, ◌^◌, ◌<◌, ◌≤◌, ℕ, Bool, true, false, refl, subst, sym, ap, ◌∙◌, arith}
+use Rattle.std.specs.Prelude.{nat_le, if◌then◌else◌}
+use Rattle.std.proofs.lemmas.Nat.{mul-le, pow-add, pow_pos}
+use Rattle.std.proofs.Math.Nat.{le_of_mul-le-mul_right, mul-le-mul_right, mul-le-mul_left}
+use Rattle.fixed_turns.specs.Series.{Fraction, cosine_series, nested, sine_series, squared}
+use Rattle.fixed_turns.specs.Sines.{IsNear, IsSumOf, pi, radians, sine_room}
+use Rattle.fixed_turns.specs.inside.Rests.{IsClose, IsLessened, IsNestedTo, IsRounded, IsUnder, quotients, reach, slack}
+use Rattle.fixed_turns.proofs.Nesting.{lessened_close, nested_part, quotient_high, quotient_low, square_part, square_under}
+
+-- ---- how far off
+far : (b : Bool) → ((if b then 7 else 10) ≤ 10) × ((slack 2 (if b then 7 else 10) (if b then 7 else 10) + 2 ≤ (if b then 2 ^ 23 else 2 ^ 3)) × (slack 1 (if b then 7 else 10) (if b then 7 else 10) + 1 ≤ (if b then 2 ^ 23 else 2 ^ 3)))
+unfolding slack
+far true = (omega arith, (omega arith, omega arith))
+far false = (omega arith, (omega arith, omega arith))
+
+by_bits : (n : ℕ) → (quotients n ≤ 10) × ((slack 2 (quotients n) (quotients n) + 2 ≤ reach n) × (slack 1 (quotients n) (quotients n) + 1 ≤ reach n))
+by_bits n = far (nat_le n 32)
+
+-- ---- the square
+pub square_small : (q t : ℕ) → q ≤ 0xc90fdaa22168c234 → t * 2 ^ 64 ≤ q * q → 8 * t ≤ 5 * 2 ^ 64
+square_small q t l h =
+    let a = mul-le q q 0xc90fdaa22168c234 0xc90fdaa22168c234 l l in
+    omega arith
+
+close_at : (square first count w n : ℕ) (y : Fraction) → count ≤ 10 → IsUnder 5 square y → IsNestedTo square first count count w → IsClose (slack first count count) w (nested y first (n + 10))
+close_at square first count w n y few u h =
+    let e : first + 2 * (count - count) ≡ first = omega arith in
+    let d : n + (10 - count) + count ≡ n + 10 = omega arith in
+    let a = subst (λ (j : ℕ). IsClose (slack first count count) w (nested y j (n + (10 - count) + count))) e (h y (n + (10 - count)) u) in
+    subst (λ (j : ℕ). IsClose (slack first count count) w (nested y first j)) d a
+
+pub sine_close : (x : Fraction) (q t w s bits n : ℕ) → IsUnder 2 q x → q ≤ 0xc90fdaa22168c234 → t * 2 ^ 64 ≤ q * q → q * q < (t + 1) * 2 ^ 64
+    → IsNestedTo t 2 (quotients bits) (quotients bits) w → IsLessened q w s → IsClose (reach bits) s (sine_series x (n + 10))
+sine_close x q t w s bits n u l low high h less =
+    let b = by_bits bits in
+    let c = slack 2 (quotients bits) (quotients bits) in
+    let y = squared x in
+    let v = square_under x q t u (omega arith) low high in
+    let small = square_small q t l low in
+    let part = nested_part y 2 (n + 10) v.some (square_part y t small v) (omega arith) in
+    let close = close_at t 2 (quotients bits) w n y b.0 v h in
+    let d : q * c ≤ 2 ^ 64 * c = mul-le-mul_right c (omega arith) in
+    let e : (2 + c) * 2 ^ 64 ≤ reach bits * 2 ^ 64 = mul-le-mul_right (2 ^ 64) (omega (arith, b.1.0)) in
+    lessened_close x (nested y 2 (n + 10)) q w s c 2 (reach bits) u (omega arith) part.1 close less (omega arith)
+
+pub cosine_close : (x : Fraction) (q t w bits n : ℕ) → IsUnder 2 q x → q ≤ 0xc90fdaa22168c234 → t * 2 ^ 64 ≤ q * q → q * q < (t + 1) * 2 ^ 64 → w < 2 ^ 64
+    → IsNestedTo t 1 (quotients bits) (quotients bits) w → IsClose (reach bits) (2 ^ 64 - w) (cosine_series x (n + 10))
+cosine_close x q t w bits n u l low high less h =
+    let b = by_bits bits in
+    let c = slack 1 (quotients bits) (quotients bits) in
+    let y = squared x in
+    let v = square_under x q t u (omega arith) low high in
+    let small = square_small q t l low in
+    let part = nested_part y 1 (n + 10) v.some (square_part y t small v) (omega arith) in
+    let close = close_at t 1 (quotients bits) w n y b.0 v h in
+    let e : (1 + c) * 2 ^ 64 ≤ reach bits * 2 ^ 64 = mul-le-mul_right (2 ^ 64) (omega (arith, b.1.1)) in
+    lessened_close (record { num = 1; den = 1 }) (nested y 1 (n + 10)) (2 ^ 64) w (2 ^ 64 - w) c 1 (reach bits)
+    (record { some = omega arith; below = omega arith; above = omega arith }) (omega arith) part.1 close
+    (record { below = omega arith; above = omega arith; most = omega arith }) (omega arith)
+
+-- ---- radians: c and c + 1 enclose a quarter in units of 1 / h, of which there are two in 1 / u
+radians_low : (r g k x p c d h : ℕ) → 0 < h → r * (2 * h) ≤ x * k * c → c * d ≤ p * h → r * (2 * d * g) ≤ p * x * (k * g)
+radians_low r g k x p c d h o l m =
+    let a = mul-le-mul_right (d * g) l in
+    let b : x * k * g * (c * d) ≤ x * k * g * (p * h) = mul-le-mul_left (x * k * g) m in
+    let e : r * (2 * d * g) * h ≤ p * x * (k * g) * h = omega arith in
+    le_of_mul-le-mul_right e o
+
+radians_high : (r g k x p c d h : ℕ) → 0 < h → x * k * c ≤ (r + 1) * (2 * h) → x * k ≤ 2 * h → p * h ≤ (c + 1) * d → p * x * (k * g) ≤ (r + 2) * (2 * d * g)
+radians_high r g k x p c d h o l s m =
+    let a = mul-le-mul_right (d * g) l in
+    let f = mul-le-mul_right (d * g) s in
+    let b : x * k * g * (p * h) ≤ x * k * g * ((c + 1) * d) = mul-le-mul_left (x * k * g) m in
+    let e : p * x * (k * g) * h ≤ (r + 2) * (2 * d * g) * h = omega arith in
+    le_of_mul-le-mul_right e o
+
+pub radians_under : (f p k x rest r : ℕ) → k * 2 ^ f ≡ 2 ^ 64 → 0xc90fdaa22168c234 * 10 ^ 39 ≤ p * 2 ^ 62 → p * 2 ^ 62 ≤ 0xc90fdaa22168c235 * 10 ^ 39 → rest ≡ x * k → rest ≤ 2 ^ 63
+    → r * 2 ^ 63 ≤ rest * 0xc90fdaa22168c234 → rest * 0xc90fdaa22168c234 < (r + 1) * 2 ^ 63 → IsUnder 2 r (radians p x f)
+radians_under f p k x rest r u low high is small below above =
+    let o : 0 < 2 ^ 62 = omega arith in
+    let l : r * (2 * 2 ^ 62) ≤ x * k * 0xc90fdaa22168c234 = subst (λ (j : ℕ). r * (2 * 2 ^ 62) ≤ j * 0xc90fdaa22168c234) is (omega arith) in
+    let m : x * k * 0xc90fdaa22168c234 ≤ (r + 1) * (2 * 2 ^ 62) = subst (λ (j : ℕ). j * 0xc90fdaa22168c234 ≤ (r + 1) * (2 * 2 ^ 62)) is (omega arith) in
+    let s : x * k ≤ 2 * 2 ^ 62 = omega arith in
+    let g = pow_pos f in
+    let d : 0 < 10 ^ 39 = omega arith in
+    record {
+      some = omega arith;
+      below = subst (λ (j : ℕ). r * (2 * 10 ^ 39 * 2 ^ f) ≤ p * x * j) u (radians_low r (2 ^ f) k x p 0xc90fdaa22168c234 (10 ^ 39) (2 ^ 62) o l low);
+      above = subst (λ (j : ℕ). p * x * j ≤ (r + 2) * (2 * 10 ^ 39 * 2 ^ f)) u (radians_high r (2 ^ f) k x p 0xc90fdaa22168c234 (10 ^ 39) (2 ^ 62) o m s high);
+    }
+
+-- ---- rounded: p is 2^(64 - f), g is 2^f, k is 2^k, and v is y in units of 1 / u, off by e
+near_low : (r v n d p g k e u : ℕ) → 0 < p → p * g ≡ u → e * k ≡ u → 2 * (r * p) ≤ 2 * v + p → v * d ≤ n * u + e * d → r * (2 * k) * d ≤ g * (2 * k) * n + (k + 2 * g) * d
+near_low r v n d p g k e u o s t l c =
+    let a = mul-le-mul_right (d * k) l in
+    let b = mul-le-mul_right (2 * k) c in
+    let x = ap (λ (j : ℕ). j * (2 * k * n)) s in
+    let y = ap (λ (j : ℕ). j * (2 * d)) s in
+    let z = ap (λ (j : ℕ). j * (2 * d)) t in
+    let f : r * (2 * k) * d * p ≤ (g * (2 * k) * n + (k + 2 * g) * d) * p = omega arith in
+    le_of_mul-le-mul_right f o
+
+near_high : (r v n d p g k e u : ℕ) → 0 < p → p * g ≡ u → e * k ≡ u → 2 * v ≤ 2 * (r * p) + p → n * u ≤ (v + e) * d → g * (2 * k) * n ≤ r * (2 * k) * d + (k + 2 * g) * d
+near_high r v n d p g k e u o s t l c =
+    let a = mul-le-mul_right (d * k) l in
+    let b = mul-le-mul_right (2 * k) c in
+    let x = ap (λ (j : ℕ). j * (2 * k * n)) s in
+    let y = ap (λ (j : ℕ). j * (2 * d)) s in
+    let z = ap (λ (j : ℕ). j * (2 * d)) t in
+    let f : g * (2 * k) * n * p ≤ (r * (2 * k) * d + (k + 2 * g) * d) * p = omega arith in
+    le_of_mul-le-mul_right f o
+
+pub powers : (f : ℕ) → f ≤ 64 → 2 ^ (64 - f) * 2 ^ f ≡ 2 ^ 64
+powers f l =
+    let e : 64 - f + f ≡ 64 = omega arith in
+    sym (pow-add 2 (64 - f) f) ∙ ap (λ (j : ℕ). 2 ^ j) e
+
+twice : (k : ℕ) → 2 ^ (k + 1) ≡ 2 * 2 ^ k
+twice k = pow-add 2 k 1 ∙ omega arith
+
+near_by : (k e : ℕ) → e * 2 ^ k ≡ 2 ^ 64 → (y : Fraction) (f v r : ℕ) → f ≤ 64 → IsClose e v y → IsRounded v (64 - f) r → IsNear k y f r
+near_by k e is y f v r l close round =
+    let p = powers f l in
+    let a = twice k in
+    let b = twice f in
+    let o = pow_pos (64 - f) in
+    record {
+      below = rw (a, b) (near_low r v y.num y.den (2 ^ (64 - f)) (2 ^ f) (2 ^ k) e (2 ^ 64) o p is round.below close.below);
+      above = rw (a, b) (near_high r v y.num y.den (2 ^ (64 - f)) (2 ^ f) (2 ^ k) e (2 ^ 64) o p is round.above close.above);
+    }
+
+room : (b : Bool) → (if b then 2 ^ 23 else 2 ^ 3) * 2 ^ (if b then 41 else 61) ≡ 2 ^ 64
+room true = refl
+room false = refl
+
+-- ---- from 0 to 1
+most : (f v r : ℕ) → f ≤ 64 → v ≤ 2 ^ 64 → IsRounded v (64 - f) r → r ≤ 2 ^ f
+most f v r l m round =
+    let p = powers f l in
+    let b = round.below in
+    let a : 2 * r * 2 ^ (64 - f) ≤ (2 * 2 ^ f + 1) * 2 ^ (64 - f) = omega arith in
+    let d = le_of_mul-le-mul_right a (pow_pos (64 - f)) in
+    omega arith
+
+pub zero_rounded : (v s r : ℕ) → v ≡ 0 → IsRounded v s r → r ≡ 0
+zero_rounded v s r e round =
+    let b = round.below in
+    let a : 2 * r * 2 ^ s ≤ 1 * 2 ^ s = omega arith in
+    let d = le_of_mul-le-mul_right a (pow_pos s) in
+    omega arith
+
+pub one_rounded : (f v r : ℕ) → f ≤ 64 → v ≡ 2 ^ 64 → IsRounded v (64 - f) r → r ≡ 2 ^ f
+one_rounded f v r l e round =
+    let p = powers f l in
+    let b = round.above in
+    let m = most f v r l (omega arith) round in
+    let a : 2 * 2 ^ f * 2 ^ (64 - f) ≤ (2 * r + 1) * 2 ^ (64 - f) = omega arith in
+    let d = le_of_mul-le-mul_right a (pow_pos (64 - f)) in
+    omega arith
+
+pub sum_of : (series : Fraction → ℕ → Fraction) (bits rest f e r v : ℕ) → f ≤ 64 → ((p n : ℕ) → 0xc90fdaa22168c234 * 10 ^ 39 ≤ p * 2 ^ 62 → p * 2 ^ 62 ≤ 0xc90fdaa22168c235 * 10 ^ 39 → IsClose (reach bits) v (series (radians p rest f) (n + 10)))
+    → v ≤ 2 ^ 64 → IsRounded v (64 - f) r → (rest ≡ 0 → r ≡ e) → IsSumOf series (sine_room bits) rest f e r
+sum_of series bits rest f e r v l close few round exact =
+    let s = room (nat_le bits 32) in
+    record {
+      low = λ n. near_by (sine_room bits) (reach bits) s (series (radians pi rest f) (n + 10)) f v r l (close pi n (omega arith) (omega arith)) round;
+      high = λ n. near_by (sine_room bits) (reach bits) s (series (radians (pi + 1) rest f) (n + 10)) f v r l (close (pi + 1) n (omega arith) (omega arith)) round;
+      most = most f v r l few round;
+      exact = exact;
+    }
+
+pub radians_of_under : (f p k x rest a b : ℕ) → k * 2 ^ f ≡ 2 ^ 64 → 0xc90fdaa22168c234 * 10 ^ 39 ≤ p * 2 ^ 62 → p * 2 ^ 62 ≤ 0xc90fdaa22168c235 * 10 ^ 39 → rest ≡ x * k → rest ≤ 2 ^ 63
+    → a ≡ rest → b ≡ 0xc90fdaa22168c234 → IsUnder 2 (a * b / 2 ^ 63) (radians p x f)
+radians_of_under f p k x rest a b u low high is small e d =
+    let c : a * b ≡ rest * 0xc90fdaa22168c234 = rw (e, d) refl in
+    let n = rest * 0xc90fdaa22168c234 in
+    let o : 0 < 2 ^ 63 = omega arith in
+    rw c (radians_under f p k x rest (n / 2 ^ 63) u low high is small (quotient_low n (2 ^ 63)) (quotient_high n (2 ^ 63) o))
+
+pub nothing_squared : (x t : ℕ) → x ≡ 0 → t * 2 ^ 64 ≤ x * x → t ≡ 0
+nothing_squared x t none h =
+    let a : t * 2 ^ 64 ≤ 0 * 0 = subst (λ (j : ℕ). t * 2 ^ 64 ≤ j * j) none h in
+    omega arith

@@ -1,0 +1,3 @@
+pub mod Series
+pub mod Sines
+pub mod inside

@@ -1,0 +1,56 @@
+-- Sines and cosines of angles in turns, rounded to the nearest up to a small part.
+use Rattle.std.specs.Prelude.{◌≡◌, ◌+◌, ◌*◌, ◌^◌, ◌≤◌, ◌+ℤ◌, ◌*ℤ◌, ℕ, zero, suc, ℤ, Bool, pos, neg_ℤ, nat_le, if◌then◌else◌}
+use Rattle.fixed_word.specs.Format.{with_sign}
+use Rattle.fixed_turns.specs.Series.{Fraction, cosine_series, sine_series}
+
+-- pi = 3.141592653589793238462643383279502884197.. lies between this number of units of 10^-39 and the next
+abbrev pub pi : ℕ
+pi = 3141592653589793238462643383279502884197
+
+-- a number of units of 2^-f quarter turns, in radians: p 10^-39 / 2 a quarter
+abbrev pub radians : ℕ → ℕ → ℕ → Fraction
+radians p rest f = record { num = p * rest; den = 2 * 10 ^ 39 * 2 ^ f }
+
+-- r units of 2^-f differ from y by half a unit and 2^-k at most
+pub record IsNear (k : ℕ) (y : Fraction) (f r : ℕ) : Type 0 where
+  pub below : r * 2 ^ (k + 1) * y.den ≤ 2 ^ f * 2 ^ (k + 1) * y.num + (2 ^ k + 2 ^ (f + 1)) * y.den
+  pub above : 2 ^ f * 2 ^ (k + 1) * y.num ≤ r * 2 ^ (k + 1) * y.den + (2 ^ k + 2 ^ (f + 1)) * y.den
+
+-- on words of n bits k is this
+abbrev pub sine_room : ℕ → ℕ
+sine_room n = if nat_le n 32 then 41 else 61
+
+-- so for each sum of more than 10 terms, with both numbers beside pi: r is at most 1, and exactly e at the angle 0
+pub record IsSumOf (series : Fraction → ℕ → Fraction) (k rest f e r : ℕ) : Type 0 where
+  pub low : (n : ℕ) → IsNear k (series (radians pi rest f) (n + 10)) f r
+  pub high : (n : ℕ) → IsNear k (series (radians (pi + 1) rest f) (n + 10)) f r
+  pub most : r ≤ 2 ^ f
+  pub exact : rest ≡ 0 → r ≡ e
+
+-- r is the sine of q quarter turns and a rest: by the sine or the cosine of the rest; a half turn changes the sign
+unfoldable pub IsSineAt : ℕ → ℕ → Bool → ℕ → ℕ → ℤ → Type 0
+IsSineAt k zero below rest f r = (m : ℕ) × (r ≡ with_sign below m) × IsSumOf sine_series k rest f 0 m
+IsSineAt k (suc zero) below rest f r = (m : ℕ) × (r ≡ pos m) × IsSumOf cosine_series k rest f (2 ^ f) m
+IsSineAt k (suc (suc q)) below rest f r = IsSineAt k q below rest f (neg_ℤ r)
+
+-- a units of 2^-f turns are whole turns, q quarters and a rest of an eighth of a turn at most, which may lie below 0
+pub record IsAngle (a : ℤ) (f q : ℕ) (below : Bool) (rest : ℕ) : Type 0 where
+  pub turns : ℤ
+  pub is : pos 4 *ℤ a ≡ (pos 4 *ℤ turns +ℤ pos q) *ℤ pos (2 ^ f) +ℤ with_sign below rest
+  pub quarters : q ≤ 3
+  pub small : 2 * rest ≤ 2 ^ f
+
+-- r units are the sine, or the cosine, which is the sine of a quarter turn more
+pub record IsSine (k : ℕ) (a : ℤ) (f : ℕ) (r : ℤ) : Type 0 where
+  pub q : ℕ
+  pub below : Bool
+  pub rest : ℕ
+  pub angle : IsAngle a f q below rest
+  pub sine : IsSineAt k q below rest f r
+
+pub record IsCosine (k : ℕ) (a : ℤ) (f : ℕ) (r : ℤ) : Type 0 where
+  pub q : ℕ
+  pub below : Bool
+  pub rest : ℕ
+  pub angle : IsAngle a f q below rest
+  pub sine : IsSineAt k (q + 1) below rest f r

@@ -1,0 +1,53 @@
+-- The rest of an angle, and the series at it, in units of 2^-64.
+use Rattle.std.specs.Prelude.{◌≡◌, ◌+◌, ◌-◌, ◌*◌, ◌/◌, ◌^◌, ◌≤◌, ◌<◌, ◌+ℤ◌, ◌*ℤ◌, ℕ, zero, suc, ℤ, Bool, pos, nat_le, if◌then◌else◌}
+use Rattle.fixed_word.specs.Format.{with_sign}
+use Rattle.fixed_turns.specs.Series.{Fraction, nested}
+
+-- s is the product of x and 2^64 - y, over 2^64, rounded up
+pub record IsLessened (x y s : ℕ) : Type 0 where
+  pub below : x * 2 ^ 64 ≤ s * 2 ^ 64 + x * y
+  pub above : s * 2 ^ 64 + x * y < x * 2 ^ 64 + 2 ^ 64
+  pub most : s ≤ x
+
+-- w and y differ by c units at most
+pub record IsClose (c w : ℕ) (y : Fraction) : Type 0 where
+  pub below : w * y.den ≤ y.num * 2 ^ 64 + c * y.den
+  pub above : y.num * 2 ^ 64 ≤ (w + c) * y.den
+
+-- t is y, rounded down, and c units less at most
+pub record IsUnder (c t : ℕ) (y : Fraction) : Type 0 where
+  pub some : 0 < y.den
+  pub below : t * y.den ≤ y.num * 2 ^ 64
+  pub above : y.num * 2 ^ 64 ≤ (t + c) * y.den
+
+-- how many quotients are read on words of n bits, and how far off the sum may be
+abbrev pub quotients : ℕ → ℕ
+quotients n = if nat_le n 32 then 7 else 10
+
+abbrev pub reach : ℕ → ℕ
+reach n = if nat_le n 32 then 2 ^ 23 else 2 ^ 3
+
+-- m of the i-th quotient from the last
+abbrev pub place : ℕ → ℕ → ℕ → ℕ
+place first count i = first + 2 * (count - 1 - i)
+
+-- how far off i quotients are, by a number that is 5/8 at most
+unfoldable pub slack : ℕ → ℕ → ℕ → ℕ
+slack first count zero = 2 ^ 64
+slack first count (suc i) = 4 + 5 * slack first count i / (8 * (place first count i * (place first count i + 1)))
+
+-- less is close to i quotients and n more
+abbrev pub IsNestedTo : ℕ → ℕ → ℕ → ℕ → ℕ → Type 0
+IsNestedTo square first count i less = (y : Fraction) (n : ℕ) → IsUnder 5 square y → IsClose (slack first count i) less (nested y (first + 2 * (count - i)) (n + i))
+
+-- four times an angle of p units of 2^-64 turns are quarters and a rest
+pub record IsParted (p q : ℕ) (below : Bool) (rest : ℕ) : Type 0 where
+  pub turns : ℤ
+  pub is : pos (4 * p) ≡ (pos 4 *ℤ turns +ℤ pos q) *ℤ pos (2 ^ 64) +ℤ with_sign below rest
+  pub quarter : q ≤ 3
+  pub small : rest ≤ 2 ^ 63
+
+-- r is v, over 2^s, to the nearest
+pub record IsRounded (v s r : ℕ) : Type 0 where
+  pub below : 2 * (r * 2 ^ s) ≤ 2 * v + 2 ^ s
+  pub above : 2 * v ≤ 2 * (r * 2 ^ s) + 2 ^ s

@@ -1,0 +1,60 @@
+//! Angles in turns: quarters of a turn and a rest.
+
+ghost use Rattle.std.specs.Prelude.{◌≡◌, ◌≤◌, ◌-◌, ◌*◌, ◌%◌, ◌^◌, ◌*ℤ◌, ℤ, pos};
+ghost use Rattle.fixed_word.specs.Format.{Congruent};
+ghost use Rattle.fixed_turns.specs.inside.Rests.{IsParted};
+
+use fixed_word::{RawWord, Word};
+
+/// A number of quarter turns, and a rest in units of `2^-64` quarter turns, which may lie below 0.
+#[derive(Clone, Copy)]
+pub(crate) struct Angle {
+    pub(crate) quarter: u64,
+    pub(crate) below: bool,
+    pub(crate) rest: u64,
+}
+
+/// A magnitude in units of `2^-64`, without its whole number.
+#[inline]
+fn moved(magnitude: u64, frac: u32) -> u64
+    requires { frac ≤ 64 }
+    ensures { result ≡ magnitude * 2 ^ (64 - frac) % 2 ^ 64 }
+{
+    ((u128::from(magnitude) << (64 - frac)) % (1 << 64)) as u64
+}
+
+/// The part of a turn, in units of `2^-64` turns.
+#[inline]
+pub(crate) fn part_of_turn<T: Word>(a: T, frac: u32) -> u64
+    requires { frac ≤ T.BITS }
+    ensures { Congruent (2 ^ 64) (T.value a *ℤ pos (2 ^ (64 - frac))) (pos result) }
+{
+    let part = moved(a.magnitude(), frac);
+    if a.is_below_zero() {
+        part.wrapping_neg()
+    } else {
+        part
+    }
+}
+
+/// The quarters of a turn, and the rest.
+#[inline]
+pub(crate) fn parted(part: u64) -> Angle
+    ensures { IsParted part result.quarter result.below result.rest }
+{
+    let moved = part.wrapping_add(1 << 61);
+    let past = moved % (1 << 62);
+    if past < 1 << 61 {
+        Angle {
+            quarter: moved >> 62,
+            below: true,
+            rest: 4 * ((1 << 61) - past),
+        }
+    } else {
+        Angle {
+            quarter: moved >> 62,
+            below: false,
+            rest: 4 * (past - (1 << 61)),
+        }
+    }
+}

@@ -1,0 +1,26 @@
+//! Laws of sines and cosines. These functions do nothing: each contract is the law.
+
+ghost use Rattle.std.specs.Prelude.{◌≡◌, ◌+◌, ◌*◌, ◌^◌, ◌<◌, ◌+ℤ◌, ◌*ℤ◌, ◌≤ℤ◌, ℕ, ℤ, true, pos, neg_ℤ};
+ghost use Rattle.fixed_word.specs.Format.{InRange};
+ghost use Rattle.fixed_turns.specs.Sines.{IsCosine, IsSine};
+
+/// Sines of quarter turns are exact. A whole turn more changes nothing, and the sine of minus the angle is minus the
+/// sine. No sine is above 1 or below -1. On signed words whose greatest number is at least 1 each sine fits.
+pub fn sine_law()
+    ensures of_zero { (k f : ℕ) (r : ℤ) → IsSine k (pos 0) f r → r ≡ pos 0 }
+    ensures of_quarter { (k f : ℕ) (a r : ℤ) → pos 4 *ℤ a ≡ pos (2 ^ f) → IsSine k a f r → r ≡ pos (2 ^ f) }
+    ensures of_half { (k f : ℕ) (a r : ℤ) → pos 4 *ℤ a ≡ pos (2 * 2 ^ f) → IsSine k a f r → r ≡ pos 0 }
+    ensures of_three_quarters { (k f : ℕ) (a r : ℤ) → pos 4 *ℤ a ≡ pos (3 * 2 ^ f) → IsSine k a f r
+        → r ≡ neg_ℤ (pos (2 ^ f)) }
+    ensures turn { (k f : ℕ) (a r : ℤ) → IsSine k a f r → IsSine k (a +ℤ pos (2 ^ f)) f r }
+    ensures minus { (k f : ℕ) (a r : ℤ) → IsSine k a f r → IsSine k (neg_ℤ a) f (neg_ℤ r) }
+    ensures least { (k f : ℕ) (a r : ℤ) → IsSine k a f r → neg_ℤ (pos (2 ^ f)) ≤ℤ r }
+    ensures most { (k f : ℕ) (a r : ℤ) → IsSine k a f r → r ≤ℤ pos (2 ^ f) }
+    ensures fits { (k n f : ℕ) (a r : ℤ) → f + 1 < n → IsSine k a f r → InRange true n r }
+{}
+
+/// The cosine is the sine of a quarter turn more.
+pub fn cosine_law()
+    ensures as_sine { (k f : ℕ) (a b r : ℤ) → pos 4 *ℤ b ≡ pos 4 *ℤ a +ℤ pos (2 ^ f) → IsCosine k a f r → IsSine k b f r }
+    ensures fits { (k n f : ℕ) (a r : ℤ) → f + 1 < n → IsCosine k a f r → InRange true n r }
+{}

@@ -1,0 +1,48 @@
+//! The policies on numbers: what the typed calls stand on.
+
+ghost use Rattle.std.specs.Prelude.{◌≡◌, ◌↔◌, ◌<ℤ◌, ℤ, IsTrue, Some, option_map, pos};
+ghost use Rattle.fixed_word.specs.Standing.{StandsFor};
+ghost use Rattle.fixed_word.specs.Policies.{checked, overflowing, saturating, wrapping};
+
+use fixed_num::Fixed;
+use fixed_word::{Outcome, RawWord, Word, checked_of, overflowing_of, saturating_of, wrapping_of};
+
+/// The number, and None exactly where it does not fit.
+pub(crate) fn checked_number<T: Word, const F: u32>(outcome: Outcome<T>) -> Option<Fixed<T, F>>
+    ensures { (x : ℤ) → StandsFor T.value T.SIGNED T.BITS x outcome
+        → option_map (λ r. T.value r.bits) result ≡ checked T.SIGNED T.BITS (Some x) }
+{
+    match checked_of(outcome) {
+        Some(bits) => Some(Fixed { bits }),
+        None => None,
+    }
+}
+
+/// The wrapped number, and whether the number does not fit.
+pub(crate) fn overflowing_number<T: Word, const F: u32>(outcome: Outcome<T>) -> (Fixed<T, F>, bool)
+    ensures { (x : ℤ) → StandsFor T.value T.SIGNED T.BITS x outcome
+        → Some (T.value result.0.bits, result.1) ≡ overflowing T.SIGNED T.BITS (Some x) }
+{
+    let (bits, overflows) = overflowing_of(outcome);
+    (Fixed { bits }, overflows)
+}
+
+/// The wrapped number.
+pub(crate) fn wrapping_number<T: Word, const F: u32>(outcome: Outcome<T>) -> Fixed<T, F>
+    ensures { (x : ℤ) → StandsFor T.value T.SIGNED T.BITS x outcome
+        → Some (T.value result.bits) ≡ wrapping T.SIGNED T.BITS (Some x) }
+{
+    Fixed {
+        bits: wrapping_of(outcome),
+    }
+}
+
+/// The number that fits and is nearest.
+pub(crate) fn saturating_number<T: Word, const F: u32>(outcome: Outcome<T>) -> Fixed<T, F>
+    ensures { (x : ℤ) → StandsFor T.value T.SIGNED T.BITS x outcome
+        → Some (T.value result.bits) ≡ saturating T.SIGNED T.BITS (Some x) }
+{
+    Fixed {
+        bits: saturating_of(outcome),
+    }
+}

@@ -1,0 +1,96 @@
+//! The series of sine and cosine at an angle of up to an eighth of a turn, in units of `2^-64`.
+
+ghost use Rattle.std.specs.Prelude.{◌≡◌, ◌≤◌, ◌<◌, ◌+◌, ◌-◌, ◌*◌, ◌^◌, ℕ};
+ghost use Rattle.fixed_turns.specs.Series.{Fraction, cosine_series, sine_series};
+ghost use Rattle.fixed_turns.specs.Sines.{radians};
+ghost use Rattle.fixed_turns.specs.inside.Rests.{IsClose, IsLessened, IsNestedTo, IsRounded, IsUnder, quotients, reach};
+
+/// A quarter turn in radians, in units of `2^-63`.
+const QUARTER: u64 = 0xc90f_daa2_2168_c234;
+
+/// The higher half of a product.
+#[inline]
+fn high(a: u64, b: u64) -> u64
+    ensures below { result * 2 ^ 64 ≤ a * b }
+    ensures above { a * b < (result + 1) * 2 ^ 64 }
+{
+    ((u128::from(a) * u128::from(b)) >> 64) as u64
+}
+
+/// `part` times 1 less `less`, rounded up.
+#[inline]
+fn lessened(part: u64, less: u64) -> u64
+    ensures { IsLessened part less result }
+{
+    part - high(part, less)
+}
+
+/// How many quotients the sum needs.
+#[inline]
+fn quotients(bits: u32) -> u64
+    ensures { result ≡ quotients bits }
+{
+    if bits <= 32 { 7 } else { 10 }
+}
+
+/// Quotients of `square`, nested: the first is by `first (first + 1)`.
+#[inline]
+fn nested(square: u64, first: u64, count: u64) -> u64
+    requires least { 1 ≤ first }
+    requires most { first ≤ 2 }
+    requires count { count ≤ 10 }
+    requires square { 8 * square ≤ 5 * 2 ^ 64 }
+    ensures value { IsNestedTo square first count count result }
+    ensures none { square ≡ 0 → result ≡ 0 }
+{
+    let mut less = 0;
+    for i in 0..count {
+        let place = first + 2 * (count - 1 - i);
+        less = lessened(square / (place * (place + 1)), less);
+    }
+    less
+}
+
+/// Units of `2^-64` quarter turns, in radians, rounded down.
+#[inline]
+pub(crate) fn radians_of(rest: u64) -> u64
+    requires { rest ≤ 2 ^ 63 }
+    ensures value { (f p k : ℕ) → k * 2 ^ f ≡ 2 ^ 64 → 0xc90fdaa22168c234 * 10 ^ 39 ≤ p * 2 ^ 62
+        → p * 2 ^ 62 ≤ 0xc90fdaa22168c235 * 10 ^ 39
+        → (x : ℕ) → rest ≡ x * k → IsUnder 2 result (radians p x f) }
+    ensures most { result ≤ 0xc90fdaa22168c234 }
+    ensures none { rest ≡ 0 → result ≡ 0 }
+{
+    ((u128::from(rest) * u128::from(QUARTER)) >> 63) as u64
+}
+
+/// The sine of `x`.
+#[inline]
+pub(crate) fn sine(x: u64, bits: u32) -> u64
+    requires { x ≤ 0xc90fdaa22168c234 }
+    ensures value { (y : Fraction) (n : ℕ) → IsUnder 2 x y → IsClose (reach bits) result (sine_series y (n + 10)) }
+    ensures none { x ≡ 0 → result ≡ 0 }
+{
+    lessened(x, nested(high(x, x), 2, quotients(bits)))
+}
+
+/// The cosine of `x`.
+#[inline]
+pub(crate) fn cosine(x: u64, bits: u32) -> u128
+    requires { x ≤ 0xc90fdaa22168c234 }
+    ensures value { (y : Fraction) (n : ℕ) → IsUnder 2 x y → IsClose (reach bits) result (cosine_series y (n + 10)) }
+    ensures most { result ≤ 2 ^ 64 }
+    ensures none { x ≡ 0 → result ≡ 2 ^ 64 }
+{
+    (1 << 64) - u128::from(nested(high(x, x), 1, quotients(bits)))
+}
+
+/// The quotient by `2^shift`, rounded to the nearest, a tie upward.
+#[inline]
+pub(crate) fn rounded(units: u128, shift: u32) -> u128
+    requires units { units ≤ 2 ^ 64 }
+    requires shift { shift ≤ 64 }
+    ensures { IsRounded units shift result }
+{
+    (units + ((1 << shift) >> 1)) >> shift
+}

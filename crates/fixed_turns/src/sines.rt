@@ -1,0 +1,78 @@
+//! Sines and cosines of angles in turns.
+
+ghost use Rattle.std.specs.Prelude.{◌≡◌, ◌≤◌, ◌-◌, ◌*◌, ◌/◌, ◌^◌, ℕ, ℤ, not};
+ghost use Rattle.fixed_word.specs.Standing.{StandsFor};
+ghost use Rattle.fixed_turns.specs.Series.{cosine_series, sine_series};
+ghost use Rattle.fixed_turns.specs.Sines.{IsCosine, IsSine, IsSineAt, IsSumOf, sine_room};
+
+use crate::angles::{part_of_turn, parted};
+use crate::series::{cosine, radians_of, rounded, sine};
+use fixed_word::{Outcome, RawWord, Word, outcome_of};
+
+/// The sine of a rest, in units of `2^-frac`.
+#[inline]
+fn sine_of_rest(rest: u64, bits: u32, frac: u32) -> u128
+    requires rest { rest ≤ 2 ^ 63 }
+    requires frac { frac ≤ 64 }
+    ensures { (x : ℕ) → rest ≡ x * 2 ^ (64 - frac) → IsSumOf sine_series (sine_room bits) x frac 0 result }
+{
+    rounded(u128::from(sine(radians_of(rest), bits)), 64 - frac)
+}
+
+/// The cosine of a rest, likewise.
+#[inline]
+fn cosine_of_rest(rest: u64, bits: u32, frac: u32) -> u128
+    requires rest { rest ≤ 2 ^ 63 }
+    requires frac { frac ≤ 64 }
+    ensures { (x : ℕ) → rest ≡ x * 2 ^ (64 - frac) → IsSumOf cosine_series (sine_room bits) x frac (2 ^ frac) result }
+{
+    rounded(cosine(radians_of(rest), bits), 64 - frac)
+}
+
+/// Whether a number with that sign, turned by quarters, lies below 0: a half turn changes the sign.
+#[inline]
+fn turned(quarter: u64, below: bool) -> bool
+    ensures same { ¬ (quarter / 2 ≡ 1) → result ≡ below }
+    ensures other { quarter / 2 ≡ 1 → result ≡ not below }
+{
+    (quarter / 2 == 1) != below
+}
+
+/// The sine of quarter turns and a rest.
+#[inline]
+fn outcome_at<T: Word>(quarter: u64, below: bool, rest: u64, frac: u32) -> Outcome<T>
+    requires quarter { quarter ≤ 4 }
+    requires rest { rest ≤ 2 ^ 63 }
+    requires frac { frac ≤ 64 }
+    ensures { (x : ℕ) → rest ≡ x * 2 ^ (64 - frac)
+        → (r : ℤ) × IsSineAt (sine_room T.BITS) quarter below x frac r
+        × StandsFor T.value T.SIGNED T.BITS r result }
+{
+    if quarter % 2 == 0 {
+        outcome_of(turned(quarter, below), sine_of_rest(rest, T::BITS, frac))
+    } else {
+        outcome_of(turned(quarter, false), cosine_of_rest(rest, T::BITS, frac))
+    }
+}
+
+/// The sine of `a 2^-frac` turns, in units of `2^-frac`, rounded to the nearest: it differs from the sine by half a unit
+/// and `2^-k` at most; k is 41 on words of up to 32 bits, and 61 on words of 64 bits. Sines of 0 and of quarter turns are
+/// exact.
+#[inline]
+pub fn sin_turns_of<T: Word>(a: T, frac: u32) -> Outcome<T>
+    requires { frac ≤ T.BITS }
+    ensures { (r : ℤ) × IsSine (sine_room T.BITS) (T.value a) frac r × StandsFor T.value T.SIGNED T.BITS r result }
+{
+    let angle = parted(part_of_turn(a, frac));
+    outcome_at(angle.quarter, angle.below, angle.rest, frac)
+}
+
+/// The cosine, likewise.
+#[inline]
+pub fn cos_turns_of<T: Word>(a: T, frac: u32) -> Outcome<T>
+    requires { frac ≤ T.BITS }
+    ensures { (r : ℤ) × IsCosine (sine_room T.BITS) (T.value a) frac r × StandsFor T.value T.SIGNED T.BITS r result }
+{
+    let angle = parted(part_of_turn(a, frac));
+    outcome_at(angle.quarter + 1, angle.below, angle.rest, frac)
+}
