@@ -19,7 +19,8 @@
 //! ```
 //!
 //! [`Enclosure`] and [`interval`] have intervals whose ends are rounded outward, [`poly`] polynomials by Horner's rule, and
-//! [`filter`] steps of a filter, each with a proved bound on its rounding. [`math`] and [`natural`] have lengths, logarithms and powers.
+//! [`filter`] steps of a filter, each with a proved bound on its rounding. [`math`] and
+//! [`natural`] have lengths, logarithms and powers.
 //!
 //! ```
 //! use zugyelmas::{Interval, PolyReply, div_in, horner_of};
@@ -52,8 +53,9 @@
 //! - `rust/edge.rs`, `rust/between.rs`, and `references.rs` and `between.rs` of `rust/script/`: operators on references and
 //!   between types, `From` and `TryFrom`, [`Sum`](core::iter::Sum) and [`Product`](core::iter::Product), `{:b}` to `{:X}`,
 //!   and replies as results, which forward to proved calls; `{:e}` and `{:E}`, which move the point in a proved text and
-//!   round it; and that a format holds every number that `From` takes, which they assert at compile time. Before Rust 1.87
-//!   also `rust/casts.rs`, and with a feature `rust/memory.rs`, which forwards to `alloc`.
+//!   round it; and that a format holds every number that `From` takes, which they assert at compile time.
+//! - `rust/casts.rs`: that `as` from integers to floats rounds to the nearest, ties to even, as the Rust reference states;
+//!   with a feature `rust/memory.rs`, which forwards to `alloc`.
 //! - A `usize` of 64 bits, as in every proof. On smaller targets nothing is proved of lengths and indexes.
 //! - Every implementation of this library's traits in another crate. Nothing is proved of one, nor of a generic call
 //!   that uses it. The traits of words and floats are sealed, since a word that misstates itself would break every call.

@@ -16,6 +16,12 @@ pub use Rattle.fixed_elementary.specs.ElementaryRows
 pub use Rattle.fixed_elementary.specs.RecipRoot
 pub use Rattle.fixed_elementary.specs.Log2
 pub use Rattle.fixed_elementary.specs.Exp2
+pub use Rattle.fixed_natural.specs.Bases
+pub use Rattle.fixed_natural.specs.Logs
+pub use Rattle.fixed_natural.specs.Exps
+pub use Rattle.fixed_natural.specs.Pows
+pub use Rattle.fixed_turns.specs.Series
+pub use Rattle.fixed_turns.specs.Sines
 pub use Rattle.fixed_convert.specs.Convert
 pub use Rattle.fixed_convert.specs.WholeNumber
 pub use Rattle.fixed_decimal.specs.Decimal

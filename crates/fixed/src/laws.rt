@@ -7,8 +7,10 @@ pub use fixed_kernel::laws::{
     signed_law, unsigned_law,
 };
 pub use fixed_logs::laws::{log_law, log_parts_law};
+pub use fixed_natural::laws::{exp_law, ln_law, log10_law, pow_law};
 pub use fixed_num::laws::{cast_law, mean_law, order_law};
 pub use fixed_ops::laws::fold_law;
 pub use fixed_policy::laws::{loss_law, order_law as sum_order_law};
 pub use fixed_root::laws::root_law;
+pub use fixed_turns::laws::{cosine_law, sine_law};
 pub use fixed_word::laws::{clamp_law, fits_law, quotient_law, return_law, wrap_law};

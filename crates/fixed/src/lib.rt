@@ -21,6 +21,10 @@ pub use fixed_float::Binary;
 pub use fixed_math::{
     CheckedMath, OverflowingMath, SaturatingMath, StrictMath, UnwrappedMath, WrappingMath,
 };
+pub use fixed_natural::{
+    CheckedNatural, OverflowingNatural, SaturatingNatural, StrictNatural, UnwrappedNatural,
+    WrappingNatural,
+};
 pub use fixed_num::{
     Constants, Fixed, FixedI8, FixedI16, FixedI32, FixedI64, FixedU8, FixedU16, FixedU32, FixedU64,
     FromDecimal, Held, Number,
@@ -38,5 +42,8 @@ pub use fixed_strict::{
     SaturatingUnsigned, Strict, StrictMulAdd, StrictProducts, StrictRounded, StrictSigned,
     StrictUnsigned, Unwrapped, UnwrappedMulAdd, UnwrappedProducts, UnwrappedRounded,
     UnwrappedSigned, UnwrappedUnsigned,
+};
+pub use fixed_turns::{
+    CheckedTurns, OverflowingTurns, SaturatingTurns, StrictTurns, UnwrappedTurns, WrappingTurns,
 };
 pub use fixed_word::{Narrow, RawWord, SignedWord, UnsignedWord, Valued, Word};
