@@ -15,7 +15,7 @@ pub(crate) struct Angle {
 }
 
 /// A magnitude in units of `2^-64`, without its whole number.
-#[inline]
+#[inline(always)]
 fn moved(magnitude: u64, frac: u32) -> u64
     requires { frac ≤ 64 }
     ensures { result ≡ magnitude * 2 ^ (64 - frac) % 2 ^ 64 }
@@ -24,7 +24,7 @@ fn moved(magnitude: u64, frac: u32) -> u64
 }
 
 /// The part of a turn, in units of `2^-64` turns.
-#[inline]
+#[inline(always)]
 pub(crate) fn part_of_turn<T: Word>(a: T, frac: u32) -> u64
     requires { frac ≤ T.BITS }
     ensures { Congruent (2 ^ 64) (T.value a *ℤ pos (2 ^ (64 - frac))) (pos result) }
@@ -38,7 +38,7 @@ pub(crate) fn part_of_turn<T: Word>(a: T, frac: u32) -> u64
 }
 
 /// The quarters of a turn, and the rest.
-#[inline]
+#[inline(always)]
 pub(crate) fn parted(part: u64) -> Angle
     ensures { IsParted part result.quarter result.below result.rest }
 {

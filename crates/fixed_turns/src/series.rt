@@ -9,7 +9,7 @@ ghost use Rattle.fixed_turns.specs.inside.Rests.{IsClose, IsLessened, IsNestedTo
 const QUARTER: u64 = 0xc90f_daa2_2168_c234;
 
 /// The higher half of a product.
-#[inline]
+#[inline(always)]
 fn high(a: u64, b: u64) -> u64
     ensures below { result * 2 ^ 64 ≤ a * b }
     ensures above { a * b < (result + 1) * 2 ^ 64 }
@@ -18,7 +18,7 @@ fn high(a: u64, b: u64) -> u64
 }
 
 /// `part` times 1 less `less`, rounded up.
-#[inline]
+#[inline(always)]
 fn lessened(part: u64, less: u64) -> u64
     ensures { IsLessened part less result }
 {
@@ -26,7 +26,7 @@ fn lessened(part: u64, less: u64) -> u64
 }
 
 /// How many quotients the sum needs.
-#[inline]
+#[inline(always)]
 fn quotients(bits: u32) -> u64
     ensures { result ≡ quotients bits }
 {
@@ -34,7 +34,7 @@ fn quotients(bits: u32) -> u64
 }
 
 /// Quotients of `square`, nested: the first is by `first (first + 1)`.
-#[inline]
+#[inline(always)]
 fn nested(square: u64, first: u64, count: u64) -> u64
     requires least { 1 ≤ first }
     requires most { first ≤ 2 }
@@ -52,7 +52,7 @@ fn nested(square: u64, first: u64, count: u64) -> u64
 }
 
 /// Units of `2^-64` quarter turns, in radians, rounded down.
-#[inline]
+#[inline(always)]
 pub(crate) fn radians_of(rest: u64) -> u64
     requires { rest ≤ 2 ^ 63 }
     ensures value { (f p k : ℕ) → k * 2 ^ f ≡ 2 ^ 64 → 0xc90fdaa22168c234 * 10 ^ 39 ≤ p * 2 ^ 62
@@ -65,7 +65,7 @@ pub(crate) fn radians_of(rest: u64) -> u64
 }
 
 /// The sine of `x`.
-#[inline]
+#[inline(always)]
 pub(crate) fn sine(x: u64, bits: u32) -> u64
     requires { x ≤ 0xc90fdaa22168c234 }
     ensures value { (y : Fraction) (n : ℕ) → IsUnder 2 x y → IsClose (reach bits) result (sine_series y (n + 10)) }
@@ -75,7 +75,7 @@ pub(crate) fn sine(x: u64, bits: u32) -> u64
 }
 
 /// The cosine of `x`.
-#[inline]
+#[inline(always)]
 pub(crate) fn cosine(x: u64, bits: u32) -> u128
     requires { x ≤ 0xc90fdaa22168c234 }
     ensures value { (y : Fraction) (n : ℕ) → IsUnder 2 x y → IsClose (reach bits) result (cosine_series y (n + 10)) }
@@ -86,7 +86,7 @@ pub(crate) fn cosine(x: u64, bits: u32) -> u128
 }
 
 /// The quotient by `2^shift`, rounded to the nearest, a tie upward.
-#[inline]
+#[inline(always)]
 pub(crate) fn rounded(units: u128, shift: u32) -> u128
     requires units { units ≤ 2 ^ 64 }
     requires shift { shift ≤ 64 }

@@ -10,7 +10,7 @@ use crate::series::{cosine, radians_of, rounded, sine};
 use fixed_word::{Outcome, RawWord, Word, outcome_of};
 
 /// The sine of a rest, in units of `2^-frac`.
-#[inline]
+#[inline(always)]
 fn sine_of_rest(rest: u64, bits: u32, frac: u32) -> u128
     requires rest { rest ≤ 2 ^ 63 }
     requires frac { frac ≤ 64 }
@@ -20,7 +20,7 @@ fn sine_of_rest(rest: u64, bits: u32, frac: u32) -> u128
 }
 
 /// The cosine of a rest, likewise.
-#[inline]
+#[inline(always)]
 fn cosine_of_rest(rest: u64, bits: u32, frac: u32) -> u128
     requires rest { rest ≤ 2 ^ 63 }
     requires frac { frac ≤ 64 }
@@ -30,7 +30,7 @@ fn cosine_of_rest(rest: u64, bits: u32, frac: u32) -> u128
 }
 
 /// Whether a number with that sign, turned by quarters, lies below 0: a half turn changes the sign.
-#[inline]
+#[inline(always)]
 fn turned(quarter: u64, below: bool) -> bool
     ensures same { ¬ (quarter / 2 ≡ 1) → result ≡ below }
     ensures other { quarter / 2 ≡ 1 → result ≡ not below }
@@ -39,7 +39,7 @@ fn turned(quarter: u64, below: bool) -> bool
 }
 
 /// The sine of quarter turns and a rest.
-#[inline]
+#[inline(always)]
 fn outcome_at<T: Word>(quarter: u64, below: bool, rest: u64, frac: u32) -> Outcome<T>
     requires quarter { quarter ≤ 4 }
     requires rest { rest ≤ 2 ^ 63 }
@@ -58,7 +58,7 @@ fn outcome_at<T: Word>(quarter: u64, below: bool, rest: u64, frac: u32) -> Outco
 /// The sine of `a 2^-frac` turns, in units of `2^-frac`, rounded to the nearest: it differs from the sine by half a unit
 /// and `2^-k` at most; k is 41 on words of up to 32 bits, and 61 on words of 64 bits. Sines of 0 and of quarter turns are
 /// exact.
-#[inline]
+#[inline(always)]
 pub fn sin_turns_of<T: Word>(a: T, frac: u32) -> Outcome<T>
     requires { frac ≤ T.BITS }
     ensures { (r : ℤ) × IsSine (sine_room T.BITS) (T.value a) frac r × StandsFor T.value T.SIGNED T.BITS r result }
@@ -68,7 +68,7 @@ pub fn sin_turns_of<T: Word>(a: T, frac: u32) -> Outcome<T>
 }
 
 /// The cosine, likewise.
-#[inline]
+#[inline(always)]
 pub fn cos_turns_of<T: Word>(a: T, frac: u32) -> Outcome<T>
     requires { frac ≤ T.BITS }
     ensures { (r : ℤ) × IsCosine (sine_room T.BITS) (T.value a) frac r × StandsFor T.value T.SIGNED T.BITS r result }

@@ -1,4 +1,4 @@
-//! Tests of `fixed_elementary`, `fixed_math` and `fixed_natural`: known numbers, and each call at a concrete type, through its bound.
+//! Tests of `fixed_elementary`, `fixed_math`, `fixed_natural` and `fixed_turns`: known numbers, and each call at a concrete type, through its bound.
 #![tactic(auto)]
 
 #[cfg(test)]
@@ -6,3 +6,6 @@ mod calls;
 pub mod fitting;
 #[cfg(test)]
 mod natural;
+#[cfg(test)]
+mod turns;
+pub mod turns_fitting;
