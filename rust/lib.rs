@@ -19,8 +19,8 @@
 //! ```
 //!
 //! [`Enclosure`] and [`interval`] have intervals whose ends are rounded outward, [`poly`] polynomials by Horner's rule, and
-//! [`filter`] steps of a filter, each with a proved bound on its rounding. [`math`] and
-//! [`natural`] have lengths, logarithms and powers.
+//! [`filter`] steps of a filter, each with a proved bound on its rounding. [`math`],
+//! [`natural`] and [`turns`] have lengths, logarithms, powers, sines and cosines.
 //!
 //! ```
 //! use zugyelmas::{Interval, PolyReply, div_in, horner_of};
@@ -226,6 +226,9 @@ pub use strict::{
     Unwrapped, UnwrappedMulAdd, UnwrappedProducts, UnwrappedRounded, UnwrappedSigned,
     UnwrappedUnsigned,
 };
+pub use turns::{
+    CheckedTurns, OverflowingTurns, SaturatingTurns, StrictTurns, UnwrappedTurns, WrappingTurns,
+};
 pub use word::{RawWord, SignedWord, UnsignedWord, Word};
 
 /// What most programs import: the numbers, and the traits of their calls. The traits whose names std has too, such as
@@ -241,6 +244,9 @@ pub mod prelude {
     pub use crate::{
         CheckedNatural, OverflowingNatural, SaturatingNatural, StrictNatural, UnwrappedNatural,
         WrappingNatural,
+    };
+    pub use crate::{
+        CheckedTurns, OverflowingTurns, SaturatingTurns, StrictTurns, UnwrappedTurns, WrappingTurns,
     };
     pub use crate::{
         Constants, Fixed, FixedI8, FixedI16, FixedI32, FixedI64, FixedU8, FixedU16, FixedU32,

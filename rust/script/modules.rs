@@ -15,7 +15,7 @@ use std::path::Path;
 use std::{env, fs};
 
 /// The crates of the library, lowest first, without the `fixed_` in front.
-pub const LIBRARY: [&str; 24] = [
+pub const LIBRARY: [&str; 25] = [
     "word",
     "bits",
     "root",
@@ -35,6 +35,7 @@ pub const LIBRARY: [&str; 24] = [
     "strict",
     "math",
     "natural",
+    "turns",
     "ops",
     "poly",
     "filter",
@@ -46,7 +47,7 @@ pub const LIBRARY: [&str; 24] = [
 pub const CALCULATOR: [&str; 4] = ["stream", "script", "machine", "calc"];
 
 /// The crates with strict forms, which stop in every build where a number does not fit.
-pub const STRICT: [&str; 3] = ["strict", "math", "natural"];
+pub const STRICT: [&str; 4] = ["strict", "math", "natural", "turns"];
 
 /// The files that the library does not offer: their public calls are made by the proved code beside them alone.
 pub const INSIDE: [&str; 11] = [

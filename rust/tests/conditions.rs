@@ -7,7 +7,7 @@ use std::sync::Once;
 use zugyelmas::{Binary, Enclosure};
 use zugyelmas::prelude::*;
 use zugyelmas::{
-    bits, elementary, filter, float, interval, kernel, logs, natural, num, ops, policy, poly, root, strict,
+    bits, elementary, filter, float, interval, kernel, logs, natural, num, ops, policy, poly, root, strict, turns,
     word,
 };
 
@@ -180,6 +180,9 @@ stops! {
     natural_decimal_logarithm, "the number fits", FixedI8::<7>::from_bits(1).unwrapped_log10();
     natural_power_of_e, "the number fits", byte(48).strict_exp();
     natural_power, "the number fits", byte(32).unwrapped_pow(byte(48));
+    turns_fraction, "the fraction frac is at most the width", turns::sin_turns_of(1_u8, 9);
+    turns_sine, "the number fits", FixedI8::<7>::from_bits(32).strict_sin_turns();
+    turns_cosine, "the number fits", FixedI8::<7>::from_bits(0).unwrapped_cos_turns();
     ops_divisor, "the divisor is not 0", byte(0).recip();
     ops_root, "the number is not below 0", byte(-1).sqrt();
     ops_product_of_none, "the number 1 fits", ops::product::<i8, 7>(&[]);

@@ -256,7 +256,7 @@ fn crate_name(krate: &str, name: &str) -> String {
     match name {
         "crate" => format!("crate::{krate}"),
         "std" => "core".to_string(),
-        "fixed_num" if matches!(krate, "strict" | "math" | "natural") => {
+        "fixed_num" if matches!(krate, "strict" | "math" | "natural" | "turns") => {
             "crate::stopping".to_string()
         }
         _ => name
