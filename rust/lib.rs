@@ -100,6 +100,7 @@
     clippy::manual_range_contains,
     clippy::match_like_matches_macro,
     clippy::module_inception,
+    clippy::needless_range_loop,
     clippy::new_without_default,
     clippy::question_mark,
     clippy::while_let_on_iterator
