@@ -7,8 +7,8 @@ use std::sync::Once;
 use zugyelmas::{Binary, Enclosure};
 use zugyelmas::prelude::*;
 use zugyelmas::{
-    bits, elementary, filter, float, interval, kernel, logs, natural, num, ops, policy, poly, root, strict, turns,
-    word,
+    bits, block, elementary, filter, float, interval, kernel, logs, natural, num, ops, policy, poly, root, strict,
+    turns, word,
 };
 
 type Byte = FixedI8<4>;
@@ -134,6 +134,12 @@ stops! {
     kernel_widths, "both words have one width", kernel::mixed_add_of(1_i8, 1_u16);
     kernel_places_down, "frac_nbits is at most twice the width", kernel::overflowing_mul_add(1_i8, 1, 1, 17);
     kernel_places_up, "frac_nbits is at least minus the width", kernel::overflowing_mul_add(1_i8, 1, 1, -9);
+    block_operation, "the operation is ready", block::wrapping_each(&block::Scale { by: 1, frac: 9 }, &mut [1_i8]);
+    block_outcome, "the operation is ready", block::Each::outcome(&block::Scale { by: 1, frac: 9 }, 1_i8);
+    blocks_operation, "the operation is ready",
+        block::saturating_pairs(&block::Mul { frac: 9 }, &mut [1_i8], &[1]);
+    blocks_outcome, "the operation is ready", block::Pairs::outcome(&block::Mul { frac: 9 }, 1_i8, 1);
+    blocks_lengths, "both blocks have one length", block::checked_pairs(&block::Add, &mut [1_i8], &[]);
     num_one, "the number 1 fits", FixedI8::<7>::one();
     num_one_of_any_fraction, "the number 1 fits", FixedI32::<{ u32::MAX }>::one();
     num_unsigned_one, "the number 1 fits", FixedU64::<64>::one();
