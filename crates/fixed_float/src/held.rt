@@ -1,4 +1,4 @@
-//! From a float to the nearest word.
+//! Conversions of floats to the nearest word.
 
 ghost use Rattle.std.specs.Prelude.{◌≡◌, Bool, Some, if◌then◌else◌};
 ghost use Rattle.std.specs.Float.{NotNan, inf};
@@ -11,8 +11,8 @@ use crate::incoming::outcome_by_parts;
 use crate::near::whole_near;
 use fixed_word::{RawWord, Rounding, Word, saturating_of};
 
-/// The float in units of `2^-frac`, rounded, held at the ends of the range; for an infinity the end on its side.
-/// Condition: the float is no NaN.
+/// Returns the float in units of `2^-frac`, rounded as named, or the nearest word if that does not fit. An infinity
+/// returns the end of the range on its side. Precondition: the float is not a NaN.
 #[inline]
 pub fn saturating_float_of<X: Binary, T: Word>(x: X, frac: u32, rounding: Rounding) -> T
     requires { NotNan (X.float x) }
@@ -26,7 +26,7 @@ pub fn saturating_float_of<X: Binary, T: Word>(x: X, frac: u32, rounding: Roundi
     }
 }
 
-/// The same of every `f64`, by its bits. Condition: it is no NaN.
+/// Does the same for every `f64`, by its bits. Precondition: it is not a NaN.
 #[inline]
 fn far_held<T: Word>(x: f64, frac: u32, rounding: Rounding) -> T
     requires { NotNan x }
@@ -38,7 +38,7 @@ fn far_held<T: Word>(x: f64, frac: u32, rounding: Rounding) -> T
     }
 }
 
-/// The whole number, held at the ends of the range.
+/// Returns the word nearest to the whole number.
 #[inline]
 fn whole_held<T: Word>(whole: i64) -> T
     ensures { Some (T.value result) ≡ saturating T.SIGNED T.BITS (Some whole) }
@@ -50,7 +50,7 @@ fn whole_held<T: Word>(whole: i64) -> T
     T::residue(below_zero, magnitude as u128).unless(past, end)
 }
 
-/// The end of the range on the side of an infinity.
+/// Returns the end of the range on the side of an infinity.
 #[inline]
 fn end_beside<T: Word>(x: f64) -> T
     ensures { (s : Bool) → x ≡ inf s → T.value result
@@ -59,7 +59,7 @@ fn end_beside<T: Word>(x: f64) -> T
     end_on(x < 0.0)
 }
 
-/// The lower end of the range where `below_zero`, and otherwise the upper end.
+/// Returns the lower end of the range if `below_zero`, and otherwise the upper end.
 #[inline]
 fn end_on<T: Word>(below_zero: bool) -> T
     ensures { T.value result
