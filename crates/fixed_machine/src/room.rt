@@ -305,8 +305,8 @@ impl Room {
 }
 
 /// Runs one line of a script: stores its number, if there is one, in the destination, and returns its answer. If the
-/// line has a cause, returns that with the given line number and changes no register. A line whose operation takes other
-/// operands has the cause `Syntax`. The header and the answers in the room do not change. This does not allocate.
+/// line has a cause, returns that with the given line number and changes no register. A line whose operation takes
+/// other operands has the cause `Syntax`. The header and the answers in the room do not change. This does not allocate.
 /// Precondition: a header was declared.
 pub fn step(room: &mut Room, line: &Line, number: u64) -> Result<Answer, Cause>
     requires { IsSome room.old.word }
