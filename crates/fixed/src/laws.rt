@@ -1,4 +1,4 @@
-//! Laws of the definitions: each is a function that does nothing, whose contract is the law.
+//! Laws of the definitions. These functions do nothing: the contract of each is the law.
 
 pub use fixed_bits::laws::{list_law, read_back_law};
 pub use fixed_elementary::laws::{exp2_law, hypot_law, log2_law, recip_sqrt_law};

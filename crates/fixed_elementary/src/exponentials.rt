@@ -142,8 +142,7 @@ fn part_of(exponent: u128, places: u32) -> u64
     (exponent % (1 << places)) as u64
 }
 
-/// Returns `2^(exponent / 2^places)`, rounded down as by `exp2_of`, or `2^bits` if that is less. Preconditions: `bits`
-/// is at most 64, and `places` is at most `bits`.
+/// Returns `2^(exponent / 2^places)`, rounded as by `exp2_of`, at most `2^bits`. Precondition: `places <= bits <= 64`.
 pub fn power_of(exponent: u128, places: u32, bits: u32) -> u128
     requires bits { bits ≤ 64 }
     requires places { places ≤ bits }
