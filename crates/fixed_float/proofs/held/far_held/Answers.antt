@@ -1,3 +1,5 @@
+use Rattle.std.proofs.Common.{◌≡◌, ◌+◌, ◌*◌, ◌^◌, ℤ, pos, ap, sym, ◌∙◌}
+use Rattle.std.specs.Prelude.{Some}
 use Rattle.fixed_float.proofs.Ends.{end_is}
 use Rattle.fixed_float.proofs.held.far_held.Goals as goal
 
