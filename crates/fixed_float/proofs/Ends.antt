@@ -1,19 +1,19 @@
 -- The ends of a range, for a whole number and for an infinity.
 use Rattle.std.proofs.Common.{◌≡◌, ◌-◌, ◌^◌, ◌<◌, ◌≤◌, ◌<ℤ◌, ℕ, ℤ, zero, suc, Bool, true, false, pos, negsuc, unsigned_abs, ltb, refl, ap, sym, ◌∙◌, arith, inl, inr}
-use Rattle.std.specs.Prelude.{None, Some, int_lt, if◌then◌else◌}
+use Rattle.std.specs.Prelude.{None, Option, Some, if◌then◌else◌}
 use Rattle.std.proofs.lemmas.Bool.{cases_lt, le-ltb, lt-ltb}
 use Rattle.std.proofs.lemmas.Int.{ints}
 use Rattle.std.proofs.lemmas.Nat.{pow_pos}
 use Rattle.std.specs.Float.{Float, NotNan, nan, inf, fin}
 use lib.Ieee.{is_nan}
 use Rattle.fixed_word.specs.Format.{clamp, highest, lowest, with_sign, wrap, InRange, IsWidth}
+use Rattle.fixed_word.specs.Policies.{saturating}
 use Rattle.fixed_word.specs.Standing.{side_of}
 use Rattle.fixed_word.specs.declared.outcome.Outcome.{Outcome}
 use Rattle.fixed_word.specs.declared.outcome.Side.{Side}
 use Rattle.fixed_word.specs.declared.outcome.Side.TheVariants.{Fits, Above, Below}
 use Rattle.fixed_word.specs.declared.rounding.Rounding.{Rounding}
 use Rattle.fixed_word.proofs.Nearest.{clamp_above, clamp_below}
-use Rattle.fixed_word.proofs.Sides.{lt_no, lt_yes}
 use Rattle.fixed_word.proofs.Standings.{clamp_same, range_from_side}
 use Rattle.fixed_word.proofs.Wraps.{width_pos, wrap_same}
 use Rattle.fixed_kernel.specs.inside.Alike.{Alike}
@@ -26,6 +26,11 @@ unfolding is_nan
 end_is s n nan g r v h e at = absurd h
 end_is s n (inf t) g r v h e at = ap (λ (z : ℤ). Some z) (at t refl)
 end_is s n (fin t m k) g r v h e at = cc
+
+pub held_row : (s : Bool) (n : ℕ) (x : Float) (g : ℕ) (r : Rounding) (v : ℤ) → units_of_float x g r ≡ Some v → saturated_float s n x g r ≡ Some (clamp s n v)
+held_row s n nan g r v e = cc
+held_row s n (inf t) g r v e = cc
+held_row s n (fin t m k) g r v e = ap (λ (o : Option ℤ). saturating s n o) e
 
 -- ---- a number by its sign and its magnitude m, where k is that of the end on its side
 past_highest : (s : Bool) (n a : ℕ) → unsigned_abs (highest s n) < a → highest s n <ℤ pos a
@@ -88,8 +93,3 @@ clamp_alike s n x y w a =
     let o : Outcome ℤ = record { wrapped = wrap s n y; side = side_of s n y } in
     let h = stands_alike (λ (z : ℤ). z) s n x y o w a (record { wrapped = refl; side = refl }) in
     by_side s n x y (side_of s n x) (width_pos n w) refl h.side (sym h.wrapped)
-
--- a whole number, by its sign and its magnitude
-pub from_sign : (x : ℤ) → with_sign (int_lt x (pos 0)) (unsigned_abs x) ≡ x
-from_sign (pos a) = ap (λ (b : Bool). with_sign b a) (lt_no (pos a) (pos 0) (omega (arith, ints)))
-from_sign (negsuc a) = ap (λ (b : Bool). with_sign b (suc a)) (lt_yes (negsuc a) (pos 0) (omega (arith, ints)))
