@@ -2,14 +2,15 @@
 
 ghost use Rattle.std.specs.Prelude.{◌≡◌, Bool, Some, if◌then◌else◌};
 ghost use Rattle.std.specs.Float.{NotNan, inf};
-ghost use Rattle.fixed_word.specs.Format.{highest, lowest};
+ghost use Rattle.fixed_word.specs.Format.{clamp, highest, lowest, with_sign};
 ghost use Rattle.fixed_word.specs.Policies.{saturating};
 ghost use Rattle.fixed_float.specs.Rows.{saturated_float};
 
 use crate::binary::Binary;
-use crate::incoming::outcome_by_parts;
+use crate::incoming::magnitude_of_parts;
 use crate::near::whole_near;
-use fixed_word::{RawWord, Rounding, Word, saturating_of};
+use crate::parts::parts_of;
+use fixed_word::{RawWord, Rounding, Word};
 
 /// Returns the float in units of `2^-frac`, rounded as named, or the nearest word if that does not fit. An infinity
 /// returns the end of the range on its side. Precondition: the float is not a NaN.
@@ -32,8 +33,8 @@ fn far_held<T: Word>(x: f64, frac: u32, rounding: Rounding) -> T
     requires { NotNan x }
     ensures { Some (T.value result) ≡ saturated_float T.SIGNED T.BITS x frac rounding }
 {
-    match outcome_by_parts(x, frac, rounding) {
-        Some(outcome) => saturating_of(outcome),
+    match parts_of(x) {
+        Some(parts) => magnitude_held(parts.below_zero, magnitude_of_parts(parts, frac, rounding)),
         None => end_beside(x),
     }
 }
@@ -43,11 +44,17 @@ fn far_held<T: Word>(x: f64, frac: u32, rounding: Rounding) -> T
 fn whole_held<T: Word>(whole: i64) -> T
     ensures { Some (T.value result) ≡ saturating T.SIGNED T.BITS (Some whole) }
 {
-    let below_zero = whole < 0;
-    let magnitude = whole.unsigned_abs();
+    magnitude_held(whole < 0, whole.unsigned_abs() as u128)
+}
+
+/// Returns the number of the word that is nearest to the magnitude with that sign. A branch on the sign would be slow.
+#[inline]
+fn magnitude_held<T: Word>(below_zero: bool, magnitude: u128) -> T
+    ensures { T.value result ≡ clamp T.SIGNED T.BITS (with_sign below_zero magnitude) }
+{
     let end: T = end_on(below_zero);
-    let past = magnitude > end.magnitude();
-    T::residue(below_zero, magnitude as u128).unless(past, end)
+    let past = magnitude > end.magnitude() as u128;
+    T::residue(below_zero, magnitude).unless(past, end)
 }
 
 /// Returns the end of the range on the side of an infinity.
