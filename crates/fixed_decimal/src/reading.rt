@@ -7,6 +7,7 @@ ghost use Rattle.std.specs.Str.Parse.{digits_value, without_leading_sign};
 ghost use Rattle.fixed_decimal.specs.Decimal.{decimal_row, exact_row, fault_in, is_exact_in};
 ghost use Rattle.fixed_decimal.specs.Rows.{IsOutcomeOf};
 ghost use Rattle.fixed_decimal.specs.inside.Reading.{IsReadAs, held};
+ghost use Rattle.fixed_decimal.specs.inside.Stepped.{stepped};
 
 use crate::error::DecimalError;
 use crate::halves::rounded_halves;
@@ -43,8 +44,7 @@ pub(crate) const fn magnitude_of(
 {
     let (below_zero, bytes) = sign_of(text);
     if let Some((value, places)) = short_decimal(bytes) {
-        let (halves, rest) = divided((value as u128) << (frac + 1), ten_to(places));
-        let magnitude = rounded_halves(halves, rest, below_zero, rounding);
+        let magnitude = rounded_quotient(value, ten_to(places), frac, below_zero, rounding);
         return Ok((below_zero, magnitude));
     }
     match point_of(bytes, text.len() - bytes.len()) {
@@ -55,6 +55,30 @@ pub(crate) const fn magnitude_of(
             Ok((below_zero, magnitude))
         }
         Err(error) => Err(error),
+    }
+}
+
+/// Returns `value / by` in units of `2^-frac`, rounded as named. The quotient is negative if `below_zero`. Numbers of at
+/// most 64 bits stay in 64 bits up to the end, which is faster.
+#[inline(always)]
+const fn rounded_quotient(
+    value: u64,
+    by: u64,
+    frac: u32,
+    below_zero: bool,
+    rounding: Rounding,
+) -> u128
+    requires value { value < 2 ^ 60 }
+    requires by { 0 < by }
+    requires frac { frac ≤ 64 }
+    ensures { result ≡ stepped rounding below_zero (value * 2 ^ frac) by }
+{
+    if frac < 63 && value < 1 << (63 - frac) {
+        let twice = value << (frac + 1);
+        rounded_halves((twice / by) as u128, twice % by != 0, below_zero, rounding)
+    } else {
+        let (halves, rest) = divided((value as u128) << (frac + 1), by);
+        rounded_halves(halves, rest, below_zero, rounding)
     }
 }
 
