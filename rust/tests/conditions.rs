@@ -109,14 +109,14 @@ stops! {
     word_strict_of, "the number fits", word::strict_of(kernel::add_of(127_i8, 1));
     bits_shift_left, "the shift is below the width", bits::BitWord::shift_left(1_u8, 8);
     bits_shift_right, "the shift is below the width", bits::BitWord::shift_right(-1_i64, 64);
-    float_bits, "the bits are no NaN's", f64::of_pattern(0x7ff8_0000_0000_0000);
+    float_bits, "the bits are not those of a NaN", f64::of_pattern(0x7ff8_0000_0000_0000);
     float_width, "the bits are those of a float", f32::of_pattern(1 << 32);
-    float_quotient, "the number has so few bits", f32::quotient(1 << 16, 0);
-    float_divisor, "it is divided by at most 2^64", f64::quotient(1, 65);
+    float_quotient, "the number is below `2^WHOLE`", f32::quotient(1 << 16, 0);
+    float_divisor, "the divisor is at most 2^64", f64::quotient(1, 65);
     float_fraction, "the fraction frac is at most the width", float::to_float_of::<i8, f64>(1, 9);
-    float_nan, "the float is no NaN", float::saturating_float_of::<f32, i8>(f32::NAN, 4, word::Rounding::Even);
+    float_nan, "the float is not a NaN", float::saturating_float_of::<f32, i8>(f32::NAN, 4, word::Rounding::Even);
     cast_infinite, "`None` value", Byte::wrapping_from_num(f64::INFINITY);
-    cast_nan, "the float is no NaN", Byte::saturating_from_num(f32::NAN);
+    cast_nan, "the float is not a NaN", Byte::saturating_from_num(f32::NAN);
     cast_strict, "the number fits", Byte::strict_from_num(8);
     cast_unwrapped, "the number fits", 8.0_f32.unwrapped_to_num::<Byte>();
     cast_strict_ceil, "the number fits", Byte::MAX.strict_ceil();
@@ -131,7 +131,7 @@ stops! {
     kernel_root, "the number is not below 0", kernel::sqrt_of(-1_i8, 4);
     kernel_signed, "the word is signed", kernel::abs_of(1_u8);
     kernel_unsigned, "the word is unsigned", kernel::next_power_of_two_of(1_i8);
-    kernel_widths, "both words have one width", kernel::mixed_add_of(1_i8, 1_u16);
+    kernel_widths, "both words have the same width", kernel::mixed_add_of(1_i8, 1_u16);
     kernel_places_down, "frac_nbits is at most twice the width", kernel::overflowing_mul_add(1_i8, 1, 1, 17);
     kernel_places_up, "frac_nbits is at least minus the width", kernel::overflowing_mul_add(1_i8, 1, 1, -9);
     block_operation, "the operation is ready", block::wrapping_each(&block::Scale { by: 1, frac: 9 }, &mut [1_i8]);
@@ -158,7 +158,7 @@ stops! {
     policy_divisor, "the divisor is not 0", byte(1).wrapping_div(byte(0));
     policy_integer, "the divisor is not 0", byte(1).overflowing_div_int(0);
     policy_root, "the number is not below 0", byte(-1).wrapping_sqrt();
-    policy_lengths, "both slices have one length", byte(1).checked_dot_acc(&[byte(1)], &[] as &[Byte]);
+    policy_lengths, "both slices have the same length", byte(1).checked_dot_acc(&[byte(1)], &[] as &[Byte]);
     cast_strict_number, "the number fits", Byte::strict_from_num(8);
     cast_unwrapped_number, "the number fits", byte(-16).unwrapped_to_num::<u8>();
     strict_overflow, "the number fits", Byte::MAX.strict_add(Byte::DELTA);
@@ -205,7 +205,7 @@ stops! {
     enclosure_difference, "the ends fit", enclosure(-128, 0) - enclosure(0, 1);
     enclosure_product, "the ends fit", enclosure(0, 127) * enclosure(0, 127);
     enclosure_quotient, "the ends fit", enclosure(0, 127) / enclosure(1, 1);
-    enclosure_by_zero, "0 lies outside the divisor", enclosure(0, 1) / enclosure(-1, 1);
+    enclosure_by_zero, "the divisor does not contain 0", enclosure(0, 1) / enclosure(-1, 1);
     enclosure_negative, "the ends fit", -enclosure(-128, 0);
 }
 
