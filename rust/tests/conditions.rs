@@ -139,7 +139,7 @@ stops! {
     blocks_operation, "the operation is ready",
         block::saturating_pairs(&block::Mul { frac: 9 }, &mut [1_i8], &[1]);
     blocks_outcome, "the operation is ready", block::Pairs::outcome(&block::Mul { frac: 9 }, 1_i8, 1);
-    blocks_lengths, "both blocks have one length", block::checked_pairs(&block::Add, &mut [1_i8], &[]);
+    blocks_lengths, "both blocks have the same length", block::checked_pairs(&block::Add, &mut [1_i8], &[]);
     num_one, "the number 1 fits", FixedI8::<7>::one();
     num_one_of_any_fraction, "the number 1 fits", FixedI32::<{ u32::MAX }>::one();
     num_unsigned_one, "the number 1 fits", FixedU64::<64>::one();
