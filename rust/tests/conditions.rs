@@ -189,6 +189,10 @@ stops! {
     turns_fraction, "the fraction frac is at most the width", turns::sin_turns_of(1_u8, 9);
     turns_sine, "the number fits", FixedI8::<7>::from_bits(32).strict_sin_turns();
     turns_cosine, "the number fits", FixedI8::<7>::from_bits(0).unwrapped_cos_turns();
+    turns_both, "the number fits", FixedI8::<7>::from_bits(32).strict_sin_cos_turns();
+    turns_origin, "the coordinates are not both 0", turns::atan2_turns_of(0_u8, 0, 8);
+    turns_zeros, "the coordinates are not both 0", byte(0).wrapping_atan2_turns(byte(0));
+    turns_angle, "the number fits", FixedI8::<8>::from_bits(0).strict_atan2_turns(FixedI8::from_bits(-1));
     ops_divisor, "the divisor is not 0", byte(0).recip();
     ops_root, "the number is not below 0", byte(-1).sqrt();
     ops_product_of_none, "the number 1 fits", ops::product::<i8, 7>(&[]);
