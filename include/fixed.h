@@ -12,9 +12,10 @@
  * what is left of the exact number in the word, and the side of the word's range on which that number lies. One of
  * five policies then makes a number of it: checked, saturating, wrapping, overflowing or strict.
  *
- * Beside the operations stand intervals, whose calls leave two ends; decimal text, read and written; and calls over
- * arrays: blocks, on which an operation writes each result over its operand, a polynomial by Horner's rule and a step of a
- * filter, which leave a number, or the place at which one does not fit.
+ * Beside the operations stand elementary functions, whose calls leave a number; intervals, whose calls leave two ends;
+ * decimal text, read and written; and calls over arrays: blocks, on which an operation writes each result over its
+ * operand, a polynomial by Horner's rule and a step of a filter, which leave a number, or the place at which one does not
+ * fit.
  *
  * What C has to guarantee, since nothing checks it: a pointer to what a call leaves points to a whole, aligned one, and
  * nothing else reads or writes that during the call. It may hold anything before, as what an earlier call left. An
@@ -44,7 +45,7 @@ enum {
   FIXED_ZERO_DIVISOR = 2,        /* the divisor is 0 */
   FIXED_NEGATIVE_ROOT = 3,       /* the operand of a root is below 0 */
   FIXED_ENDS_EXCHANGED = 4,      /* the low end of an interval is above its high one */
-  FIXED_OUT_OF_RANGE = 5,        /* an end, the value of a step or a partial sum does not fit the word */
+  FIXED_OUT_OF_RANGE = 5,        /* an end, a number, the value of a step or a partial sum does not fit the word */
   FIXED_NO_ELEMENT = 6,          /* there is no coefficient, or no tap */
   FIXED_COUNTS_DIFFER = 7,       /* there are not as many past samples as taps */
   FIXED_NO_ROUNDING = 8,         /* no rounding has the number */
@@ -54,7 +55,8 @@ enum {
   FIXED_TOO_MANY_POINTS = 12,    /* the text has a second point */
   FIXED_TOO_MANY_PLACES = 13,    /* more than 64 digits after the point are requested */
   FIXED_NO_ROOM = 14,            /* the text and its '\0' do not fit into the buffer */
-  FIXED_NO_POLICY = 15           /* no policy of blocks has the number */
+  FIXED_NO_POLICY = 15,          /* no policy of blocks has the number */
+  FIXED_NOT_POSITIVE = 16        /* the operand of a reciprocal root, a logarithm or a power is not above 0 */
 };
 
 /* How a number between two units is rounded, where a call takes a rounding. */
@@ -153,6 +155,39 @@ enum {
   int32_t name##_from_double(double number, uint32_t frac, uint32_t rounding, name *result);                       \
   /* the double nearest to a / 2^frac, and of two as near the one whose last bit is 0, is left in *value */        \
   int32_t name##_to_double(word a, uint32_t frac, double *value);
+
+/* Elementary functions, which leave a number of the word in *number. A fraction that is too large returns
+ * FIXED_FRACTION_PAST_WIDTH, then an operand of a reciprocal root, a logarithm or a power that is not above 0
+ * FIXED_NOT_POSITIVE, and then a result that does not fit FIXED_OUT_OF_RANGE.
+ *
+ * hypot and recip_sqrt are exact, rounded down. The others are rounded down too, and may differ from that by a unit:
+ *
+ *   log2         one unit less, if the logarithm lies less than 2^-k units above a whole number of units; frac + k is 62,
+ *                or 126 in words of 64 bits. The logarithm of a power of two is exact
+ *   exp2         one unit less, if the power lies less than a factor of 2^(2^-k) above a whole number of units; k is 54,
+ *                or 117 in words of 64 bits. A power with a whole exponent is exact
+ *   ln, log10    the next unit, if the logarithm lies less than 2^-k units below it; k is 24, or 32 in words of 64 bits
+ *   exp, pow     the next unit, if the power lies less than a factor of 2^(2^-k) below it; k is 61 for exp, and 55 for
+ *                pow. In words of 64 bits that may be several units: at most 6 for exp, and 355 for pow
+ *
+ * Sines and cosines are rounded to the nearest: they differ from the exact value by half a unit and 2^-k units at most; k
+ * is 41, or 61 in words of 64 bits. The sines of 0, 1/4, 1/2 and 3/4 are exact. */
+#define FIXED_ELEMENTARY(name, word)                                                                               \
+  /* the root of a^2 + b^2 */                                                                                      \
+  int32_t name##_hypot(word a, word b, word *number);                                                              \
+  /* one over the root of a */                                                                                     \
+  int32_t name##_recip_sqrt(word a, uint32_t frac, word *number);                                                  \
+  /* the logarithm of a to the base 2, e or 10 */                                                                  \
+  int32_t name##_log2(word a, uint32_t frac, word *number);                                                        \
+  int32_t name##_ln(word a, uint32_t frac, word *number);                                                          \
+  int32_t name##_log10(word a, uint32_t frac, word *number);                                                       \
+  /* 2 to the power of a; e to the power of a; a to the power of b */                                              \
+  int32_t name##_exp2(word a, uint32_t frac, word *number);                                                        \
+  int32_t name##_exp(word a, uint32_t frac, word *number);                                                         \
+  int32_t name##_pow(word a, word b, uint32_t frac, word *number);                                                 \
+  /* the sine and the cosine of an angle of a turns: 1/4 is a right angle */                                       \
+  int32_t name##_sin_turns(word a, uint32_t frac, word *number);                                                   \
+  int32_t name##_cos_turns(word a, uint32_t frac, word *number);
 
 /* Decimal text. A fraction that is too large returns FIXED_FRACTION_PAST_WIDTH, then more than 64 places
  * FIXED_TOO_MANY_PLACES, and then a number that no rounding has FIXED_NO_ROUNDING. The longest text has 86 bytes. */
@@ -267,6 +302,7 @@ enum {
   FIXED_CALLS(name, word)                         \
   FIXED_ROUNDED_CALLS(name, word)                 \
   FIXED_CONVERSIONS(name, word)                   \
+  FIXED_ELEMENTARY(name, word)                    \
   FIXED_TEXTS(name, word)                         \
   FIXED_INTERVAL_CALLS(name, word)                \
   FIXED_ARRAY_CALLS(name, word)                   \
@@ -280,6 +316,7 @@ enum {
   FIXED_CALLS(name, word)                    \
   FIXED_ROUNDED_CALLS(name, word)            \
   FIXED_CONVERSIONS(name, word)              \
+  FIXED_ELEMENTARY(name, word)               \
   FIXED_TEXTS(name, word)                    \
   FIXED_INTERVAL_CALLS(name, word)           \
   FIXED_ARRAY_CALLS(name, word)              \

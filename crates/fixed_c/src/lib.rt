@@ -15,6 +15,7 @@ mod arrays;
 mod blocks;
 mod calls;
 mod conversions;
+mod elementary;
 mod intervals;
 mod one_sign;
 mod products;
