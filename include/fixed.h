@@ -45,7 +45,7 @@ enum {
   FIXED_ZERO_DIVISOR = 2,        /* the divisor is 0 */
   FIXED_NEGATIVE_ROOT = 3,       /* the operand of a root is below 0 */
   FIXED_ENDS_EXCHANGED = 4,      /* the low end of an interval is above its high one */
-  FIXED_OUT_OF_RANGE = 5,        /* an end, a number, the value of a step or a partial sum does not fit the word */
+  FIXED_OUT_OF_RANGE = 5,        /* an end, a number, the value of a step or a partial sum does not fit */
   FIXED_NO_ELEMENT = 6,          /* there is no coefficient, or no tap */
   FIXED_COUNTS_DIFFER = 7,       /* there are not as many past samples as taps */
   FIXED_NO_ROUNDING = 8,         /* no rounding has the number */
@@ -254,7 +254,11 @@ enum {
                            uint32_t policy, size_t *place);                                                        \
   /* x + y by / 2^frac, the product rounded down */                                                                \
   int32_t name##_mul_add_block(word *block, size_t count, const word *others, size_t others_count, word by,        \
-                               uint32_t frac, uint32_t policy, size_t *place);
+                               uint32_t frac, uint32_t policy, size_t *place);                                     \
+  /* the sum of the products of two arrays, number by number, over 2^frac and rounded down once. A fraction that is\
+   * too large returns FIXED_FRACTION_PAST_WIDTH, and then another count of the other array FIXED_COUNTS_DIFFER. In\
+   * words of 64 bits FIXED_OUT_OF_RANGE, only if the sum of some products at the front does not fit in 128 bits */\
+  int32_t name##_dot(const word *a, size_t a_count, const word *b, size_t b_count, uint32_t frac, name *result);
 
 /* The calls of signed words alone: the magnitude of a, and of each number of a block; one by the sign of a, 2^frac, 0
  * or -2^frac. */

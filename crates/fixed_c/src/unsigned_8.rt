@@ -8,13 +8,6 @@ ghost use Rattle.fixed_kernel.specs.Root.{root_of};
 ghost use Rattle.fixed_kernel.specs.Rounded.{rounded};
 ghost use Rattle.fixed_kernel.specs.RoundedRows.{rounded_add_prod, rounded_div, rounded_mul, rounded_mul_add, rounded_recip};
 ghost use Rattle.fixed_kernel.specs.Rows.{exact_abs, by_divisor, by_sign, exact_add_prod, exact_div, exact_div_euclid, exact_mul, exact_mul_add, exact_next_multiple_of, exact_next_power_of_two, exact_recip, exact_rem, units};
-ghost use Rattle.fixed_elementary.specs.ElementaryRows.{exact_hypot, exact_recip_sqrt};
-ghost use Rattle.fixed_elementary.specs.Exp2.{IsExp2Of, exp2_room};
-ghost use Rattle.fixed_elementary.specs.Log2.{IsLog2Of, log2_room};
-ghost use Rattle.fixed_natural.specs.Exps.{IsExp};
-ghost use Rattle.fixed_natural.specs.Logs.{IsLn, IsLog10, log_room};
-ghost use Rattle.fixed_natural.specs.Pows.{IsPow};
-ghost use Rattle.fixed_turns.specs.Sines.{IsCosine, IsSine, sine_room};
 ghost use Rattle.fixed_convert.specs.Convert.{rounded_convert};
 ghost use Rattle.fixed_decimal.specs.Decimal.{decimal_row};
 ghost use Rattle.fixed_decimal.specs.Text.{shortest, text_of};
@@ -26,7 +19,8 @@ ghost use Rattle.fixed_c.specs.Answers.{ValueAnswers, at_fraction, row_or};
 ghost use Rattle.fixed_c.specs.Blocks.{BlockAnswers, at_policy};
 ghost use Rattle.fixed_c.specs.inside.Calls.{IsResultOf, given};
 ghost use Rattle.fixed_c.specs.Filters.{filter_of, fractions, output_in, past_after};
-ghost use Rattle.fixed_c.specs.Near.{NearAnswers, allowed, positive};
+ghost use Rattle.fixed_c.specs.Dots.{IsDot};
+ghost use Rattle.fixed_c.specs.Near.{allowed};
 ghost use Rattle.fixed_c.specs.Intervals.{difference_in, from_to, product_in, quotient_in, root_in, sum_in};
 ghost use Rattle.fixed_c.specs.Places.{PlaceAnswers, with_as_many};
 ghost use Rattle.fixed_c.specs.Polynomials.{horner_in};
@@ -36,7 +30,7 @@ ghost use Rattle.fixed_c.specs.Words.{AnswersU8, EndsU8Answers};
 
 use crate::answer::{Code, side_of};
 use crate::calls::{Call, result_of};
-use crate::{arrays, blocks, conversions, elementary, intervals, one_sign, texts};
+use crate::{arrays, blocks, conversions, dots, intervals, one_sign, texts};
 use fixed_filter::Shape;
 use fixed_word::Outcome;
 
@@ -392,106 +386,6 @@ pub extern "C" fn fixed_u8_recip_round(
     answer.take(Call::RecipRound(a, frac, rounding))
 }
 
-/// The length of the pair of `a` and `b`, rounded down.
-#[unsafe(no_mangle)]
-pub extern "C" fn fixed_u8_hypot(a: u8, b: u8, number: &mut u8) -> i32
-    ensures { NearAnswers pos false 8
-        allowed (λ r. r ≡ exact_hypot (pos a) (pos b))
-        number.old number.new result }
-{
-    elementary::hypot(a, b, number)
-}
-
-/// One over the square root of `a / 2^frac`, rounded down.
-#[unsafe(no_mangle)]
-pub extern "C" fn fixed_u8_recip_sqrt(a: u8, frac: u32, number: &mut u8) -> i32
-    ensures { NearAnswers pos false 8
-        (at_fraction 8 frac (positive (pos a))) (λ r. r ≡ exact_recip_sqrt (pos a) frac)
-        number.old number.new result }
-{
-    elementary::recip_sqrt(a, frac, number)
-}
-
-/// The logarithm of `a / 2^frac` to the base 2, rounded down, up to the bound of `IsLog2Of`.
-#[unsafe(no_mangle)]
-pub extern "C" fn fixed_u8_log2(a: u8, frac: u32, number: &mut u8) -> i32
-    ensures { NearAnswers pos false 8
-        (at_fraction 8 frac (positive (pos a))) (IsLog2Of (log2_room 8) (pos a) frac)
-        number.old number.new result }
-{
-    elementary::log2(a, frac, number)
-}
-
-/// The natural logarithm of `a / 2^frac`, rounded down, up to the bound of `IsLn`.
-#[unsafe(no_mangle)]
-pub extern "C" fn fixed_u8_ln(a: u8, frac: u32, number: &mut u8) -> i32
-    ensures { NearAnswers pos false 8
-        (at_fraction 8 frac (positive (pos a))) (IsLn (log_room 8) (pos a) frac)
-        number.old number.new result }
-{
-    elementary::ln(a, frac, number)
-}
-
-/// The logarithm of `a / 2^frac` to the base 10, rounded down, up to the bound of `IsLog10`.
-#[unsafe(no_mangle)]
-pub extern "C" fn fixed_u8_log10(a: u8, frac: u32, number: &mut u8) -> i32
-    ensures { NearAnswers pos false 8
-        (at_fraction 8 frac (positive (pos a))) (IsLog10 (log_room 8) (pos a) frac)
-        number.old number.new result }
-{
-    elementary::log10(a, frac, number)
-}
-
-/// 2 to the power of `a / 2^frac`, rounded down, up to the bound of `IsExp2Of`.
-#[unsafe(no_mangle)]
-pub extern "C" fn fixed_u8_exp2(a: u8, frac: u32, number: &mut u8) -> i32
-    ensures { NearAnswers pos false 8
-        (at_fraction 8 frac allowed) (IsExp2Of (exp2_room 8) (pos a) frac)
-        number.old number.new result }
-{
-    elementary::exp2(a, frac, number)
-}
-
-/// e to the power of `a / 2^frac`, rounded down, up to the bound of `IsExp`.
-#[unsafe(no_mangle)]
-pub extern "C" fn fixed_u8_exp(a: u8, frac: u32, number: &mut u8) -> i32
-    ensures { NearAnswers pos false 8
-        (at_fraction 8 frac allowed) (IsExp (pos a) frac)
-        number.old number.new result }
-{
-    elementary::exp(a, frac, number)
-}
-
-/// `a / 2^frac` to the power of `b / 2^frac`, rounded down, up to the bound of `IsPow`.
-#[unsafe(no_mangle)]
-pub extern "C" fn fixed_u8_pow(a: u8, b: u8, frac: u32, number: &mut u8) -> i32
-    ensures { NearAnswers pos false 8
-        (at_fraction 8 frac (positive (pos a))) (IsPow (pos a) (pos b) frac)
-        number.old number.new result }
-{
-    elementary::pow(a, b, frac, number)
-}
-
-/// The sine of `a / 2^frac` turns, rounded to the nearest, up to the bound of `IsSine`.
-#[unsafe(no_mangle)]
-pub extern "C" fn fixed_u8_sin_turns(a: u8, frac: u32, number: &mut u8) -> i32
-    ensures { NearAnswers pos false 8
-        (at_fraction 8 frac allowed) (IsSine (sine_room 8) (pos a) frac)
-        number.old number.new result }
-{
-    elementary::sin_turns(a, frac, number)
-}
-
-/// The cosine of `a / 2^frac` turns, rounded to the nearest, up to the bound of `IsCosine`.
-#[unsafe(no_mangle)]
-pub extern "C" fn fixed_u8_cos_turns(a: u8, frac: u32, number: &mut u8) -> i32
-    ensures { NearAnswers pos false 8
-        (at_fraction 8 frac allowed) (IsCosine (sine_room 8) (pos a) frac)
-        number.old number.new result }
-{
-    elementary::cos_turns(a, frac, number)
-}
-
 /// `number / 2^from` in units of `2^-to`, rounded, for a number of any signed word.
 #[unsafe(no_mangle)]
 pub extern "C" fn fixed_u8_convert(
@@ -835,4 +729,14 @@ pub extern "C" fn fixed_u8_mul_add_block(
         (block.old, place.old) (block.new, place.new) result }
 {
     blocks::mul_add(block, others, by, frac, policy, place)
+}
+
+/// The sum of the products of the numbers at the same places, over `2^frac` and rounded down once.
+#[unsafe(no_mangle)]
+pub extern "C" fn fixed_u8_dot(a: &[u8], b: &[u8], frac: u32, answer: &mut AnswerU8) -> i32
+    ensures { (found : Result ℤ Code)
+        × IsDot false (at_fraction 8 frac (with_as_many a.now b.now allowed)) (map pos a.now) (map pos b.now) frac found
+        × AnswersU8 found answer.old answer.new result }
+{
+    answer.leave(dots::dot(a, b, frac))
 }
