@@ -8,5 +8,5 @@ use Rattle.fixed_c.specs.Near.{Allowed}
 -- for operands that are allowed, the sum of the products over 2^f, rounded down once; or a code, if a partial sum does not
 -- fit in 128 bits
 unfoldable pub IsDot : Bool → Allowed → List ℤ → List ℤ → ℕ → Result ℤ Code → Type 0
-IsDot signed (Ok yes) xs ys f found = (found ≡ Ok (exact_dot xs ys f)) ⊎ ((found ≡ Err OutOfRange) × (SumsFit signed xs ys → ⊥))
+IsDot signed (Ok _) xs ys f found = (found ≡ Ok (exact_dot xs ys f)) ⊎ ((found ≡ Err OutOfRange) × (SumsFit signed xs ys → ⊥))
 IsDot signed (Err refusal) xs ys f found = found ≡ Err refusal

@@ -25,5 +25,5 @@ NumberAnswers value (Err refusal) old new code = (code ≡ code_number refusal) 
 
 -- for operands that are allowed a number has the property, and the call leaves it, or returns that it does not fit
 unfoldable pub NearAnswers : {T : Type 0} (value : T → ℤ) (signed : Bool) (n : ℕ) → Allowed → (ℤ → Type 0) → T → T → ℤ → Type 0
-NearAnswers value signed n (Ok yes) Is old new code = (r : ℤ) × Is r × NumberAnswers value (row_or OutOfRange (checked signed n (Some r))) old new code
+NearAnswers value signed n (Ok _) Is old new code = (r : ℤ) × Is r × NumberAnswers value (row_or OutOfRange (checked signed n (Some r))) old new code
 NearAnswers value signed n (Err refusal) Is old new code = (code ≡ code_number refusal) × (new ≡ old)
