@@ -20,7 +20,7 @@ impl Iterator for Draws {
 }
 
 fn words<T: Castable>(draws: &mut Draws, count: usize, down: u32) -> Vec<T> {
-    let wide = |bits: u64| T::from_wide(i128::from(bits.cast_signed() >> down));
+    let wide = |bits: u64| T::from_wide(i128::from((bits as i64) >> down));
     draws.take(count).map(wide).collect()
 }
 
