@@ -24,4 +24,4 @@ loop-at-preserved g c =
     let next = next_sum value c.args.a.now c.args.b.now c.loop-at.at x y (omega arith) c.requires.lengths c.index-a-at.is c.index-b-at.is in
     let same : to_z w128 (of_z w128 c.in-Some.more) ≡ c.in-Some.more = search rules in
     let more = rw (a, b) at c.in-Some.ensures.some in
-    record { sum = same ∙ (more ∙ (ap (λ (s : ℤ). s +ℤ (value x *ℤ value y)) c.loop-at.invariant.sum ∙ sym next)); }
+    record { sum = same ∙ (more ∙ (ap (λ (s : ℤ). s +ℤ (value x *ℤ value y)) c.loop-at.invariant.sum ∙ sym next)) }

@@ -12,4 +12,4 @@ pub loop-at-preserved : goal.loop-at-preserved
 loop-at-preserved g c =
     let value = g.T.Valued.value in
     let next = unsigned_next value g.T.RawWord.SIGNED g.T.Valued.BITS c.args.a.now c.args.b.now c.loop-at.at c.index-a-at.result c.index-b-at.result c.loop-at.sum _ _ c.requires.sign (omega arith) c.requires.lengths c.index-a-at.is c.index-b-at.is c.magnitude.ensures.in_range c.magnitude-in-loop-at.ensures.in_range c.magnitude.ensures.magnitude c.magnitude-in-loop-at.ensures.magnitude c.loop-at.invariant.sum in
-    record { sum = ap pos c.in-Some.ensures.some ∙ next; }
+    record { sum = ap pos c.in-Some.ensures.some ∙ next }
