@@ -1,11 +1,12 @@
-"""Measures each operation of the face for C beside the same operation by hand (bench/by_hand.c), both by gcc -O2, and
-where libfixmath is installed (Debian's libfixmath-dev), six operations beside those of libfixmath (bench/fixmath.c).
+"""Measures each operation of the face for C beside the same operation by hand (bench/by_hand.c), both by gcc -O2; each
+call over a block, and the dot product, beside its loop by hand (bench/blocks.c), by gcc -O3; and where libfixmath is
+installed (Debian's libfixmath-dev), six operations beside those of libfixmath (bench/fixmath.c).
 
     python3 bench/face.py [LIBRARY] [ROUNDS]
 
 LIBRARY is the static library: crates/fixed_c/out/libfixed_c.a, which `rt lib` in crates/fixed_c makes, or
-target/release/libfixed_c.a of the Cargo package in rust/c. Nanoseconds a call, with the call and its loop; both sides
-run in turn, have to answer alike, and the least counts. libfixmath may differ by one unit, since it rounds otherwise.
+target/release/libfixed_c.a of the Cargo package in rust/c. Nanoseconds a call, with the call and its loop, or a number of a
+block; both sides run in turn, have to answer alike, and the least counts. libfixmath may differ by one unit, since it rounds otherwise.
 """
 import subprocess
 import sys
@@ -16,9 +17,9 @@ TOP = Path(__file__).resolve().parent.parent
 COMPILER = ["gcc", "-O2", "-std=gnu99", "-Wall", "-Wextra", "-I", TOP / "include"]
 
 
-def built(program, inputs):
+def built(program, inputs, flags=()):
     """The program that is compiled of a source in bench/ and linked with the other inputs."""
-    subprocess.run([*COMPILER, "-o", program, TOP / f"bench/{program.name}.c", *inputs], check=True)
+    subprocess.run([*COMPILER, *flags, "-o", program, TOP / f"bench/{program.name}.c", *inputs], check=True)
     return program
 
 
@@ -39,7 +40,7 @@ def least_times(program, rounds):
 def print_table(least, other_side):
     print(f"{'':<28} {'here':>8} {other_side:>10} {'ratio':>6}")
     for name, (here, other) in least.items():
-        print(f"{name:<28} {here:8.2f} {other:10.2f} {here / other:6.2f}")
+        print(f"{name:<28} {here:8.3f} {other:10.3f} {here / other:6.2f}")
 
 
 def has_fixmath():
@@ -55,6 +56,10 @@ def main():
         by_hand = folder / "by_hand.o"
         subprocess.run([*COMPILER, "-c", "-o", by_hand, TOP / "bench/by_hand.c"], check=True)
         print_table(least_times(built(folder / "face", [by_hand, library]), rounds), "by hand")
+        print()
+        # A loop by hand for unsigned words tests whether a number is below 0 as well.
+        blocks = built(folder / "blocks", [library], ["-O3", "-Wno-type-limits"])
+        print_table(least_times(blocks, rounds), "by hand")
         if has_fixmath():
             print()
             print_table(least_times(built(folder / "fixmath", [library, "-llibfixmath"]), rounds), "libfixmath")

@@ -1,8 +1,9 @@
 /* Every pair of operands of 8 bits, for each operation of the face for C at three fractions, against a plain
  * computation in 64 bits, with each rounding; bad fractions, zero divisors and negative roots by their codes. Numbers of
  * other formats and doubles into 8 bits, and numbers of every word as doubles. Texts that are drawn, read; and each number
- * of 8 bits at each fraction as text, as printf prints it. Intervals over samples of ends, and polynomials and filters
- * over arrays that are drawn, against plain loops; each code. By every word, blocks beside single calls, and null pointers
+ * of 8 bits at each fraction as text, as printf prints it. Elementary functions of numbers of every word that are drawn,
+ * beside those of long doubles. Intervals over samples of ends, and polynomials and filters
+ * and sums of products over arrays that are drawn, against plain loops; each code. By every word, blocks beside single calls, and null pointers
  * to arrays whose count is 0.
  * From the top:
  *
@@ -11,6 +12,7 @@
  * LIBRARY is crates/fixed_c/out/libfixed_c.a, which `rt lib` in crates/fixed_c makes, or target/release/libfixed_c.a
  * of the Cargo package in rust/c. */
 #include "fixed.h"
+#include <float.h>
 #include <math.h>
 #include <stdio.h>
 #include <string.h>
@@ -530,6 +532,77 @@ static struct exact_ends plain_ends(int64_t low, int64_t high) {
 CHECK_MORE(fixed_i8, int8_t, INT8_MIN, INT8_MAX)
 CHECK_MORE(fixed_u8, uint8_t, 0, UINT8_MAX)
 
+/* The largest root of a^2 + b^2, as a long double: exact up to words of 32 bits. */
+static long double length_of(long double a, long double b) {
+  long double x = floorl(sqrtl(a * a + b * b));
+  while (x * x > a * a + b * b) x -= 1;
+  return x;
+}
+
+/* A call leaves a whole number of units, which an exact value is rounded down to, or to which it is as near as the bound of
+ * its function; or it does not fit. */
+static void compare_near(const char *call, int32_t want, long double exact, long double part, int32_t got, long double left,
+                         long double least, long double greatest) {
+  const long double low = floorl(exact - part), high = floorl(exact + part);
+  int good = got == want && left == 77;
+  if (want == FIXED_OK && got == FIXED_OK) good = low <= left && left <= high;
+  if (want == FIXED_OK && got == FIXED_OUT_OF_RANGE) good = left == 77 && (low < least || high > greatest);
+  compared++;
+  if (!good) {
+    printf("%s: code %d, %.0Lf, but by long doubles %d, %.6Lf\n", call, (int)got, left, (int)want, exact);
+    exit(1);
+  }
+}
+
+#define NEAR(name, operation, want, exact, share, ...)                                                             \
+  {                                                                                                                \
+    const long double x = (exact);                                                                                 \
+    word_of_##name number = 77;                                                                                    \
+    const int32_t got = name##_##operation(__VA_ARGS__, &number);                                                  \
+    const long double part = ldexpl(1, -18) + fabsl(share) * ldexpl(1, -54);                                       \
+    compare_near(#name "_" #operation, f > bits ? FIXED_FRACTION_PAST_WIDTH : want, x, part, got,                  \
+                 (long double)number, least, greatest);                                                            \
+  }
+
+/* Functions of numbers that are drawn. Those of 64 bits need a long double of as many. */
+#define CHECK_ELEMENTARY(name, word, width, from_end, to_end)                                                      \
+  typedef word word_of_##name;                                                                                     \
+  static void check_elementary_##name(void) {                                                                      \
+    const long double least = (long double)from_end, greatest = (long double)to_end;                               \
+    const uint32_t bits = width;                                                                                   \
+    for (int tried = 0; tried < 100000 && (bits < 64 || LDBL_MANT_DIG >= 64); tried++) {                           \
+      const word a = (word)((draw(INT64_MIN / 4, INT64_MAX / 4) * 7) >> draw(0, 63));                              \
+      const word b = (word)((draw(INT64_MIN / 4, INT64_MAX / 4) * 7) >> draw(0, 63));                              \
+      const uint32_t f = (uint32_t)draw(0, width + 1);                                                             \
+      const int32_t above = a > 0 ? FIXED_OK : FIXED_NOT_POSITIVE;                                                 \
+      const long double unit = ldexpl(1, -(int)f), of_a = (long double)a * unit, of_b = (long double)b * unit;     \
+      const long double angle = 2 * acosl(-1) * fmodl(of_a, 1), logs = 64 * unit + 64 / unit;                      \
+      const long double power = powl(of_a, of_b) / unit;                                                           \
+      if (f <= bits && bits < 64) {                                                                                \
+        const uint32_t f = 0;                                                                                      \
+        NEAR(name, hypot, FIXED_OK, length_of((long double)a, (long double)b), 0.0L, a, b)                         \
+      }                                                                                                            \
+      NEAR(name, recip_sqrt, above, 1 / sqrtl(of_a) / unit, 1 / sqrtl(of_a) / unit, a, f)                          \
+      NEAR(name, log2, above, log2l(of_a) / unit, logs, a, f)                                                      \
+      NEAR(name, ln, above, logl(of_a) / unit, logs, a, f)                                                         \
+      NEAR(name, log10, above, log10l(of_a) / unit, logs, a, f)                                                    \
+      NEAR(name, exp2, FIXED_OK, exp2l(of_a) / unit, exp2l(of_a) / unit, a, f)                                     \
+      NEAR(name, exp, FIXED_OK, expl(of_a) / unit, expl(of_a) / unit, a, f)                                        \
+      NEAR(name, pow, above, power, power, a, b, f)                                                                \
+      NEAR(name, sin_turns, FIXED_OK, sinl(angle) / unit + 0.5L, 1 / unit, a, f)                                   \
+      NEAR(name, cos_turns, FIXED_OK, cosl(angle) / unit + 0.5L, 1 / unit, a, f)                                   \
+    }                                                                                                              \
+  }
+
+CHECK_ELEMENTARY(fixed_i8, int8_t, 8, INT8_MIN, INT8_MAX)
+CHECK_ELEMENTARY(fixed_i16, int16_t, 16, INT16_MIN, INT16_MAX)
+CHECK_ELEMENTARY(fixed_i32, int32_t, 32, INT32_MIN, INT32_MAX)
+CHECK_ELEMENTARY(fixed_i64, int64_t, 64, INT64_MIN, INT64_MAX)
+CHECK_ELEMENTARY(fixed_u8, uint8_t, 8, 0, UINT8_MAX)
+CHECK_ELEMENTARY(fixed_u16, uint16_t, 16, 0, UINT16_MAX)
+CHECK_ELEMENTARY(fixed_u32, uint32_t, 32, 0, UINT32_MAX)
+CHECK_ELEMENTARY(fixed_u64, uint64_t, 64, 0, UINT64_MAX)
+
 /* Blocks that are drawn, by each policy, beside the single calls. */
 #define BLOCK_CALL(name, operation, single, of_block)                                                              \
   for (uint32_t policy = 0; policy < 4; policy++) {                                                                \
@@ -593,6 +666,51 @@ CHECK_MORE(fixed_u8, uint8_t, 0, UINT8_MAX)
     }                                                                                                              \
   }
 
+/* The sum of the products, beside single sums and products in a wider integer. */
+#define CHECK_DOTS(name, word, width, down, from_end, to_end)                                                      \
+  static void check_dots_##name(void) {                                                                            \
+    enum { most = 37 };                                                                                            \
+    const int64_t least = from_end, greatest = (int64_t)to_end;                                                    \
+    word a[most], b[most];                                                                                         \
+    for (int tried = 0; tried < 3000; tried++) {                                                                   \
+      const size_t count = (size_t)draw(0, most);                                                                  \
+      const uint32_t drawn = (uint32_t)draw(0, width + 1), f = drawn == 63 || drawn == 64 ? 62 : drawn;            \
+      const int by_bits = (int)draw(down, width - 1);                                                              \
+      int64_t sum = 0;                                                                                             \
+      for (size_t i = 0; i < count; i++) {                                                                         \
+        a[i] = (word)((word)draw(INT64_MIN / 2, INT64_MAX / 2) >> by_bits);                                        \
+        b[i] = (word)((word)draw(INT64_MIN / 2, INT64_MAX / 2) >> by_bits);                                        \
+        sum += (int64_t)a[i] * (int64_t)b[i];                                                                      \
+      }                                                                                                            \
+      const struct exact want = f > width ? code(FIXED_FRACTION_PAST_WIDTH) : number(floor_of(sum, power(f)));     \
+      const struct exact differ = f > width ? want : code(FIXED_COUNTS_DIFFER);                                    \
+      word bits = 77;                                                                                              \
+      name result = {bits, 99};                                                                                    \
+      int32_t got = name##_dot(a, count, b, count, f, &result);                                                    \
+      compared++;                                                                                                  \
+      if (want.code == FIXED_OK) bits = (word)want.number;                                                         \
+      const int32_t side = want.code != FIXED_OK ? 99                                                              \
+                           : want.number < least ? FIXED_BELOW                                                     \
+                           : want.number > greatest ? FIXED_ABOVE                                                  \
+                                                    : FIXED_FITS;                                                  \
+      const int good = got == want.code && result.bits == bits && result.side == side;                             \
+      got = name##_dot(a, count, b, count + 1, f, &result);                                                        \
+      if (!good || got != differ.code || result.bits != bits || result.side != side) {                             \
+        printf(#name "_dot: code %d, bits %lld, side %d\n", (int)got, (long long)result.bits, (int)result.side);   \
+        exit(1);                                                                                                   \
+      }                                                                                                            \
+    }                                                                                                              \
+  }
+
+CHECK_DOTS(fixed_i8, int8_t, 8, 0, INT8_MIN, INT8_MAX)
+CHECK_DOTS(fixed_i16, int16_t, 16, 0, INT16_MIN, INT16_MAX)
+CHECK_DOTS(fixed_i32, int32_t, 32, 4, INT32_MIN, INT32_MAX)
+CHECK_DOTS(fixed_i64, int64_t, 64, 36, INT64_MIN, INT64_MAX)
+CHECK_DOTS(fixed_u8, uint8_t, 8, 0, 0, UINT8_MAX)
+CHECK_DOTS(fixed_u16, uint16_t, 16, 0, 0, UINT16_MAX)
+CHECK_DOTS(fixed_u32, uint32_t, 32, 4, 0, UINT32_MAX)
+CHECK_DOTS(fixed_u64, uint64_t, 64, 36, 0, INT64_MAX)
+
 #define convert_SIGNED(name, x, from, to, r) name##_convert(x, from, to, r, &result)
 #define convert_UNSIGNED(name, x, from, to, r) name##_convert_unsigned(x, from, to, r, &result)
 #define SIGNED_BLOCKS(name) \
@@ -639,10 +757,13 @@ static void compare_code(const char *call, int32_t want, int32_t got) {
     compare_code(#name "_neg_block", FIXED_OK, name##_neg_block(NULL, 0, FIXED_CHECKED, &place));                  \
     compare_code(#name "_add_block", FIXED_OK, name##_add_block(NULL, 0, NULL, 0, FIXED_WRAPPING, &place));        \
     compare_code(#name "_add_block", FIXED_COUNTS_DIFFER, name##_add_block(past, 1, NULL, 0, 0, &place));          \
+    compare_code(#name "_dot", FIXED_COUNTS_DIFFER, name##_dot(taps, 1, NULL, 0, 4, &answer));                     \
     if (past[0] != 5 || left != 77 || place != 78 || answer.bits != 1 || answer.side != 2) {                       \
       printf(#name ": a call that returned a code has written\n");                                                 \
       exit(1);                                                                                                     \
     }                                                                                                              \
+    compare_code(#name "_dot", FIXED_OK, name##_dot(NULL, 0, NULL, 0, 4, &answer));                                \
+    compare_code(#name "_dot: bits", 0, (int32_t)answer.bits);                                                     \
   }
 
 CHECK_NULL(fixed_i8, int8_t)
@@ -664,8 +785,12 @@ int main(void) {
   check_doubles_fixed_u8(), check_doubles_fixed_u16(), check_doubles_fixed_u32(), check_doubles_fixed_u64();
   check_texts_fixed_i8(), check_texts_fixed_u8();
   check_ends_fixed_i8(), check_ends_fixed_u8();
+  check_elementary_fixed_i8(), check_elementary_fixed_i16(), check_elementary_fixed_i32(), check_elementary_fixed_i64();
+  check_elementary_fixed_u8(), check_elementary_fixed_u16(), check_elementary_fixed_u32(), check_elementary_fixed_u64();
   check_blocks_fixed_i8(), check_blocks_fixed_i16(), check_blocks_fixed_i32(), check_blocks_fixed_i64();
   check_blocks_fixed_u8(), check_blocks_fixed_u16(), check_blocks_fixed_u32(), check_blocks_fixed_u64();
+  check_dots_fixed_i8(), check_dots_fixed_i16(), check_dots_fixed_i32(), check_dots_fixed_i64();
+  check_dots_fixed_u8(), check_dots_fixed_u16(), check_dots_fixed_u32(), check_dots_fixed_u64();
   check_horner_fixed_i8(), check_horner_fixed_u8();
   check_filter_fixed_i8(), check_filter_fixed_u8();
   printf("%ld calls answer as plain C does\n", compared);

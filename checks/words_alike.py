@@ -3,10 +3,10 @@
 
     python3 checks/words_alike.py
 
-The files of signed words have to be signed_8.rt with the width exchanged, and those of unsigned words likewise
-unsigned_8.rt, letter by letter, but for the bytes of texts. unsigned_8.rt has to be signed_8.rt with the word exchanged,
-item by item and in order, but for the imports of contracts, the conversion of a word to its value, and the calls that one
-sign alone has.
+The files of signed words have to be signed_8.rt and signed_8_functions.rt with the width exchanged, and those of unsigned
+words likewise unsigned_8.rt and unsigned_8_functions.rt, letter by letter, but for the bytes of texts. Both files of
+unsigned_8 have to be those of signed_8 with the word exchanged, item by item and in order, but for the imports of contracts,
+the conversion of a word to its value, and the calls that one sign alone has.
 Silent with status 0 if so; otherwise it names each place that differs and ends with 1.
 """
 import re
@@ -16,6 +16,7 @@ from pathlib import Path
 
 TOP = Path(__file__).resolve().parent.parent
 FOLDER = TOP / "crates/fixed_c/src"
+PARTS = ["", "_functions"]
 SIGNED_ALONE = ["fixed_u8_abs", "fixed_u8_signum", "fixed_u8_abs_block"]
 UNSIGNED_ALONE = ["fixed_u8_next_power_of_two"]
 
@@ -25,14 +26,14 @@ def source(name):
     return re.sub(r"(decimal|buffer): (&(?:mut )?)\[u8\]", r"\1: \2[byte]", text)
 
 
-def differing_widths(sign):
+def differing_widths(sign, part):
     """The first line of each wider word's file that is not that of 8 bits."""
     for width in ["16", "32", "64"]:
-        expected = source(f"{sign}_8").replace("8", width).splitlines()
-        lines = zip_longest(expected, source(f"{sign}_{width}").splitlines())
+        expected = source(f"{sign}_8{part}").replace("8", width).splitlines()
+        lines = zip_longest(expected, source(f"{sign}_{width}{part}").splitlines())
         for number, (want, got) in enumerate(lines, 1):
             if want != got:
-                yield f"{sign}_{width}.rt:{number}: other than {sign}_8.rt: {got}"
+                yield f"{sign}_{width}{part}.rt:{number}: other than {sign}_8{part}.rt: {got}"
                 break
 
 
@@ -50,18 +51,20 @@ def items(text, alone):
     return [item for item in joined if not any(f"fn {name}(" in item for name in alone)]
 
 
-def differing_signs():
+def differing_signs(part):
     """The first item of the unsigned word that is not that of the signed one."""
-    signed = items(as_unsigned(source("signed_8")), SIGNED_ALONE)
-    unsigned = items(source("unsigned_8"), UNSIGNED_ALONE)
+    signed = items(as_unsigned(source(f"signed_8{part}")), SIGNED_ALONE)
+    unsigned = items(source(f"unsigned_8{part}"), UNSIGNED_ALONE)
     for want, got in zip_longest(signed, unsigned):
         if want != got:
-            return [f"unsigned_8.rt: other than signed_8.rt: {got}"]
+            return [f"unsigned_8{part}.rt: other than signed_8{part}.rt: {got}"]
     return []
 
 
 def main():
-    wrong = [*differing_widths("signed"), *differing_widths("unsigned"), *differing_signs()]
+    wrong = []
+    for part in PARTS:
+        wrong += [*differing_widths("signed", part), *differing_widths("unsigned", part), *differing_signs(part)]
     print("\n".join(wrong), end="\n" if wrong else "")
     return 1 if wrong else 0
 

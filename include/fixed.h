@@ -13,9 +13,9 @@
  * on which the exact result lies. One of five policies makes a number of it: checked, saturating, wrapping,
  * overflowing or strict.
  *
- * Other calls compute with intervals, read and write decimal text, or work on arrays: on blocks, in which an
- * operation writes each result over its operand; on the coefficients of a polynomial; and on the taps of a filter. If
- * a result does not fit, a call on arrays writes its index.
+ * Other calls are elementary functions, whose result is a number; compute with intervals; read and write decimal text;
+ * or work on arrays: on blocks, in which an operation writes each result over its operand; on the coefficients of a
+ * polynomial; and on the taps of a filter. If a result does not fit, a call on arrays writes its index.
  *
  * Nothing checks pointers. The program must guarantee that a pointer to a result points to a whole, aligned object
  * that nothing else reads or writes during the call; it may hold anything before. An array must be aligned,
@@ -45,7 +45,7 @@ enum {
   FIXED_ZERO_DIVISOR = 2,        /* the divisor is 0 */
   FIXED_NEGATIVE_ROOT = 3,       /* the operand of a root is below 0 */
   FIXED_ENDS_EXCHANGED = 4,      /* the low end of an interval is above its high one */
-  FIXED_OUT_OF_RANGE = 5,        /* an end, the value of a step or a partial sum does not fit the word */
+  FIXED_OUT_OF_RANGE = 5,        /* an end, a number, the value of a step or a partial sum does not fit */
   FIXED_NO_ELEMENT = 6,          /* there is no coefficient, or no tap */
   FIXED_COUNTS_DIFFER = 7,       /* there are not as many past samples as taps */
   FIXED_NO_ROUNDING = 8,         /* no rounding has the number */
@@ -55,7 +55,8 @@ enum {
   FIXED_TOO_MANY_POINTS = 12,    /* the text has a second point */
   FIXED_TOO_MANY_PLACES = 13,    /* more than 64 digits after the point are requested */
   FIXED_NO_ROOM = 14,            /* the text and its '\0' do not fit into the buffer */
-  FIXED_NO_POLICY = 15           /* no policy of blocks has the number */
+  FIXED_NO_POLICY = 15,          /* no policy of blocks has the number */
+  FIXED_NOT_POSITIVE = 16        /* the operand of a reciprocal root, a logarithm or a power is not above 0 */
 };
 
 /* How a number between two units is rounded, where a call takes a rounding. */
@@ -155,6 +156,39 @@ enum {
   /* the double nearest to a / 2^frac, and of two as near the one whose last bit is 0, is left in *value */        \
   int32_t name##_to_double(word a, uint32_t frac, double *value);
 
+/* Elementary functions, which leave a number of the word in *number. A fraction that is too large returns
+ * FIXED_FRACTION_PAST_WIDTH, then an operand of a reciprocal root, a logarithm or a power that is not above 0
+ * FIXED_NOT_POSITIVE, and then a result that does not fit FIXED_OUT_OF_RANGE.
+ *
+ * hypot and recip_sqrt are exact, rounded down. The others are rounded down too, and may differ from that by a unit:
+ *
+ *   log2         one unit less, if the logarithm lies less than 2^-k units above a whole number of units; frac + k is 62,
+ *                or 126 in words of 64 bits. The logarithm of a power of two is exact
+ *   exp2         one unit less, if the power lies less than a factor of 2^(2^-k) above a whole number of units; k is 54,
+ *                or 117 in words of 64 bits. A power with a whole exponent is exact
+ *   ln, log10    the next unit, if the logarithm lies less than 2^-k units below it; k is 24, or 32 in words of 64 bits
+ *   exp, pow     the next unit, if the power lies less than a factor of 2^(2^-k) below it; k is 61 for exp, and 55 for
+ *                pow. In words of 64 bits that may be several units: at most 6 for exp, and 355 for pow
+ *
+ * Sines and cosines are rounded to the nearest: they differ from the exact value by half a unit and 2^-k units at most; k
+ * is 41, or 61 in words of 64 bits. The sines of 0, 1/4, 1/2 and 3/4 are exact. */
+#define FIXED_ELEMENTARY(name, word)                                                                               \
+  /* the root of a^2 + b^2 */                                                                                      \
+  int32_t name##_hypot(word a, word b, word *number);                                                              \
+  /* one over the root of a */                                                                                     \
+  int32_t name##_recip_sqrt(word a, uint32_t frac, word *number);                                                  \
+  /* the logarithm of a to the base 2, e or 10 */                                                                  \
+  int32_t name##_log2(word a, uint32_t frac, word *number);                                                        \
+  int32_t name##_ln(word a, uint32_t frac, word *number);                                                          \
+  int32_t name##_log10(word a, uint32_t frac, word *number);                                                       \
+  /* 2 to the power of a; e to the power of a; a to the power of b */                                              \
+  int32_t name##_exp2(word a, uint32_t frac, word *number);                                                        \
+  int32_t name##_exp(word a, uint32_t frac, word *number);                                                         \
+  int32_t name##_pow(word a, word b, uint32_t frac, word *number);                                                 \
+  /* the sine and the cosine of an angle of a turns: 1/4 is a right angle */                                       \
+  int32_t name##_sin_turns(word a, uint32_t frac, word *number);                                                   \
+  int32_t name##_cos_turns(word a, uint32_t frac, word *number);
+
 /* Decimal text. A fraction that is too large returns FIXED_FRACTION_PAST_WIDTH, then more than 64 places
  * FIXED_TOO_MANY_PLACES, and then a number that no rounding has FIXED_NO_ROUNDING. The longest text has 86 bytes. */
 #define FIXED_TEXTS(name, word)                                                                                    \
@@ -220,7 +254,11 @@ enum {
                            uint32_t policy, size_t *place);                                                        \
   /* x + y by / 2^frac, the product rounded down */                                                                \
   int32_t name##_mul_add_block(word *block, size_t count, const word *others, size_t others_count, word by,        \
-                               uint32_t frac, uint32_t policy, size_t *place);
+                               uint32_t frac, uint32_t policy, size_t *place);                                     \
+  /* the sum of the products of two arrays, number by number, over 2^frac and rounded down once. A fraction that is\
+   * too large returns FIXED_FRACTION_PAST_WIDTH, and then another count of the other array FIXED_COUNTS_DIFFER. In\
+   * words of 64 bits FIXED_OUT_OF_RANGE, only if the sum of some products at the front does not fit in 128 bits */\
+  int32_t name##_dot(const word *a, size_t a_count, const word *b, size_t b_count, uint32_t frac, name *result);
 
 /* The calls of signed words alone: the magnitude of a, and of each number of a block; one by the sign of a, 2^frac, 0
  * or -2^frac. */
@@ -268,6 +306,7 @@ enum {
   FIXED_CALLS(name, word)                         \
   FIXED_ROUNDED_CALLS(name, word)                 \
   FIXED_CONVERSIONS(name, word)                   \
+  FIXED_ELEMENTARY(name, word)                    \
   FIXED_TEXTS(name, word)                         \
   FIXED_INTERVAL_CALLS(name, word)                \
   FIXED_ARRAY_CALLS(name, word)                   \
@@ -281,6 +320,7 @@ enum {
   FIXED_CALLS(name, word)                    \
   FIXED_ROUNDED_CALLS(name, word)            \
   FIXED_CONVERSIONS(name, word)              \
+  FIXED_ELEMENTARY(name, word)               \
   FIXED_TEXTS(name, word)                    \
   FIXED_INTERVAL_CALLS(name, word)           \
   FIXED_ARRAY_CALLS(name, word)              \

@@ -25,5 +25,11 @@ int main(void) {
   fixed_i16_interval times;
   printf("%d\n", (int)fixed_i16_div_in(2560, 2560, 511, 513, 8, &times));
   printf("%d to %d\n", times.low, times.high);
+
+  /* The level of a signal in decades: that of 100 is 2. A signal of 0 has none. */
+  int16_t decades;
+  printf("%d\n", (int)fixed_i16_log10(25600, 8, &decades));
+  printf("%d\n", decades);
+  printf("%d\n", (int)fixed_i16_log10(0, 8, &decades));
   return 0;
 }

@@ -5,10 +5,12 @@
 //! first element whose exact result does not fit. All of this is this project's own.
 #![tactic(auto)]
 
+mod dots;
 mod each;
 mod operations;
 mod pairs;
 
+pub use dots::dot_of;
 pub use each::{Each, checked_each, saturating_each, wrapping_each};
-pub use operations::{Abs, Add, Convert, Dist, Mul, MulAdd, MulInt, Neg, Scale, Sub};
+pub use operations::{Abs, Add, Convert, Dist, Mul, MulAdd, MulInt, Neg, Raise, Scale, Sub};
 pub use pairs::{Pairs, checked_pairs, saturating_pairs, wrapping_pairs};

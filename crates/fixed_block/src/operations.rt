@@ -8,7 +8,7 @@ use crate::each::Each;
 use crate::pairs::Pairs;
 use fixed_convert::{Castable, convert_round_of};
 use fixed_kernel::{abs_of, add_of, dist_of, mul_add_of, mul_int_of, mul_of, neg_of, sub_of};
-use fixed_word::{Outcome, Rounding, SignedWord, Word};
+use fixed_word::{Arithmetic, Integer, Outcome, Rounding, SignedWord, Word, outcome_of_whole};
 
 /// `-x`
 #[derive(Clone, Copy, Debug)]
@@ -122,6 +122,30 @@ impl<T: Castable> Each<T> for Convert {
     #[inline(always)]
     fn outcome(&self, x: T) -> Outcome<T> {
         convert_round_of(x, self.from, self.to, self.rounding)
+    }
+}
+
+/// A conversion to as many fraction bits or more, which rounds nothing. Loops shift by one number. Preconditions: `from` is at
+/// most `to`, and `to` is at most the width.
+#[derive(Clone, Copy, Debug)]
+pub struct Raise {
+    /// The conversion.
+    pub convert: Convert,
+}
+
+impl<T: Castable> Each<T> for Raise {
+    ghost exact = { λ s x. rounded_convert x s.convert.from s.convert.to s.convert.rounding };
+
+    ghost each_ready = { λ s. (s.convert.from ≤ s.convert.to) × (s.convert.to ≤ T.BITS) };
+
+    #[inline(always)]
+    fn is_ready(&self) -> bool {
+        self.convert.from <= self.convert.to && self.convert.to <= T::BITS
+    }
+
+    #[inline(always)]
+    fn outcome(&self, x: T) -> Outcome<T> {
+        outcome_of_whole(x.whole().scaled(self.convert.to - self.convert.from))
     }
 }
 

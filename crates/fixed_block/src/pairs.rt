@@ -64,8 +64,8 @@ pub fn checked_pairs<T: Word, O: Pairs<T>>(
     ensures block { map T.value block.new
         ≡ checked_block T.SIGNED T.BITS (of_pairs (O.exact operation.now) (map T.value block.old) (map T.value others.now)) (map T.value block.old) }
 {
-    for (at, other) in others.iter().enumerate() {
-        match checked_of(operation.outcome(block[at], *other)) {
+    for at in 0..block.len() {
+        match checked_of(operation.outcome(block[at], others[at])) {
             Some(number) => block[at] = number,
             None => return Some(at),
         }

@@ -3,3 +3,4 @@ pub mod Choices
 pub mod EndsLeft
 pub mod PlacesLeft
 pub mod Unread
+pub mod NumbersLeft

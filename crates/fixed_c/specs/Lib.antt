@@ -7,4 +7,6 @@ pub mod Words
 pub mod Roundings
 pub mod Texts
 pub mod Blocks
+pub mod Near
+pub mod Dots
 pub mod inside

@@ -38,6 +38,8 @@ pub enum Code {
     NoRoom,
     /// No policy has the number.
     NoPolicy,
+    /// The operand of a reciprocal root, a logarithm or a power is not above 0.
+    NotPositive,
 }
 
 impl Code {
@@ -62,6 +64,7 @@ impl Code {
             Code::TooManyPlaces => 13,
             Code::NoRoom => 14,
             Code::NoPolicy => 15,
+            Code::NotPositive => 16,
         }
     }
 }

@@ -13,7 +13,7 @@ ghost use Rattle.fixed_c.specs.Roundings.{at_rounding};
 use crate::answer::Code;
 use crate::rounded::rounding_of;
 use fixed_block::{
-    Abs, Add, Convert, Each, Mul, MulAdd, MulInt, Neg, Pairs, Scale, Sub, checked_each,
+    Abs, Add, Convert, Each, Mul, MulAdd, MulInt, Neg, Pairs, Raise, Scale, Sub, checked_each,
     checked_pairs, saturating_each, saturating_pairs, wrapping_each, wrapping_pairs,
 };
 use fixed_convert::Castable;
@@ -237,5 +237,10 @@ pub(crate) fn convert<T: Castable>(
     let Some(rounding) = rounding_of(rounding) else {
         return Code::NoRounding.number();
     };
-    each(&Convert { from, to, rounding }, policy, block, place)
+    let convert = Convert { from, to, rounding };
+    if from <= to {
+        each(&Raise { convert }, policy, block, place)
+    } else {
+        each(&convert, policy, block, place)
+    }
 }

@@ -1,0 +1,99 @@
+//! The sum of the products of two blocks, which is rounded once.
+
+ghost use Rattle.std.specs.Prelude.{◌≡◌, ◌≤◌, ◌<◌, ◌+◌, ◌*◌, ◌^◌, ◌+ℤ◌, ◌*ℤ◌, true, false, IfSome, IsNone, length, map, nat_abs, pos};
+ghost use Rattle.fixed_word.specs.Format.{InRange};
+ghost use Rattle.fixed_word.specs.Quotient.{floor_quotient};
+ghost use Rattle.fixed_word.specs.Standing.{StandsFor};
+ghost use Rattle.fixed_block.specs.Dots.{SumsFit, exact_dot, partial_sum};
+
+use fixed_convert::Castable;
+use fixed_word::{Integer, Outcome, RawWord, Valued, outcome_of};
+
+/// A sum and a product of numbers of 64 bits, or None if that does not fit.
+#[inline(always)]
+fn signed_added(sum: i128, x: i128, y: i128) -> Option<i128>
+    requires x { nat_abs x ≤ 2 ^ 63 }
+    requires y { nat_abs y ≤ 2 ^ 63 }
+    ensures some { IfSome result (λ more. more ≡ sum +ℤ x *ℤ y) }
+    ensures none { IsNone result → InRange true 128 (sum +ℤ x *ℤ y) → ⊥ }
+{
+    sum.checked_add(x * y)
+}
+
+/// The same of unsigned numbers.
+#[inline(always)]
+fn unsigned_added(sum: u128, x: u64, y: u64) -> Option<u128>
+    ensures some { IfSome result (λ more. more ≡ sum + x * y) }
+    ensures none { IsNone result → sum + x * y < 2 ^ 128 → ⊥ }
+{
+    sum.checked_add(u128::from(x) * u128::from(y))
+}
+
+/// The sum of the products of signed words, or None if a partial sum does not fit.
+#[inline(always)]
+fn signed_sum<T: Castable>(a: &[T], b: &[T]) -> Option<i128>
+    requires sign { T.SIGNED ≡ true }
+    requires lengths { length a.now ≡ length b.now }
+    ensures sum { IfSome result (λ sum. sum ≡ partial_sum (map T.value a.now) (map T.value b.now) (length a.now)) }
+    ensures none { IsNone result → SumsFit true (map T.value a.now) (map T.value b.now) → ⊥ }
+{
+    let mut sum: i128 = 0;
+    for at in 0..a.len() {
+        match signed_added(sum, a[at].to_wide(), b[at].to_wide()) {
+            Some(more) => sum = more,
+            None => return None,
+        }
+    }
+    Some(sum)
+}
+
+/// The sum of the products of unsigned words likewise.
+#[inline(always)]
+fn unsigned_sum<T: Castable>(a: &[T], b: &[T]) -> Option<u128>
+    requires sign { T.SIGNED ≡ false }
+    requires lengths { length a.now ≡ length b.now }
+    ensures sum { IfSome result (λ sum. pos sum ≡ partial_sum (map T.value a.now) (map T.value b.now) (length a.now)) }
+    ensures none { IsNone result → SumsFit false (map T.value a.now) (map T.value b.now) → ⊥ }
+{
+    let mut sum: u128 = 0;
+    for at in 0..a.len() {
+        match unsigned_added(sum, a[at].magnitude(), b[at].magnitude()) {
+            Some(more) => sum = more,
+            None => return None,
+        }
+    }
+    Some(sum)
+}
+
+/// The outcome of a sum over `2^frac`, rounded down.
+#[inline(always)]
+fn outcome_of_sum<T: Castable>(sum: i128, frac: u32) -> Outcome<T>
+    requires { frac ≤ T.BITS }
+    ensures { StandsFor T.value T.SIGNED T.BITS (floor_quotient sum (2 ^ frac)) result }
+{
+    let moved = sum.floored(frac);
+    outcome_of(moved < 0, moved.unsigned_abs())
+}
+
+/// The sum of the products of the numbers at the same places, over `2^frac` and rounded down once. None only if the sum of
+/// some products at the front does not fit in an integer of 128 bits, which is signed if the words are: a slice of words of
+/// up to 32 bits is too short for that. Preconditions: both blocks have as many numbers, and `frac` is at most the width.
+pub fn dot_of<T: Castable>(a: &[T], b: &[T], frac: u32) -> Option<Outcome<T>>
+    requires lengths { length a.now ≡ length b.now }
+    requires frac { frac ≤ T.BITS }
+    ensures dot { IfSome result (λ outcome. StandsFor T.value T.SIGNED T.BITS
+        (exact_dot (map T.value a.now) (map T.value b.now) frac) outcome) }
+    ensures none { IsNone result → SumsFit T.SIGNED (map T.value a.now) (map T.value b.now) → ⊥ }
+{
+    if T::SIGNED {
+        match signed_sum(a, b) {
+            Some(sum) => Some(outcome_of_sum(sum, frac)),
+            None => None,
+        }
+    } else {
+        match unsigned_sum(a, b) {
+            Some(sum) => Some(outcome_of(false, sum.floored(frac))),
+            None => None,
+        }
+    }
+}

@@ -1,0 +1,35 @@
+//! The sum of the products of two arrays.
+#![tactic(auto, unfolding(crate::specs::inside::Calls::IsResultOf, crate::specs::Answers::at_fraction, crate::specs::Places::with_as_many, crate::specs::Dots::IsDot))]
+
+ghost use Rattle.std.specs.Prelude.{ℤ, Result, map};
+ghost use Rattle.fixed_c.specs.declared.answer.Code.{Code};
+ghost use Rattle.fixed_c.specs.Answers.{at_fraction};
+ghost use Rattle.fixed_c.specs.Dots.{IsDot};
+ghost use Rattle.fixed_c.specs.Near.{allowed};
+ghost use Rattle.fixed_c.specs.Places.{with_as_many};
+ghost use Rattle.fixed_c.specs.inside.Calls.{IsResultOf};
+
+use crate::answer::Code;
+use fixed_block::dot_of;
+use fixed_convert::Castable;
+use fixed_word::Outcome;
+
+/// The sum of the products of the numbers at the same places, over `2^frac` and rounded down once.
+#[inline]
+pub(crate) fn dot<T: Castable>(a: &[T], b: &[T], frac: u32) -> Result<Outcome<T>, Code>
+    ensures { (found : Result ℤ Code)
+        × IsDot T.SIGNED (at_fraction T.BITS frac (with_as_many a.now b.now allowed))
+        (map T.value a.now) (map T.value b.now) frac found
+        × IsResultOf T.value T.SIGNED T.BITS found result }
+{
+    if frac > T::BITS {
+        return Err(Code::FractionPastWidth);
+    }
+    if a.len() != b.len() {
+        return Err(Code::CountsDiffer);
+    }
+    match dot_of(a, b, frac) {
+        Some(outcome) => Ok(outcome),
+        None => Err(Code::OutOfRange),
+    }
+}

@@ -1,0 +1,179 @@
+//! Lengths, reciprocal roots, logarithms, powers and sines.
+#![tactic(auto, unfolding(crate::specs::Answers::at_fraction, crate::specs::Answers::row_or, crate::specs::Near::positive, crate::specs::Near::NumberAnswers, crate::specs::Near::NearAnswers))]
+
+ghost use Rattle.std.specs.Prelude.{◌≡◌, ℤ, Some, int_lt, pos};
+ghost use Rattle.fixed_word.specs.Policies.{checked};
+ghost use Rattle.fixed_word.specs.Standing.{StandsFor};
+ghost use Rattle.fixed_elementary.specs.ElementaryRows.{exact_hypot, exact_recip_sqrt};
+ghost use Rattle.fixed_elementary.specs.Exp2.{IsExp2Of, StandsUpTo, exp2_room};
+ghost use Rattle.fixed_elementary.specs.Log2.{IsLog2Of, log2_room};
+ghost use Rattle.fixed_natural.specs.Exps.{IsExp};
+ghost use Rattle.fixed_natural.specs.Logs.{IsLn, IsLog10, log_room};
+ghost use Rattle.fixed_natural.specs.Pows.{IsPow};
+ghost use Rattle.fixed_turns.specs.Sines.{IsCosine, IsSine, sine_room};
+ghost use Rattle.fixed_c.specs.declared.answer.Code.TheVariants.{OutOfRange};
+ghost use Rattle.fixed_c.specs.Answers.{at_fraction, row_or};
+ghost use Rattle.fixed_c.specs.Near.{NearAnswers, NumberAnswers, allowed, positive};
+
+use crate::answer::Code;
+use fixed_elementary::{exp2_of, hypot_of, log2_of, recip_sqrt_of};
+use fixed_natural::{exp_of, ln_of, log10_of, pow_of};
+use fixed_turns::{cos_turns_of, sin_turns_of};
+use fixed_word::{Outcome, RawWord, Word, checked_of};
+
+/// Whether `a` is above 0.
+#[inline]
+fn is_positive<T: Word>(a: T) -> bool
+    ensures { result ≡ int_lt (pos 0) (T.value a) }
+{
+    !a.is_below_zero() && a.magnitude() > 0
+}
+
+/// Leaves the number that the outcome stands for, and returns 0; or returns the code of one that does not fit.
+#[inline]
+fn leave<T: Word>(outcome: Outcome<T>, number: &mut T) -> i32
+    ensures exact { (x : ℤ) → StandsFor T.value T.SIGNED T.BITS x outcome
+        → NumberAnswers T.value (row_or OutOfRange (checked T.SIGNED T.BITS (Some x))) number.old number.new result }
+    ensures up_to { (x : ℤ) → StandsUpTo T.value T.SIGNED T.BITS x outcome
+        → NumberAnswers T.value (row_or OutOfRange (checked T.SIGNED T.BITS (Some x))) number.old number.new result }
+{
+    match checked_of(outcome) {
+        Some(found) => {
+            *number = found;
+            0
+        }
+        None => Code::OutOfRange.number(),
+    }
+}
+
+/// The length of the pair of both numbers, rounded down.
+#[inline]
+pub(crate) fn hypot<T: Word>(a: T, b: T, number: &mut T) -> i32
+    ensures { NearAnswers T.value T.SIGNED T.BITS allowed (λ r. r ≡ exact_hypot (T.value a) (T.value b))
+        number.old number.new result }
+{
+    leave(hypot_of(a, b), number)
+}
+
+/// One over the square root of `a / 2^frac`, rounded down.
+#[inline]
+pub(crate) fn recip_sqrt<T: Word>(a: T, frac: u32, number: &mut T) -> i32
+    ensures { NearAnswers T.value T.SIGNED T.BITS (at_fraction T.BITS frac (positive (T.value a)))
+        (λ r. r ≡ exact_recip_sqrt (T.value a) frac) number.old number.new result }
+{
+    if frac > T::BITS {
+        return Code::FractionPastWidth.number();
+    }
+    if !is_positive(a) {
+        return Code::NotPositive.number();
+    }
+    leave(recip_sqrt_of(a, frac), number)
+}
+
+/// The logarithm of `a / 2^frac` to the base 2, rounded down, up to the bound of `IsLog2Of`.
+#[inline]
+pub(crate) fn log2<T: Word>(a: T, frac: u32, number: &mut T) -> i32
+    ensures { NearAnswers T.value T.SIGNED T.BITS (at_fraction T.BITS frac (positive (T.value a)))
+        (IsLog2Of (log2_room T.BITS) (T.value a) frac) number.old number.new result }
+{
+    if frac > T::BITS {
+        return Code::FractionPastWidth.number();
+    }
+    if !is_positive(a) {
+        return Code::NotPositive.number();
+    }
+    leave(log2_of(a, frac), number)
+}
+
+/// The natural logarithm of `a / 2^frac`, rounded down, up to the bound of `IsLn`.
+#[inline]
+pub(crate) fn ln<T: Word>(a: T, frac: u32, number: &mut T) -> i32
+    ensures { NearAnswers T.value T.SIGNED T.BITS (at_fraction T.BITS frac (positive (T.value a)))
+        (IsLn (log_room T.BITS) (T.value a) frac) number.old number.new result }
+{
+    if frac > T::BITS {
+        return Code::FractionPastWidth.number();
+    }
+    if !is_positive(a) {
+        return Code::NotPositive.number();
+    }
+    leave(ln_of(a, frac), number)
+}
+
+/// The logarithm of `a / 2^frac` to the base 10, rounded down, up to the bound of `IsLog10`.
+#[inline]
+pub(crate) fn log10<T: Word>(a: T, frac: u32, number: &mut T) -> i32
+    ensures { NearAnswers T.value T.SIGNED T.BITS (at_fraction T.BITS frac (positive (T.value a)))
+        (IsLog10 (log_room T.BITS) (T.value a) frac) number.old number.new result }
+{
+    if frac > T::BITS {
+        return Code::FractionPastWidth.number();
+    }
+    if !is_positive(a) {
+        return Code::NotPositive.number();
+    }
+    leave(log10_of(a, frac), number)
+}
+
+/// 2 to the power of `a / 2^frac`, rounded down, up to the bound of `IsExp2Of`.
+#[inline]
+pub(crate) fn exp2<T: Word>(a: T, frac: u32, number: &mut T) -> i32
+    ensures { NearAnswers T.value T.SIGNED T.BITS (at_fraction T.BITS frac allowed)
+        (IsExp2Of (exp2_room T.BITS) (T.value a) frac) number.old number.new result }
+{
+    if frac > T::BITS {
+        return Code::FractionPastWidth.number();
+    }
+    leave(exp2_of(a, frac), number)
+}
+
+/// e to the power of `a / 2^frac`, rounded down, up to the bound of `IsExp`.
+#[inline]
+pub(crate) fn exp<T: Word>(a: T, frac: u32, number: &mut T) -> i32
+    ensures { NearAnswers T.value T.SIGNED T.BITS (at_fraction T.BITS frac allowed)
+        (IsExp (T.value a) frac) number.old number.new result }
+{
+    if frac > T::BITS {
+        return Code::FractionPastWidth.number();
+    }
+    leave(exp_of(a, frac), number)
+}
+
+/// `a / 2^frac` to the power of `b / 2^frac`, rounded down, up to the bound of `IsPow`.
+#[inline]
+pub(crate) fn pow<T: Word>(a: T, b: T, frac: u32, number: &mut T) -> i32
+    ensures { NearAnswers T.value T.SIGNED T.BITS (at_fraction T.BITS frac (positive (T.value a)))
+        (IsPow (T.value a) (T.value b) frac) number.old number.new result }
+{
+    if frac > T::BITS {
+        return Code::FractionPastWidth.number();
+    }
+    if !is_positive(a) {
+        return Code::NotPositive.number();
+    }
+    leave(pow_of(a, b, frac), number)
+}
+
+/// The sine of `a / 2^frac` turns, rounded to the nearest, up to the bound of `IsSine`.
+#[inline]
+pub(crate) fn sin_turns<T: Word>(a: T, frac: u32, number: &mut T) -> i32
+    ensures { NearAnswers T.value T.SIGNED T.BITS (at_fraction T.BITS frac allowed)
+        (IsSine (sine_room T.BITS) (T.value a) frac) number.old number.new result }
+{
+    if frac > T::BITS {
+        return Code::FractionPastWidth.number();
+    }
+    leave(sin_turns_of(a, frac), number)
+}
+
+/// The cosine of `a / 2^frac` turns, rounded to the nearest, up to the bound of `IsCosine`.
+#[inline]
+pub(crate) fn cos_turns<T: Word>(a: T, frac: u32, number: &mut T) -> i32
+    ensures { NearAnswers T.value T.SIGNED T.BITS (at_fraction T.BITS frac allowed)
+        (IsCosine (sine_room T.BITS) (T.value a) frac) number.old number.new result }
+{
+    if frac > T::BITS {
+        return Code::FractionPastWidth.number();
+    }
+    leave(cos_turns_of(a, frac), number)
+}
