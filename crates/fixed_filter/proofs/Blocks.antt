@@ -1,5 +1,5 @@
 -- A filter over a block: the past after each sample, and the outputs so far.
-use Rattle.std.proofs.Common.{◌≡◌, ◌+◌, ◌-◌, ◌<◌, ◌≤◌, ℕ, zero, suc, ℤ, List, [], ◌∷◌, ◌++◌, length, get_or, set, take, drop, map, Some, refl, sym, ap, ◌∙◌, arith, inl, inr}
+use Rattle.std.proofs.Common.{◌≡◌, ◌+◌, ◌-◌, ◌<◌, ◌≤◌, ℕ, zero, suc, ℤ, List, [], ◌∷◌, ◌++◌, length, get_or, set, take, drop, map, replicate, Some, refl, sym, ap, ◌∙◌, arith, inl, inr}
 use Rattle.std.specs.Prelude.{IfErr, Result, Ok, Err, reverse, slice_get, slice_range}
 use Rattle.std.specs.List.{zip}
 use Rattle.std.specs.Option.{option_map}
@@ -167,6 +167,10 @@ module _ {X Y : Type 0} (f : X → Y) (by_number : List X → Reply ℤ) (by_wor
   stops_map (Err stop) h =
       let there = h.0 in
       (omega (arith, length-map samples f), sym (replies_map stop.sample) ∙ h.1)
+
+pub replicate_map : {X Y : Type 0} (f : X → Y) (n : ℕ) (x : X) → map f (replicate n x) ≡ replicate n (f x)
+replicate_map f zero x = refl
+replicate_map f (suc n) x = ap (λ ys. f x ∷ ys) (replicate_map f n x)
 
 -- ---- the walk
 -- past and out after i samples; the past has room for as many samples as it had

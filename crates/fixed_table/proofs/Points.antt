@@ -1,10 +1,10 @@
 -- Tables: the value between two points, at them, and past the last.
-use Rattle.std.proofs.Common.{◌≡◌, ◌+◌, ◌-◌, ◌*◌, ◌^◌, ◌<◌, ◌≤◌, ℕ, zero, suc, ℤ, pos, Bool, true, false, List, [], ◌∷◌, length, get_or, Some, refl, sym, ap, ◌∙◌, arith, inl, inr}
+use Rattle.std.proofs.Common.{◌≡◌, ◌+◌, ◌-◌, ◌*◌, ◌/◌, ◌^◌, ◌<◌, ◌≤◌, ℕ, zero, suc, ℤ, pos, Bool, true, false, List, [], ◌∷◌, length, get_or, Some, refl, sym, ap, ◌∙◌, arith, inl, inr}
 use Rattle.std.specs.Prelude.{nat_lt, slice_get, if◌then◌else◌}
 use Rattle.std.proofs.Math.Nat.{suc-mul}
 use Rattle.std.proofs.lemmas.Bool.{cases_lt}
 use Rattle.std.proofs.lemmas.Bool.Decides.{nat_tests}
-use Rattle.std.proofs.lemmas.Nat.{pow_pos}
+use Rattle.std.proofs.lemmas.Nat.{div-add-mod', mod_below, mul-le, pow_pos}
 use Rattle.std.proofs.lemmas.Option.{slice_get-get_or, slice_get_within}
 use Rattle.fixed_word.specs.Quotient.{floor_quotient}
 use Rattle.fixed_table.specs.Interpolation.{interpolated, on_line}
@@ -78,3 +78,19 @@ module _ (k i : ℕ) (values : List ℤ) where
       between k values i part a there small
       ∙ ap (λ (x : ℤ). floor_quotient (on_line x (get_or values (i + 1) a) k part) (2 ^ k)) (given i a a e)
       ∙ ap (λ (x : ℤ). floor_quotient (on_line a x k part) (2 ^ k)) (given (i + 1) b a f)
+
+-- ---- by the number of whole steps
+module _ (k : ℕ) (values : List ℤ) where
+  pub at_last : (n units : ℕ) (d : ℤ) → length values ≡ n + 1 → n ≤ units / 2 ^ k → interpolated k values units ≡ get_or values n d
+  at_last n units d count far =
+      let e = div-add-mod' units (2 ^ k) in
+      let same : 2 ^ k ≤ 2 ^ k = omega arith in
+      past_last k values n units d count (omega (arith, mul-le n (2 ^ k) (units / 2 ^ k) (2 ^ k) far same))
+
+  pub at_inner : (units : ℕ) (d : ℤ) → units / 2 ^ k + 1 < length values → interpolated k values units ≡ floor_quotient (on_line (get_or values (units / 2 ^ k) d) (get_or values (units / 2 ^ k + 1) d) k (units - units / 2 ^ k * 2 ^ k)) (2 ^ k)
+  at_inner units d there =
+      let q = units / 2 ^ k in
+      let e = div-add-mod' units (2 ^ k) in
+      let b = mod_below units (2 ^ k) (pow_pos k) in
+      let whole : q * 2 ^ k + (units - q * 2 ^ k) ≡ units = omega arith in
+      ap (interpolated k values) (sym whole) ∙ between k values q (units - q * 2 ^ k) d there (omega arith)

@@ -40,7 +40,12 @@ impl<'a, X: Word, const G: u32, T: Word, const F: u32> Table<'a, X, G, T, F> {
         let at = index as usize;
         let part = units - (index << self.step);
         Fixed {
-            bits: interpolate_of(self.values[at].bits, self.values[at + 1].bits, part, self.step),
+            bits: interpolate_of(
+                self.values[at].bits,
+                self.values[at + 1].bits,
+                part,
+                self.step,
+            ),
         }
     }
 
