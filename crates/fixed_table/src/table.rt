@@ -11,7 +11,7 @@ use fixed_word::{RawWord, Valued, Word};
 
 /// A function of numbers with G fraction bits by its values, which have F: the first is that at `first`, and each next
 /// one that at a point `2^step` units of `x` further.
-#[derive(Clone, Copy, Debug)]
+#[derive(Drop)]
 pub struct Table<'a, X: Word, const G: u32, T: Word, const F: u32> {
     /// The first point.
     pub first: Fixed<X, G>,
