@@ -15,7 +15,7 @@ use std::path::Path;
 use std::{env, fs};
 
 /// The crates of the library, lowest first, without the `fixed_` in front.
-pub const LIBRARY: [&str; 25] = [
+pub const LIBRARY: [&str; 26] = [
     "word",
     "bits",
     "root",
@@ -39,6 +39,7 @@ pub const LIBRARY: [&str; 25] = [
     "ops",
     "poly",
     "filter",
+    "table",
     "interval",
     "enclosure",
 ];
@@ -50,13 +51,14 @@ pub const CALCULATOR: [&str; 4] = ["stream", "script", "machine", "calc"];
 pub const STRICT: [&str; 4] = ["strict", "math", "natural", "turns"];
 
 /// The files that the library does not offer: their public calls are made by the proved code beside them alone.
-pub const INSIDE: [&str; 11] = [
+pub const INSIDE: [&str; 12] = [
     "decimal/halves",
     "decimal/literal",
     "decimal/numeral",
     "decimal/tens",
     "digits/numerals",
     "digits/written",
+    "filter/sample",
     "kernel/whole",
     "kernel/wide",
     "logs/exact",

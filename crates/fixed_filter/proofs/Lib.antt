@@ -1,4 +1,5 @@
 pub mod Sums
+pub mod Blocks
 pub mod Places
 pub mod Alone
 pub mod Past

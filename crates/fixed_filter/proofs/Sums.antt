@@ -54,33 +54,33 @@ least_stays p t (suc k) hit none h = elim (cases_lt t k) [
   | inr same ↦ let e : suc k ≡ suc t = omega arith in ap (least_below p) e ∙ least_found p t hit none
 ]
 
-module _ {X : Type 0} (number : X → ℤ) (signed : Bool) (n f g h : ℕ) (taps past : List X) (same : length taps ≡ length past) where
+module _ {X Y : Type 0} (left : X → ℤ) (right : Y → ℤ) (signed : Bool) (n f g h : ℕ) (taps : List X) (past : List Y) (same : length taps ≡ length past) where
   -- one step on, by a tap and its sample
-  module _ (sum : ℤ) (t : ℕ) (tap sample : X) (there : t < length taps) (is_tap : tap ≡ get_or taps t tap) (is_sample : sample ≡ get_or past t sample) (a : IsAt signed n (places f g h) (pairs number number taps past) t sum) where
-    step_is : exact_add_prod sum (number tap) (number sample) f g h ≡ accumulator (places f g h) (pairs number number taps past) (t + 1)
+  module _ (sum : ℤ) (t : ℕ) (tap : X) (sample : Y) (there : t < length taps) (is_tap : tap ≡ get_or taps t tap) (is_sample : sample ≡ get_or past t sample) (a : IsAt signed n (places f g h) (pairs left right taps past) t sum) where
+    step_is : exact_add_prod sum (left tap) (right sample) f g h ≡ accumulator (places f g h) (pairs left right taps past) (t + 1)
     step_is =
         let s = places f g h in
-        let ps = pairs number number taps past in
-        let in_pairs : t < length ps = omega (arith, pairs_length number number taps past same) in
-        ap (λ (c : ℤ). with_product s c (number tap, number sample)) a.value
-        ∙ ap (with_product s (dot s (pos 0) (take t ps))) (pair_at number number taps past same t tap sample there is_tap is_sample)
-        ∙ sym (fold_more (with_product s) (pos 0) ps t (number tap, number sample) in_pairs)
+        let ps = pairs left right taps past in
+        let in_pairs : t < length ps = omega (arith, pairs_length left right taps past same) in
+        ap (λ (c : ℤ). with_product s c (left tap, right sample)) a.value
+        ∙ ap (with_product s (dot s (pos 0) (take t ps))) (pair_at left right taps past same t tap sample there is_tap is_sample)
+        ∙ sym (fold_more (with_product s) (pos 0) ps t (left tap, right sample) in_pairs)
 
-    pub steps : (next : ℤ) → Some next ≡ checked signed n (Some (exact_add_prod sum (number tap) (number sample) f g h)) → IsAt signed n (places f g h) (pairs number number taps past) (t + 1) next
+    pub steps : (next : ℤ) → Some next ≡ checked signed n (Some (exact_add_prod sum (left tap) (right sample) f g h)) → IsAt signed n (places f g h) (pairs left right taps past) (t + 1) next
     steps next e =
-        let p = checked_some signed n (exact_add_prod sum (number tap) (number sample) f g h) next e in
-        let hit : misses signed n (places f g h) (pairs number number taps past) t ≡ false = sym (ap (λ (z : ℤ). not (fits signed n z)) step_is) ∙ p.1 in
-        record { value = p.0 ∙ step_is; fitted = least_none (misses signed n (places f g h) (pairs number number taps past)) t hit a.fitted }
+        let p = checked_some signed n (exact_add_prod sum (left tap) (right sample) f g h) next e in
+        let hit : misses signed n (places f g h) (pairs left right taps past) t ≡ false = sym (ap (λ (z : ℤ). not (fits signed n z)) step_is) ∙ p.1 in
+        record { value = p.0 ∙ step_is; fitted = least_none (misses signed n (places f g h) (pairs left right taps past)) t hit a.fitted }
 
-    pub stops : None ≡ checked signed n (Some (exact_add_prod sum (number tap) (number sample) f g h)) → Overflow t ≡ filter_reply signed n (places f g h) (pairs number number taps past)
+    pub stops : None ≡ checked signed n (Some (exact_add_prod sum (left tap) (right sample) f g h)) → Overflow t ≡ filter_reply signed n (places f g h) (pairs left right taps past)
     stops e =
-        let p = checked_none signed n (exact_add_prod sum (number tap) (number sample) f g h) e in
-        let miss : misses signed n (places f g h) (pairs number number taps past) t ≡ true = sym (ap (λ (z : ℤ). not (fits signed n z)) step_is) ∙ p in
-        let long = pairs_length number number taps past same in
-        sym (ap (overflow_or (accumulator (places f g h) (pairs number number taps past) (length (pairs number number taps past)))) (least_stays (misses signed n (places f g h) (pairs number number taps past)) t (length (pairs number number taps past)) miss a.fitted (omega arith)))
+        let p = checked_none signed n (exact_add_prod sum (left tap) (right sample) f g h) e in
+        let miss : misses signed n (places f g h) (pairs left right taps past) t ≡ true = sym (ap (λ (z : ℤ). not (fits signed n z)) step_is) ∙ p in
+        let long = pairs_length left right taps past same in
+        sym (ap (overflow_or (accumulator (places f g h) (pairs left right taps past) (length (pairs left right taps past)))) (least_stays (misses signed n (places f g h) (pairs left right taps past)) t (length (pairs left right taps past)) miss a.fitted (omega arith)))
 
-  pub ends : (sum : ℤ) (t : ℕ) → t ≡ length taps → IsAt signed n (places f g h) (pairs number number taps past) t sum → Value sum ≡ filter_reply signed n (places f g h) (pairs number number taps past)
+  pub ends : (sum : ℤ) (t : ℕ) → t ≡ length taps → IsAt signed n (places f g h) (pairs left right taps past) t sum → Value sum ≡ filter_reply signed n (places f g h) (pairs left right taps past)
   ends sum t all a =
-      let ps = pairs number number taps past in
-      let long : length ps ≡ t = pairs_length number number taps past same ∙ sym all in
+      let ps = pairs left right taps past in
+      let long : length ps ≡ t = pairs_length left right taps past same ∙ sym all in
       sym (ap (λ (k : ℕ). overflow_or (accumulator (places f g h) ps k) (least_below (misses signed n (places f g h) ps) k)) long ∙ ap (overflow_or (accumulator (places f g h) ps t)) a.fitted ∙ ap (λ (z : ℤ). Value z) (sym a.value))

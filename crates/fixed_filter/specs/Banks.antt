@@ -19,6 +19,10 @@ pub record Filters (T : Type 0) : Type 0 where
 abbrev pub IsShape : ℕ → Shape → Type 0
 IsShape n shape = (shape.out_frac ≤ n) × (shape.coef_frac ≤ n) × (shape.sample_frac ≤ n)
 
+-- the shape with these fractions
+abbrev pub shape_with : ℕ → ℕ → ℕ → Shape
+shape_with out coef sample = record { out_frac = out; coef_frac = coef; sample_frac = sample }
+
 -- by how many places a product moves down
 abbrev pub places_of : Shape → ℤ
 places_of shape = places shape.out_frac shape.coef_frac shape.sample_frac

@@ -1,9 +1,10 @@
 -- What a filter answers: its products, the newest sample first, are added one after the other to 0.
 -- s are the places by which a product moves down to those of the output; ps are the pairs of taps and samples.
-use Rattle.std.specs.Prelude.{◌+◌, ℕ, zero, suc, ℤ, pos, Bool, not, Option, Some, None, List, length, take, if◌then◌else◌}
+use Rattle.std.specs.Prelude.{◌+◌, ℕ, zero, suc, ℤ, pos, Bool, not, Option, Some, None, Result, Ok, Err, List, length, take, if◌then◌else◌}
 use Rattle.std.specs.Option.{option_or}
 use Rattle.fixed_word.specs.Format.{fits}
 use Rattle.fixed_policy.specs.DotProduct.{dot}
+use Rattle.fixed_filter.specs.declared.overflow.TapOverflow.{TapOverflow}
 use Rattle.fixed_filter.specs.declared.reply.Reply.{Reply}
 use Rattle.fixed_filter.specs.declared.reply.Reply.TheVariants.{Value, Overflow}
 
@@ -37,3 +38,12 @@ reply_map value (Overflow t) = Overflow t
 abbrev pub state_after : {T S : Type 0} → S → (T → S) → Reply T → S
 state_after same moved (Value v) = moved v
 state_after same moved (Overflow t) = same
+
+-- a reply as a result
+abbrev pub as_result : {T : Type 0} → Reply T → Result T TapOverflow
+as_result (Value v) = Ok v
+as_result (Overflow t) = Err (record { tap = t })
+
+abbrev pub result_map : {T : Type 0} → (T → ℤ) → Result T TapOverflow → Result ℤ TapOverflow
+result_map value (Ok v) = Ok (value v)
+result_map value (Err stop) = Err stop

@@ -9,14 +9,16 @@ ghost use Rattle.fixed_filter.specs.Replies.{filter_reply, reply_map};
 ghost use Rattle.fixed_filter.specs.Banks.{IsShape, places_of};
 
 use crate::reply::Reply;
+use crate::sample::Sample;
 use crate::shape::Shape;
 use fixed_kernel::{add_prod_of, mul_add_of};
 use fixed_word::{RawWord, Word, checked_of};
 
 /// The sum plus the product of a tap and a sample; None exactly where that does not fit. Products that move down by at
 /// most the width, as they mostly do, move in one shift.
+#[inline]
 #[tactic(auto, using(crate::proofs::Sums::moved_down))]
-fn checked_add_prod<T: Word>(sum: T, tap: T, sample: T, shape: &Shape) -> Option<T>
+pub(crate) fn checked_add_prod<T: Word>(sum: T, tap: T, sample: T, shape: &Shape) -> Option<T>
     requires { IsShape T.BITS shape.now }
     ensures { option_map T.value result ≡ checked T.SIGNED T.BITS
         (Some (exact_add_prod (T.value sum) (T.value tap) (T.value sample)
@@ -46,11 +48,28 @@ pub fn output_of<T: Word>(shape: &Shape, taps: &[T], past: &[T]) -> Reply<T>
     ensures { reply_map T.value result ≡ filter_reply T.SIGNED T.BITS
         (places_of shape.now) (pairs T.value T.value taps.now past.now) }
 {
+    output_of_past(shape, taps, past)
+}
+
+/// The same of what holds the words.
+#[inline]
+pub(crate) fn output_of_past<T: Word, A: Sample<T>, B: Sample<T>>(
+    shape: &Shape,
+    taps: &[A],
+    past: &[B],
+) -> Reply<T>
+    requires shape { IsShape T.BITS shape.now }
+    requires lengths { length taps.now ≡ length past.now }
+    ensures { reply_map T.value result ≡ filter_reply T.SIGNED T.BITS (places_of shape.now)
+        (pairs (λ a. T.value (A.held a)) (λ b. T.value (B.held b)) taps.now past.now) }
+{
     // (one test of the length in front, and none at each tap)
     let past = &past[..taps.len()];
     let mut sum = T::ZERO;
     for i in 0..taps.len() {
-        match checked_add_prod(sum, taps[i], past[i], shape) {
+        let tap = taps[i].to_word();
+        let sample = past[i].to_word();
+        match checked_add_prod(sum, tap, sample, shape) {
             Some(next) => sum = next,
             None => return Reply::Overflow(i),
         }

@@ -9,19 +9,27 @@
 mod accumulation;
 mod bank;
 mod biquad;
+mod block;
 mod channel;
 mod fault;
+mod fir;
 mod header;
 pub mod laws;
+mod overflow;
 mod reply;
 mod running;
+mod sample;
 mod samples;
 mod shape;
+mod window;
 
 pub use accumulation::output_of;
 pub use bank::Bank;
 pub use biquad::{Biquad, Section};
+pub use block::filter_block;
 pub use fault::FilterFault;
+pub use fir::Fir;
+pub use overflow::{BlockOverflow, TapOverflow};
 pub use reply::Reply;
 pub use running::filter_run;
 pub use samples::put_in_front;

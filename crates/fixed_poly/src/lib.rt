@@ -9,12 +9,14 @@ mod evaluation;
 mod fault;
 mod header;
 pub mod laws;
+mod overflow;
 mod reply;
 mod running;
 mod typed;
 
 pub use evaluation::horner_of;
 pub use fault::PolyFault;
+pub use overflow::StepOverflow;
 pub use reply::PolyReply;
 pub use running::poly_run;
 pub use typed::horner;

@@ -1,0 +1,12 @@
+use Rattle.std.proofs.Common.{ℤ}
+use Rattle.fixed_filter.specs.Banks.{places_of}
+use Rattle.fixed_policy.specs.DotProduct.{pairs}
+use Rattle.fixed_filter.proofs.Sums.{IsAt}
+use Rattle.fixed_filter.proofs.accumulation.output_of_past.Given as goal
+
+abbrev pub invariant-loop-i : goal.invariant-loop-i
+invariant-loop-i g l =
+    let number = g.T.Valued.value in
+    let left : g.row.A.Denot → ℤ = λ a. number (g.A.Sample.held a) in
+    let right : g.row.B.Denot → ℤ = λ b. number (g.B.Sample.held b) in
+    IsAt g.T.RawWord.SIGNED g.T.Valued.BITS (places_of l.shape) (pairs left right l.taps l.past) l.i (number l.sum)

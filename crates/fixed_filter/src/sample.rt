@@ -1,0 +1,44 @@
+//! What holds the word of a tap, a sample or an output: the word itself, or a number.
+
+ghost use Rattle.std.specs.Prelude.{◌≡◌};
+
+use fixed_num::Fixed;
+use fixed_word::{RawWord, Word};
+
+/// What holds a word.
+pub(crate) trait Sample<T>: Copy {
+    // the word that it holds
+    ghost held: { Self → T };
+
+    /// Returns the word.
+    fn to_word(self) -> T
+        ensures { result ≡ held self };
+
+    /// Returns what holds a word.
+    fn from_word(word: T) -> Self
+        ensures { held result ≡ word };
+}
+
+impl<T: Word> Sample<T> for T {
+    ghost held = { λ x. x };
+
+    fn to_word(self) -> T {
+        self
+    }
+
+    fn from_word(word: T) -> T {
+        word
+    }
+}
+
+impl<T: Word, const F: u32> Sample<T> for Fixed<T, F> {
+    ghost held = { λ x. x.bits };
+
+    fn to_word(self) -> T {
+        self.bits
+    }
+
+    fn from_word(word: T) -> Self {
+        Fixed { bits: word }
+    }
+}

@@ -1,0 +1,39 @@
+//! The output of a filter over a block.
+
+ghost use Rattle.std.specs.Prelude.{◌≡◌, length, reverse};
+ghost use Rattle.fixed_policy.specs.DotProduct.{pairs};
+ghost use Rattle.fixed_filter.specs.Replies.{filter_reply, reply_map};
+ghost use Rattle.fixed_filter.specs.Banks.{IsShape, places_of};
+
+use crate::accumulation::checked_add_prod;
+use crate::reply::Reply;
+use crate::sample::Sample;
+use crate::shape::Shape;
+use fixed_word::{RawWord, Word};
+
+/// The output of a filter with these taps after these samples, the newest last: that of [`output_of`](crate::output_of)
+/// after them in the other order.
+#[inline]
+pub(crate) fn output_of_window<T: Word, A: Sample<T>, B: Sample<T>>(
+    shape: &Shape,
+    taps: &[A],
+    window: &[B],
+) -> Reply<T>
+    requires shape { IsShape T.BITS shape.now }
+    requires lengths { length taps.now ≡ length window.now }
+    ensures { reply_map T.value result ≡ filter_reply T.SIGNED T.BITS (places_of shape.now)
+        (pairs (λ a. T.value (A.held a)) (λ b. T.value (B.held b)) taps.now (reverse window.now)) }
+{
+    let window = &window[..taps.len()];
+    let mut sum = T::ZERO;
+    for i in 0..taps.len() {
+        let tap = taps[i].to_word();
+        let back = taps.len() - 1 - i;
+        let sample = window[back].to_word();
+        match checked_add_prod(sum, tap, sample, shape) {
+            Some(next) => sum = next,
+            None => return Reply::Overflow(i),
+        }
+    }
+    Reply::Value(sum)
+}
