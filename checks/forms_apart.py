@@ -56,6 +56,13 @@ ALLOWED = [
     Allowed(ADAPTERS, "impl", "impl<W: Write> Sink for StdSink<W> {", 1, ADAPTED),
     Allowed(ADAPTERS, "impl", "impl<W: Write> Sink for StdErrors<W> {", 1, ADAPTED),
     Allowed("crates/fixed_calc/src/status.rt", "drop", "Status::Script(_) => 1,", 1, "Status has no drop of its own"),
+    *(Allowed(f"crates/{crate}/src/reply.rt", "drop", line, 1, "replies have no drop of their own")
+      for crate, line in [("fixed_filter", "Reply::Value(output) => Ok(output),"),
+                          ("fixed_filter", "Reply::Overflow(tap) => Err(TapOverflow { tap }),"),
+                          ("fixed_poly", "PolyReply::Value(value) => Ok(value),"),
+                          ("fixed_poly", "PolyReply::Overflow(step) => Err(StepOverflow { step }),")]),
+    Allowed("crates/fixed_filter/src/sample.rt", "impl", "impl<T: Word> Sample<T> for T {", 1,
+            "words are sealed, and so the same types in both languages"),
     *(Allowed("crates/fixed_bits/src/bytes.rt", "method", f"impl BitWord for {word} {{", 1, STD_NAMED)
       for word in WORDS),
     *(Allowed("crates/fixed_word/src/digits.rt", "method", f"impl<L: Ledger> Digits<L> for {word} {{", 1, STD_NAMED)
