@@ -77,9 +77,9 @@ fn symmetries() {
     }
 }
 
-/// Every point whose coordinates have 8 bits, at each fraction.
-fn every_point<T: Word + Into<f64>>() {
-    for frac in 0..=8 {
+/// Every point whose coordinates have 8 bits, at each fraction of the list.
+fn every_point<T: Word + Into<f64>>(fractions: impl Iterator<Item = u32>) {
+    for frac in fractions {
         let turn = f64::from(frac).exp2();
         for bits in 1..1_u128 << 16 {
             let (y, x): (T, T) = (T::residue(false, bits >> 8), T::residue(false, bits));
@@ -91,8 +91,8 @@ fn every_point<T: Word + Into<f64>>() {
 
 #[test]
 fn points_of_8_bits() {
-    every_point::<i8>();
-    every_point::<u8>();
+    every_point::<i8>(0..=8);
+    every_point::<u8>([2, 8].into_iter());
 }
 
 /// Coordinates of any size: angles of words of 32 bits lie within half a unit and `2^-40` radians beside the exact ones,
@@ -104,7 +104,7 @@ fn points_of_32_bits() {
         draw = draw.wrapping_mul(6_364_136_223_846_793_005).wrapping_add(1_442_695_040_888_963_407);
         (draw >> 32) as i32 >> (shift % 32)
     };
-    for round in 0..200_000 {
+    for round in 0..100_000 {
         let frac = 8 + round % 25;
         let (y, x) = (next(round / 3), next(round / 7) | 1);
         let units = f64::from(y).atan2(f64::from(x)) / TAU * f64::from(frac).exp2();
