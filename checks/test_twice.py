@@ -8,6 +8,7 @@ Silent with status 0 where all is as expected; otherwise it prints what is not s
 import sys
 from pathlib import Path
 
+from ending import ended
 from twice import allowances, faults, finds
 
 CODE = """
@@ -59,11 +60,5 @@ def wrong():
         yield "nothing is said of finds that no reason allows"
 
 
-def main():
-    said = list(wrong())
-    print("\n".join(said), end="\n" if said else "")
-    return 1 if said else 0
-
-
 if __name__ == "__main__":
-    sys.exit(main())
+    sys.exit(ended(wrong()))

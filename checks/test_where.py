@@ -7,6 +7,7 @@ Silent with status 0 where all is as expected; otherwise it prints what is not s
 """
 import sys
 
+from ending import ended
 from where import files, is_name, kind_of, lacking, parts, where
 
 MENTIONS = {
@@ -53,11 +54,5 @@ def wrong():
         yield from (f"{path}: {name} is not found" for path in places if path not in found)
 
 
-def main():
-    said = list(wrong())
-    print("\n".join(said), end="\n" if said else "")
-    return 1 if said else 0
-
-
 if __name__ == "__main__":
-    sys.exit(main())
+    sys.exit(ended(wrong()))

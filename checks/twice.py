@@ -19,6 +19,8 @@ from collections import defaultdict
 from fnmatch import fnmatchcase
 from pathlib import Path
 
+from ending import ended
+
 TOP = Path(__file__).resolve().parent.parent
 CRATES = TOP / "crates"
 ALLOWED = Path(__file__).resolve().parent / "twice.txt"
@@ -172,9 +174,7 @@ def faults(groups, allowed):
 def main():
     groups = finds(sources())
     allowed = allowances(ALLOWED.read_text()) if ALLOWED.exists() else {}
-    said = list(faults(groups, {} if "--all" in sys.argv[1:] else allowed))
-    print("\n".join(said), end="\n" if said else "")
-    return 1 if said else 0
+    return ended(faults(groups, {} if "--all" in sys.argv[1:] else allowed))
 
 
 if __name__ == "__main__":

@@ -1,25 +1,26 @@
-/* Fixed-point numbers whose every operation is proved: the face for C and C++.
+/* Fixed-point numbers whose every operation is proved: the calls for C and C++.
  *
- * A number is the bits of a word of 8, 16, 32 or 64 bits and a fraction, the count of bits behind the point: bits times
- * 2^-frac. A word of n bits takes fractions from 0 to n. Operands of an operation have one fraction, and its result
- * has the same, but where the operation says otherwise; a number k is an integer, without a fraction.
+ * A number is a word of 8, 16, 32 or 64 bits with a fraction, which counts its fraction bits: its value is the word
+ * times 2^-frac. A word of n bits takes fractions from 0 to n. The operands of an operation and its result have one
+ * fraction, unless the comment of the call says otherwise. A number k is an integer, without a fraction.
  *
  *     fixed_i32 product;
  *     if (fixed_i32_mul(98304, 131072, 16, &product) == FIXED_OK)       (1.5 times 2)
  *       use(fixed_i32_saturating(product));                             (196608, which is 3)
  *
- * Each call returns FIXED_OK and leaves its result, or returns a code and leaves the result as it was. The result is
- * what is left of the exact number in the word, and the side of the word's range on which that number lies. One of
- * five policies then makes a number of it: checked, saturating, wrapping, overflowing or strict.
+ * A call that returns FIXED_OK has written its result. A call that returns another code leaves the result unchanged,
+ * unless its comment says otherwise. The result of an operation is the wrapped word, and the side of the word's range
+ * on which the exact result lies. One of five policies makes a number of it: checked, saturating, wrapping,
+ * overflowing or strict.
  *
- * Beside the operations stand intervals, whose calls leave two ends; decimal text, read and written; and calls over
- * arrays: blocks, on which an operation writes each result over its operand, a polynomial by Horner's rule and a step of a
- * filter, which leave a number, or the place at which one does not fit.
+ * Other calls compute with intervals, read and write decimal text, or work on arrays: on blocks, in which an
+ * operation writes each result over its operand; on the coefficients of a polynomial; and on the taps of a filter. If
+ * a result does not fit, a call on arrays writes its index.
  *
- * What C has to guarantee, since nothing checks it: a pointer to what a call leaves points to a whole, aligned one, and
- * nothing else reads or writes that during the call. It may hold anything before, as what an earlier call left. An
- * array is aligned and has as many elements as its count says; none overlaps another that is written, nor what the call
- * leaves. The pointer to an array may be null if its count is 0. No call takes memory, locks or keeps a pointer. */
+ * Nothing checks pointers. The program must guarantee that a pointer to a result points to a whole, aligned object
+ * that nothing else reads or writes during the call; it may hold anything before. An array must be aligned,
+ * have as many elements as its count states, and overlap neither an array that is written nor a result. The pointer
+ * to an array may be null if its count is 0. No call allocates, locks or keeps a pointer. */
 #ifndef FIXED_H
 #define FIXED_H
 

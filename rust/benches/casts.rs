@@ -79,6 +79,11 @@ fn row<A: Copy, R: Clone + Default + PartialEq>(
     println!("{name:44} {theirs:8.3} {ours:8.3} {:6.2}", ours / theirs);
 }
 
+/// A float of about 29 bits before the point, half of them below 0.
+fn far_float(draw: u64) -> f64 {
+    (draw as i64) as f64 / 17179869184.0
+}
+
 /// A float of about ten bits before the point, half of them below 0.
 fn float(draw: u64) -> f64 {
     (draw as i32) as f64 / 2097152.0
@@ -235,6 +240,18 @@ fn floats() {
         float,
         |x| (x * 65536.0).round_ties_even() as i32,
         |x| FixedI32::<16>::saturating_from_num(x).to_bits(),
+    );
+    row(
+        "saturating far f64 to i32<16>",
+        far_float,
+        |x| (x * 65536.0).round_ties_even() as i32,
+        |x| FixedI32::<16>::saturating_from_num(x).to_bits(),
+    );
+    row(
+        "saturating far f64 to i64<32>",
+        far_float,
+        |x| (x * 4294967296.0).round_ties_even() as i64,
+        |x| FixedI64::<32>::saturating_from_num(x).to_bits(),
     );
     row(
         "wrapping f64 to i32<16>",

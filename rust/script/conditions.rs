@@ -250,7 +250,7 @@ pub fn assertions(conditions: &[Condition], indent: &str) -> String {
         let Condition { test, words, .. } = condition;
         let kind = KINDS.iter().find(|kind| kind.name == condition.kind);
         let assertion = kind.map_or("compile_error!($);", |kind| kind.assertion);
-        let said = format!("{test}, \"condition: {words}\"");
+        let said = format!("{test}, \"precondition: {words}\"");
         format!("\n{indent}    {}", assertion.replace('$', &said))
     };
     tested.map(line).collect()

@@ -7,8 +7,8 @@ use std::sync::Once;
 use zugyelmas::{Binary, Enclosure};
 use zugyelmas::prelude::*;
 use zugyelmas::{
-    bits, elementary, filter, float, interval, kernel, logs, natural, num, ops, policy, poly, root, strict, turns,
-    word,
+    bits, block, elementary, filter, float, interval, kernel, logs, natural, num, ops, policy, poly, root, strict,
+    table, turns, word,
 };
 
 type Byte = FixedI8<4>;
@@ -21,6 +21,29 @@ fn byte(bits: i8) -> Byte {
 /// The enclosure of the numbers with 4 fraction bits and bits from `low` to `high`.
 fn enclosure(low: i8, high: i8) -> Enclosure<i8, 4> {
     Enclosure::from_interval(interval::Interval::from_ends(low, high))
+}
+
+/// The fractions of a filter: that of outputs, and 4.
+fn shape(out_frac: u32) -> filter::Shape {
+    filter::Shape {
+        out_frac,
+        coef_frac: 4,
+        sample_frac: 4,
+    }
+}
+
+/// A filter with 4 fraction bits in each place.
+fn fir<'t, 'p>(taps: &'t [Byte], past: &'p mut [Byte]) -> filter::Fir<'t, 'p, i8, 4, 4, 4> {
+    filter::Fir::new(taps, past)
+}
+
+/// A table from 0 on.
+fn table(values: &[Byte], step: u32) -> table::Table<'_, i8, 4, i8, 4> {
+    table::Table {
+        first: byte(0),
+        step,
+        values,
+    }
 }
 
 /// The interval from 1 to 4 bits.
@@ -109,14 +132,14 @@ stops! {
     word_strict_of, "the number fits", word::strict_of(kernel::add_of(127_i8, 1));
     bits_shift_left, "the shift is below the width", bits::BitWord::shift_left(1_u8, 8);
     bits_shift_right, "the shift is below the width", bits::BitWord::shift_right(-1_i64, 64);
-    float_bits, "the bits are no NaN's", f64::of_pattern(0x7ff8_0000_0000_0000);
+    float_bits, "the bits are not those of a NaN", f64::of_pattern(0x7ff8_0000_0000_0000);
     float_width, "the bits are those of a float", f32::of_pattern(1 << 32);
-    float_quotient, "the number has so few bits", f32::quotient(1 << 16, 0);
-    float_divisor, "it is divided by at most 2^64", f64::quotient(1, 65);
+    float_quotient, "the number is below `2^WHOLE`", f32::quotient(1 << 16, 0);
+    float_divisor, "the divisor is at most 2^64", f64::quotient(1, 65);
     float_fraction, "the fraction frac is at most the width", float::to_float_of::<i8, f64>(1, 9);
-    float_nan, "the float is no NaN", float::saturating_float_of::<f32, i8>(f32::NAN, 4, word::Rounding::Even);
+    float_nan, "the float is not a NaN", float::saturating_float_of::<f32, i8>(f32::NAN, 4, word::Rounding::Even);
     cast_infinite, "`None` value", Byte::wrapping_from_num(f64::INFINITY);
-    cast_nan, "the float is no NaN", Byte::saturating_from_num(f32::NAN);
+    cast_nan, "the float is not a NaN", Byte::saturating_from_num(f32::NAN);
     cast_strict, "the number fits", Byte::strict_from_num(8);
     cast_unwrapped, "the number fits", 8.0_f32.unwrapped_to_num::<Byte>();
     cast_strict_ceil, "the number fits", Byte::MAX.strict_ceil();
@@ -131,9 +154,15 @@ stops! {
     kernel_root, "the number is not below 0", kernel::sqrt_of(-1_i8, 4);
     kernel_signed, "the word is signed", kernel::abs_of(1_u8);
     kernel_unsigned, "the word is unsigned", kernel::next_power_of_two_of(1_i8);
-    kernel_widths, "both words have one width", kernel::mixed_add_of(1_i8, 1_u16);
+    kernel_widths, "both words have the same width", kernel::mixed_add_of(1_i8, 1_u16);
     kernel_places_down, "frac_nbits is at most twice the width", kernel::overflowing_mul_add(1_i8, 1, 1, 17);
     kernel_places_up, "frac_nbits is at least minus the width", kernel::overflowing_mul_add(1_i8, 1, 1, -9);
+    block_operation, "the operation is ready", block::wrapping_each(&block::Scale { by: 1, frac: 9 }, &mut [1_i8]);
+    block_outcome, "the operation is ready", block::Each::outcome(&block::Scale { by: 1, frac: 9 }, 1_i8);
+    blocks_operation, "the operation is ready",
+        block::saturating_pairs(&block::Mul { frac: 9 }, &mut [1_i8], &[1]);
+    blocks_outcome, "the operation is ready", block::Pairs::outcome(&block::Mul { frac: 9 }, 1_i8, 1);
+    blocks_lengths, "both blocks have the same length", block::checked_pairs(&block::Add, &mut [1_i8], &[]);
     num_one, "the number 1 fits", FixedI8::<7>::one();
     num_one_of_any_fraction, "the number 1 fits", FixedI32::<{ u32::MAX }>::one();
     num_unsigned_one, "the number 1 fits", FixedU64::<64>::one();
@@ -152,7 +181,7 @@ stops! {
     policy_divisor, "the divisor is not 0", byte(1).wrapping_div(byte(0));
     policy_integer, "the divisor is not 0", byte(1).overflowing_div_int(0);
     policy_root, "the number is not below 0", byte(-1).wrapping_sqrt();
-    policy_lengths, "both slices have one length", byte(1).checked_dot_acc(&[byte(1)], &[] as &[Byte]);
+    policy_lengths, "both slices have the same length", byte(1).checked_dot_acc(&[byte(1)], &[] as &[Byte]);
     cast_strict_number, "the number fits", Byte::strict_from_num(8);
     cast_unwrapped_number, "the number fits", byte(-16).unwrapped_to_num::<u8>();
     strict_overflow, "the number fits", Byte::MAX.strict_add(Byte::DELTA);
@@ -183,10 +212,32 @@ stops! {
     turns_fraction, "the fraction frac is at most the width", turns::sin_turns_of(1_u8, 9);
     turns_sine, "the number fits", FixedI8::<7>::from_bits(32).strict_sin_turns();
     turns_cosine, "the number fits", FixedI8::<7>::from_bits(0).unwrapped_cos_turns();
+    turns_both, "the number fits", FixedI8::<7>::from_bits(32).strict_sin_cos_turns();
+    turns_origin, "the coordinates are not both 0", turns::atan2_turns_of(0_u8, 0, 8);
+    turns_zeros, "the coordinates are not both 0", byte(0).wrapping_atan2_turns(byte(0));
+    turns_angle, "the number fits", FixedI8::<8>::from_bits(0).strict_atan2_turns(FixedI8::from_bits(-1));
     ops_divisor, "the divisor is not 0", byte(0).recip();
     ops_root, "the number is not below 0", byte(-1).sqrt();
     ops_product_of_none, "the number 1 fits", ops::product::<i8, 7>(&[]);
     filter_past, "there is a past sample", filter::put_in_front(1_i8, &mut []);
+    filter_lengths, "both slices have the same length",
+        filter::filter_block(&shape(8), &[1_i8], &mut [], &[], &mut []);
+    filter_outputs, "both slices have the same length",
+        filter::filter_block(&shape(8), &[1_i8], &mut [0], &[1], &mut []);
+    filter_fraction, "each fraction is at most the width",
+        filter::filter_block(&shape(9), &[1_i8], &mut [0], &[], &mut []);
+    filter_taps, "there is a tap", fir(&[], &mut []);
+    filter_typed_lengths, "both slices have the same length", fir(&[byte(1)], &mut []);
+    filter_typed_outputs, "both slices have the same length",
+        fir(&[byte(1)], &mut [byte(0)]).push_block(&[byte(1)], &mut []);
+    table_value, "there is a value", table(&[], 0).at(byte(1));
+    table_step, "the step is below the width", table(&[byte(1)], 8).at(byte(1));
+    table_checked_value, "there is a value", table(&[], 0).checked_at(byte(1));
+    table_checked_step, "the step is below the width", table(&[byte(1)], 8).checked_at(byte(1));
+    table_contained_value, "there is a value", table(&[], 0).contains(byte(1));
+    table_contained_step, "the step is below the width", table(&[byte(1)], 8).contains(byte(1));
+    line_step, "the step is below the width", table::interpolate_of(1_i8, 2, 0, 8);
+    line_part, "the part is below the step", table::interpolate_of(1_i8, 2, 8, 3);
     poly_coefficient, "there is a coefficient", poly::horner_of(&[] as &[i8], 1, 4);
     poly_fraction, "the fraction frac is at most the width", poly::horner_of(&[1_u16], 1, 17);
     poly_typed_coefficient, "there is a coefficient", poly::horner(&[], byte(1));
@@ -199,7 +250,7 @@ stops! {
     enclosure_difference, "the ends fit", enclosure(-128, 0) - enclosure(0, 1);
     enclosure_product, "the ends fit", enclosure(0, 127) * enclosure(0, 127);
     enclosure_quotient, "the ends fit", enclosure(0, 127) / enclosure(1, 1);
-    enclosure_by_zero, "0 lies outside the divisor", enclosure(0, 1) / enclosure(-1, 1);
+    enclosure_by_zero, "the divisor does not contain 0", enclosure(0, 1) / enclosure(-1, 1);
     enclosure_negative, "the ends fit", -enclosure(-128, 0);
 }
 

@@ -311,7 +311,7 @@ fn added(signs: &[Sign]) -> usize {
     };
     let says = signs[..end]
         .iter()
-        .any(|sign| sign.text.starts_with("\"condition: "));
+        .any(|sign| sign.text.starts_with("\"precondition: "));
     if says { end } else { 0 }
 }
 

@@ -124,11 +124,11 @@ macro_rules! stops {
 
 stops! {
     no_tap, "there is a tap", bank(&[]);
-    no_channel_to_push, "there is such a channel", bank(&[16]).push(1, 16);
-    no_channel_with_taps, "there is such a channel", bank(&[16]).taps(1);
-    no_channel_with_a_tap, "there is such a channel", bank(&[16]).tap(1, 0);
-    no_such_tap, "there is such a tap", bank(&[16]).tap(0, 1);
-    no_such_past_sample, "there is such a tap", bank(&[16]).past(0, 1);
+    no_channel_to_push, "the channel exists", bank(&[16]).push(1, 16);
+    no_channel_with_taps, "the channel exists", bank(&[16]).taps(1);
+    no_channel_with_a_tap, "the channel exists", bank(&[16]).tap(1, 0);
+    no_such_tap, "the tap exists", bank(&[16]).tap(0, 1);
+    no_such_past_sample, "the tap exists", bank(&[16]).past(0, 1);
     no_such_shape, "each fraction is at most the width", Bank::<i8>::new(Global, Shape {
         coef_frac: 9,
         ..Shape::default()

@@ -52,7 +52,7 @@ fn g() {}
     let head = "pub fn f<'a>(frac: u32, x: &'a u8) -> char";
     let clauses = "\n    requires { frac ≤ T.BITS }\n    ensures { result ≡ code \"}{\" }\n";
     let assertion =
-        "assert!(frac <= T::BITS, \"condition: the fraction frac is at most the width\");";
+        "assert!(frac <= T::BITS, \"precondition: the fraction frac is at most the width\");";
     assert_eq!(
         read(&format!("{head}{clauses}{{{body}")),
         format!("#[track_caller]\n{head} {{\n    {assertion}{body}")
@@ -212,8 +212,8 @@ pub fn div<T: Word>(a: T, b: T, frac: u32) -> T
 /// ```
 #[track_caller]
 pub fn div<T: Word>(a: T, b: T, frac: u32) -> T {
-    assert!(frac <= T::BITS, \"condition: the fraction frac is at most the width\");
-    assert!(b != T::ZERO, \"condition: the divisor is not 0\");
+    assert!(frac <= T::BITS, \"precondition: the fraction frac is at most the width\");
+    assert!(b != T::ZERO, \"precondition: the divisor is not 0\");
     a
 }
 ";

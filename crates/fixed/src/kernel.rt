@@ -1,4 +1,4 @@
-//! The operations on bits, with the fraction at run time, and what each policy makes of their outcome.
+//! The operations on bits, whose numbers of fraction bits are arguments, and the policies on their outcomes.
 
 pub use fixed_elementary::{exp2_of, hypot_of, log2_of, recip_sqrt_of};
 pub use fixed_kernel::{

@@ -1,4 +1,4 @@
-//! Laws of the definitions: each is a function that does nothing, whose contract is the law.
+//! Laws of the definitions. These functions do nothing: the contract of each is the law.
 
 pub use fixed_bits::laws::{list_law, read_back_law};
 pub use fixed_elementary::laws::{exp2_law, hypot_law, log2_law, recip_sqrt_law};
@@ -12,5 +12,5 @@ pub use fixed_num::laws::{cast_law, mean_law, order_law};
 pub use fixed_ops::laws::fold_law;
 pub use fixed_policy::laws::{loss_law, order_law as sum_order_law};
 pub use fixed_root::laws::root_law;
-pub use fixed_turns::laws::{cosine_law, sine_law};
+pub use fixed_turns::laws::{angle_law, cosine_law, sine_law};
 pub use fixed_word::laws::{clamp_law, fits_law, quotient_law, return_law, wrap_law};

@@ -1,9 +1,9 @@
-//! Fixed-point numbers of 8, 16, 32 and 64 bits, signed and unsigned, whose every call is proved: one name
+//! Fixed-point numbers of 8, 16, 32 and 64 bits, signed and unsigned, with every call proved. This crate is one name
 //! for the whole library.
 //!
-//! Nothing is made here but an example. The number types and the traits of their calls are offered again, what an
-//! operation at run time answers, the laws, and under `Rattle.fixed.specs` the definitions that contracts
-//! of users cite, such as `Policies.checked` and `Rows.exact_mul`. So a user lists this crate alone.
+//! It defines only an example, and exports the number types, the traits of their calls, the operations at run time and
+//! the laws. The definitions that contracts of users cite, such as `Policies.checked` and `Rows.exact_mul`, are under
+//! `Rattle.fixed.specs`. So a user depends on this crate alone.
 #![tactic(auto)]
 
 pub mod example;

@@ -1,4 +1,4 @@
--- What the machine answers to a line, by what the line's registers hold.
+-- The machine's answer to a line, by what the line's registers hold.
 use Rattle.std.specs.Prelude.{◌≡◌, ℕ, ℤ, pos, Bool, true, false, Option, Some, None}
 use Rattle.fixed_machine.specs.Types.{Policy, Op}
 use Rattle.fixed_machine.specs.declared.answer.Answer.{Answer}
@@ -9,7 +9,7 @@ use Rattle.fixed_text.specs.Words.{is_signed, width}
 use Rattle.fixed_machine.specs.Offered.{is_offered}
 use Rattle.fixed_word.specs.Format.{InRange}
 
--- in every state of a word of that sign and width, the machine answers `result` to every line of the policy and the
+-- in every state of a word of that sign and width, `result` is the machine's answer to every line of the policy and the
 -- operation that takes these operands and names no rounding
 unfoldable pub MachineAnswers : Bool → ℕ → Policy → Op → OperandValues → Answer → Type 0
 MachineAnswers signed n policy op operands result =
@@ -28,7 +28,7 @@ two_operands a b f = record { a = holding a f; b = holding b f; c = integer (pos
 abbrev pub with_integer : ℤ → ℤ → ℕ → OperandValues
 with_integer a k f = record { a = holding a f; b = integer k; c = integer (pos 0) }
 
--- three operands, and then their fractions
+-- three operands, and then their numbers of fraction bits
 abbrev pub three_operands : ℤ → ℤ → ℤ → ℕ → ℕ → ℕ → OperandValues
 three_operands a b c f g h = record { a = holding a f; b = holding b g; c = holding c h }
 

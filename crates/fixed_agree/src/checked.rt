@@ -1,4 +1,4 @@
-//! The checked calls answer what the machine answers under `checked`: a number, or no value.
+//! The checked calls return the machine's answer under `checked`: a number, or no value.
 #![tactic(auto, unfolding(fixed_machine::specs::Rows::exact, fixed_machine::specs::Offered::is_offered), using(crate::proofs::Answered::projected))]
 
 ghost use Rattle.std.specs.Prelude.{◌≡◌, ◌≤◌, true, false};
@@ -12,7 +12,7 @@ use fixed_policy::{Checked, CheckedMulAdd, CheckedProducts, CheckedSigned, Check
 use fixed_script::{Op, Policy};
 use fixed_word::{SignedWord, UnsignedWord, Word};
 
-/// An operation on one number that is offered on all words.
+/// Runs an operation on one number that is offered on all words.
 pub fn unary<T: Word, const F: u32>(op: Op, a: Fixed<T, F>) -> Answer
     requires fraction { F ≤ T.BITS }
     requires shape { IsUnary op }
@@ -28,7 +28,7 @@ pub fn unary<T: Word, const F: u32>(op: Op, a: Fixed<T, F>) -> Answer
     }
 }
 
-/// An operation on one number that is offered on signed words.
+/// Runs an operation on one number that is offered on signed words.
 pub fn unary_signed<T: SignedWord, const F: u32>(op: Op, a: Fixed<T, F>) -> Answer
     requires fraction { F ≤ T.BITS }
     requires shape { IsUnary op }
@@ -43,7 +43,7 @@ pub fn unary_signed<T: SignedWord, const F: u32>(op: Op, a: Fixed<T, F>) -> Answ
     }
 }
 
-/// An operation on one number that is offered on unsigned words.
+/// Runs an operation on one number that is offered on unsigned words.
 pub fn unary_unsigned<T: UnsignedWord, const F: u32>(op: Op, a: Fixed<T, F>) -> Answer
     requires fraction { F ≤ T.BITS }
     requires shape { IsUnary op }
@@ -57,7 +57,7 @@ pub fn unary_unsigned<T: UnsignedWord, const F: u32>(op: Op, a: Fixed<T, F>) -> 
     }
 }
 
-/// An operation on two numbers.
+/// Runs an operation on two numbers.
 #[tactic(auto, unfolding(fixed_machine::specs::Rows::exact, fixed_machine::specs::Offered::is_offered), using(crate::proofs::Rows::checked_row))]
 pub fn binary<T: Word, const F: u32>(op: Op, a: Fixed<T, F>, b: Fixed<T, F>) -> Answer
     requires fraction { F ≤ T.BITS }
@@ -80,7 +80,7 @@ pub fn binary<T: Word, const F: u32>(op: Op, a: Fixed<T, F>, b: Fixed<T, F>) -> 
     }
 }
 
-/// An operation on a number and an integer.
+/// Runs an operation on a number and an integer.
 pub fn by_integer<T: Word, const F: u32>(op: Op, a: Fixed<T, F>, k: T) -> Answer
     requires fraction { F ≤ T.BITS }
     requires shape { IsByInteger op }
@@ -98,7 +98,7 @@ pub fn by_integer<T: Word, const F: u32>(op: Op, a: Fixed<T, F>, k: T) -> Answer
     }
 }
 
-/// Multiply-add: `a` times `mul`, plus `add`.
+/// Runs the multiply-add: `a` times `mul`, plus `add`.
 pub fn mul_add<T: Word, const F: u32, const G: u32>(
     a: Fixed<T, F>,
     mul: Fixed<T, G>,
@@ -111,7 +111,7 @@ pub fn mul_add<T: Word, const F: u32, const G: u32>(
     bits_or_absent(a.checked_mul_add(mul, add))
 }
 
-/// Sum with a product: `sum` plus `a` times `b`.
+/// Runs the sum with a product: `sum` plus `a` times `b`.
 pub fn add_prod<T: Word, const F: u32, const A: u32, const B: u32>(
     sum: Fixed<T, F>,
     a: Fixed<T, A>,

@@ -1,4 +1,4 @@
-//! Four forms of one operation on the same operands, and how their answers agree.
+//! Four forms of one operation on the same operands, and how their results agree.
 #![tactic(auto, unfolding(fixed_machine::specs::Offered::is_offered))]
 
 ghost use Rattle.std.specs.Prelude.{◌≡◌, ◌≤◌, ◌%◌, ◌^◌, ◌*ℤ◌, pos, IsSome, None, Some, if◌then◌else◌, is_some, option_map, true, ◌+ℤ◌, ◌-ℤ◌};
@@ -23,7 +23,7 @@ use fixed_script::{Op, Policy};
 use fixed_strict::{SaturatingProducts, SaturatingSigned, SaturatingUnsigned};
 use fixed_word::{RawWord, SignedWord, UnsignedWord, Word};
 
-/// The answers of four policies on the same operands.
+/// The results of four policies on the same operands.
 #[derive(Clone, Copy, Debug, PartialEq, Eq)]
 pub struct Forms {
     /// The number, or no value.
@@ -36,7 +36,7 @@ pub struct Forms {
     pub saturating: Answer,
 }
 
-/// The forms of an operation on one number that is offered on all words. Condition: the row is defined.
+/// Runs the forms of an operation on one number that is offered on all words. Precondition: the row is defined.
 pub fn unary<T: Word, const F: u32>(op: Op, a: Fixed<T, F>) -> Forms
     requires fraction { F ≤ T.BITS }
     requires shape { IsUnary op }
@@ -52,7 +52,7 @@ pub fn unary<T: Word, const F: u32>(op: Op, a: Fixed<T, F>) -> Forms
     }
 }
 
-/// The forms of an operation on one number that is offered on signed words. Condition: the row is defined.
+/// Runs the forms of an operation on one number that is offered on signed words. Precondition: the row is defined.
 pub fn unary_signed<T: SignedWord, const F: u32>(op: Op, a: Fixed<T, F>) -> Forms
     requires fraction { F ≤ T.BITS }
     requires shape { IsUnary op }
@@ -68,7 +68,7 @@ pub fn unary_signed<T: SignedWord, const F: u32>(op: Op, a: Fixed<T, F>) -> Form
     }
 }
 
-/// The forms of an operation on two numbers. Condition: the row is defined.
+/// Runs the forms of an operation on two numbers. Precondition: the row is defined.
 pub fn binary<T: Word, const F: u32>(op: Op, a: Fixed<T, F>, b: Fixed<T, F>) -> Forms
     requires fraction { F ≤ T.BITS }
     requires shape { IsBinary op }
@@ -85,7 +85,7 @@ pub fn binary<T: Word, const F: u32>(op: Op, a: Fixed<T, F>, b: Fixed<T, F>) -> 
     }
 }
 
-/// The forms of an operation on a number and an integer. Condition: the row is defined.
+/// Runs the forms of an operation on a number and an integer. Precondition: the row is defined.
 pub fn by_integer<T: Word, const F: u32>(op: Op, a: Fixed<T, F>, k: T) -> Forms
     requires fraction { F ≤ T.BITS }
     requires shape { IsByInteger op }
@@ -102,7 +102,7 @@ pub fn by_integer<T: Word, const F: u32>(op: Op, a: Fixed<T, F>, k: T) -> Forms
     }
 }
 
-/// The forms of multiply-add: `a` times `mul`, plus `add`.
+/// Runs the forms of multiply-add: `a` times `mul`, plus `add`.
 pub fn mul_add<T: Word, const F: u32, const G: u32>(
     a: Fixed<T, F>,
     mul: Fixed<T, G>,
@@ -120,7 +120,7 @@ pub fn mul_add<T: Word, const F: u32, const G: u32>(
     }
 }
 
-/// The forms of the sum with a product: `sum` plus `a` times `b`.
+/// Runs the forms of the sum with a product: `sum` plus `a` times `b`.
 pub fn add_prod<T: Word, const F: u32, const A: u32, const B: u32>(
     sum: Fixed<T, F>,
     a: Fixed<T, A>,
@@ -140,7 +140,7 @@ pub fn add_prod<T: Word, const F: u32, const A: u32, const B: u32>(
     }
 }
 
-/// The number, or no value where nothing was stored.
+/// Returns the number, or `None` if nothing was stored.
 fn where_stored<T: RawWord, const F: u32>(
     stored: Option<()>,
     number: Fixed<T, F>,
@@ -154,8 +154,8 @@ fn where_stored<T: RawWord, const F: u32>(
     }
 }
 
-/// The forms of an accumulator that takes the product of `a` and `b`: what each leaves in it. Checked leaves
-/// no value where it answers None.
+/// Runs the forms of an accumulator that adds the product of `a` and `b`, and returns what each form leaves in it.
+/// Checked has no value if its call returns `None`.
 pub fn mul_acc<T: Word, const F: u32, const A: u32, const B: u32>(
     sum: Fixed<T, F>,
     a: Fixed<T, A>,
@@ -180,7 +180,7 @@ pub fn mul_acc<T: Word, const F: u32, const A: u32, const B: u32>(
     }
 }
 
-/// The forms of the sum of an unsigned number and a signed one.
+/// Runs the forms of the sum of an unsigned number and a signed one.
 pub fn add_signed<T: UnsignedWord, const F: u32>(a: Fixed<T, F>, b: Fixed<T::Signed, F>) -> Forms
     ensures { FormsAgree T.SIGNED T.BITS
         (Some (T.value a.bits +ℤ T.Signed.value b.bits)) result }
@@ -193,7 +193,7 @@ pub fn add_signed<T: UnsignedWord, const F: u32>(a: Fixed<T, F>, b: Fixed<T::Sig
     }
 }
 
-/// The forms of an unsigned number minus a signed one.
+/// Runs the forms of an unsigned number minus a signed one.
 pub fn sub_signed<T: UnsignedWord, const F: u32>(a: Fixed<T, F>, b: Fixed<T::Signed, F>) -> Forms
     ensures { FormsAgree T.SIGNED T.BITS
         (Some (T.value a.bits -ℤ T.Signed.value b.bits)) result }
@@ -206,7 +206,7 @@ pub fn sub_signed<T: UnsignedWord, const F: u32>(a: Fixed<T, F>, b: Fixed<T::Sig
     }
 }
 
-/// The forms of the sum of a signed number and an unsigned one.
+/// Runs the forms of the sum of a signed number and an unsigned one.
 pub fn add_unsigned<T: SignedWord, const F: u32>(a: Fixed<T, F>, b: Fixed<T::Unsigned, F>) -> Forms
     ensures { FormsAgree T.SIGNED T.BITS
         (Some (T.value a.bits +ℤ T.Unsigned.value b.bits)) result }
@@ -219,7 +219,7 @@ pub fn add_unsigned<T: SignedWord, const F: u32>(a: Fixed<T, F>, b: Fixed<T::Uns
     }
 }
 
-/// The forms of a signed number minus an unsigned one.
+/// Runs the forms of a signed number minus an unsigned one.
 pub fn sub_unsigned<T: SignedWord, const F: u32>(a: Fixed<T, F>, b: Fixed<T::Unsigned, F>) -> Forms
     ensures { FormsAgree T.SIGNED T.BITS
         (Some (T.value a.bits -ℤ T.Unsigned.value b.bits)) result }
@@ -232,18 +232,18 @@ pub fn sub_unsigned<T: SignedWord, const F: u32>(a: Fixed<T, F>, b: Fixed<T::Uns
     }
 }
 
-/// The answers of the three policies that shift on the same number.
+/// The results of the three policies that shift on the same number.
 #[derive(Clone, Copy, Debug, PartialEq, Eq)]
 pub struct Shifts {
-    /// The moved number, or no value.
+    /// The shifted number, or no value.
     pub checked: Answer,
-    /// The moved number, and whether the places are the width or more.
+    /// The shifted number, and whether the places are the width or more.
     pub overflowing: Answer,
-    /// The moved number.
+    /// The shifted number.
     pub wrapping: Answer,
 }
 
-/// The forms of a shift up by `by` places, modulo the width.
+/// Runs the forms of a left shift by `by` places, modulo the width.
 pub fn shl<T: Word, const F: u32>(a: Fixed<T, F>, by: u32) -> Shifts
     ensures { ShiftsAgree T.BITS by
         (wrap T.SIGNED T.BITS (T.value a.bits *ℤ pos (2 ^ (by % T.BITS)))) result }
@@ -255,7 +255,7 @@ pub fn shl<T: Word, const F: u32>(a: Fixed<T, F>, by: u32) -> Shifts
     }
 }
 
-/// The forms of a shift down by `by` places, modulo the width, rounded down.
+/// Runs the forms of a right shift by `by` places, modulo the width, rounded down.
 pub fn shr<T: Word, const F: u32>(a: Fixed<T, F>, by: u32) -> Shifts
     ensures { ShiftsAgree T.BITS by
         (floor_quotient (T.value a.bits) (2 ^ (by % T.BITS))) result }

@@ -1,16 +1,15 @@
-//! Laws of the agreement. These functions do nothing: each contract is the law.
+//! Laws of the agreement. These functions do nothing: the contract of each is the law.
 
 ghost use Rattle.fixed_agree.specs.AgreementLaws.{AnswersTheProjection, NoCauseExactly};
 
-/// For each sign and width, the machine's answer to a line is the policy's projection of the row of the
-/// line's operands, and nothing else. So the machine and the typed calls name the same projection of the
-/// same row.
+/// For each sign and width, the machine's only answer to a line is the policy's projection of the row of the line's
+/// operands. So the machine and the typed calls have the same projection of the same row.
 pub fn machine_law()
     ensures { AnswersTheProjection }
 {}
 
-/// The machine finds no cause in a row exactly under the condition of the typed calls of the policy: no
-/// condition for checked; for the others that the row is defined; for strict also that its number fits.
+/// The machine finds no cause in a row exactly if the precondition of the policy's typed calls holds. That of checked
+/// always holds. For the other policies the row must be defined, and for strict its number must also fit.
 pub fn condition_law()
     ensures { NoCauseExactly }
 {}

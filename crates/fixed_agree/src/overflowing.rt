@@ -1,4 +1,4 @@
-//! The overflowing calls answer what the machine answers under `overflowing`: the wrapped number and its verdict.
+//! The overflowing calls return the machine's answer under `overflowing`: the wrapped number and its verdict.
 #![tactic(auto, unfolding(fixed_machine::specs::Rows::exact, fixed_machine::specs::Offered::is_offered), using(crate::proofs::Answered::projected))]
 
 ghost use Rattle.std.specs.Prelude.{◌≡◌, ◌≤◌, true, false, IsSome};
@@ -13,7 +13,7 @@ use fixed_policy::{Overflowing, OverflowingMulAdd, OverflowingProducts, Overflow
 use fixed_script::{Op, Policy};
 use fixed_word::{SignedWord, UnsignedWord, Word};
 
-/// An operation on one number that is offered on all words. Condition: the row is defined.
+/// Runs an operation on one number that is offered on all words. Precondition: the row is defined.
 pub fn unary<T: Word, const F: u32>(op: Op, a: Fixed<T, F>) -> Answer
     requires fraction { F ≤ T.BITS }
     requires shape { IsUnary op }
@@ -30,7 +30,7 @@ pub fn unary<T: Word, const F: u32>(op: Op, a: Fixed<T, F>) -> Answer
     }
 }
 
-/// An operation on one number that is offered on signed words. Condition: the row is defined.
+/// Runs an operation on one number that is offered on signed words. Precondition: the row is defined.
 pub fn unary_signed<T: SignedWord, const F: u32>(op: Op, a: Fixed<T, F>) -> Answer
     requires fraction { F ≤ T.BITS }
     requires shape { IsUnary op }
@@ -46,7 +46,7 @@ pub fn unary_signed<T: SignedWord, const F: u32>(op: Op, a: Fixed<T, F>) -> Answ
     }
 }
 
-/// An operation on one number that is offered on unsigned words. Condition: the row is defined.
+/// Runs an operation on one number that is offered on unsigned words. Precondition: the row is defined.
 pub fn unary_unsigned<T: UnsignedWord, const F: u32>(op: Op, a: Fixed<T, F>) -> Answer
     requires fraction { F ≤ T.BITS }
     requires shape { IsUnary op }
@@ -58,7 +58,7 @@ pub fn unary_unsigned<T: UnsignedWord, const F: u32>(op: Op, a: Fixed<T, F>) -> 
     unary(op, a)
 }
 
-/// An operation on two numbers. Condition: the row is defined.
+/// Runs an operation on two numbers. Precondition: the row is defined.
 pub fn binary<T: Word, const F: u32>(op: Op, a: Fixed<T, F>, b: Fixed<T, F>) -> Answer
     requires fraction { F ≤ T.BITS }
     requires shape { IsBinary op }
@@ -79,7 +79,7 @@ pub fn binary<T: Word, const F: u32>(op: Op, a: Fixed<T, F>, b: Fixed<T, F>) -> 
     }
 }
 
-/// An operation on a number and an integer. Condition: the row is defined.
+/// Runs an operation on a number and an integer. Precondition: the row is defined.
 pub fn by_integer<T: Word, const F: u32>(op: Op, a: Fixed<T, F>, k: T) -> Answer
     requires fraction { F ≤ T.BITS }
     requires shape { IsByInteger op }
@@ -97,7 +97,7 @@ pub fn by_integer<T: Word, const F: u32>(op: Op, a: Fixed<T, F>, k: T) -> Answer
     }
 }
 
-/// Multiply-add: `a` times `mul`, plus `add`.
+/// Runs the multiply-add: `a` times `mul`, plus `add`.
 pub fn mul_add<T: Word, const F: u32, const G: u32>(
     a: Fixed<T, F>,
     mul: Fixed<T, G>,
@@ -110,7 +110,7 @@ pub fn mul_add<T: Word, const F: u32, const G: u32>(
     flagged_of(a.overflowing_mul_add(mul, add))
 }
 
-/// Sum with a product: `sum` plus `a` times `b`.
+/// Runs the sum with a product: `sum` plus `a` times `b`.
 pub fn add_prod<T: Word, const F: u32, const A: u32, const B: u32>(
     sum: Fixed<T, F>,
     a: Fixed<T, A>,

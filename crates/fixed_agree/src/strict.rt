@@ -1,4 +1,4 @@
-//! The strict calls answer what the machine answers under `strict`: the number, which fits.
+//! The strict calls return the machine's answer under `strict`: the number, which fits.
 #![tactic(auto, unfolding(fixed_machine::specs::Rows::exact, fixed_machine::specs::Offered::is_offered), using(crate::proofs::Answered::projected))]
 
 ghost use Rattle.std.specs.Prelude.{◌≡◌, ◌≤◌, true, false};
@@ -13,7 +13,7 @@ use fixed_script::{Op, Policy};
 use fixed_strict::{Strict, StrictMulAdd, StrictProducts, StrictSigned, StrictUnsigned};
 use fixed_word::{SignedWord, UnsignedWord, Word};
 
-/// An operation on one number that is offered on all words. Condition: the row is defined and its number fits.
+/// Runs an operation on one number that is offered on all words. Precondition: the row is defined and its number fits.
 pub fn unary<T: Word, const F: u32>(op: Op, a: Fixed<T, F>) -> Answer
     requires fraction { F ≤ T.BITS }
     requires shape { IsUnary op }
@@ -30,7 +30,8 @@ pub fn unary<T: Word, const F: u32>(op: Op, a: Fixed<T, F>) -> Answer
     }
 }
 
-/// An operation on one number that is offered on signed words. Condition: the row is defined and its number fits.
+/// Runs an operation on one number that is offered on signed words. Precondition: the row is defined and its number
+/// fits.
 pub fn unary_signed<T: SignedWord, const F: u32>(op: Op, a: Fixed<T, F>) -> Answer
     requires fraction { F ≤ T.BITS }
     requires shape { IsUnary op }
@@ -46,7 +47,8 @@ pub fn unary_signed<T: SignedWord, const F: u32>(op: Op, a: Fixed<T, F>) -> Answ
     }
 }
 
-/// An operation on one number that is offered on unsigned words. Condition: the row is defined and its number fits.
+/// Runs an operation on one number that is offered on unsigned words. Precondition: the row is defined and its number
+/// fits.
 pub fn unary_unsigned<T: UnsignedWord, const F: u32>(op: Op, a: Fixed<T, F>) -> Answer
     requires fraction { F ≤ T.BITS }
     requires shape { IsUnary op }
@@ -61,7 +63,7 @@ pub fn unary_unsigned<T: UnsignedWord, const F: u32>(op: Op, a: Fixed<T, F>) -> 
     }
 }
 
-/// An operation on two numbers. Condition: the row is defined and its number fits.
+/// Runs an operation on two numbers. Precondition: the row is defined and its number fits.
 #[tactic(auto, unfolding(fixed_machine::specs::Rows::exact, fixed_machine::specs::Offered::is_offered), using(crate::proofs::Rows::strict_row))]
 pub fn binary<T: Word, const F: u32>(op: Op, a: Fixed<T, F>, b: Fixed<T, F>) -> Answer
     requires fraction { F ≤ T.BITS }
@@ -86,7 +88,7 @@ pub fn binary<T: Word, const F: u32>(op: Op, a: Fixed<T, F>, b: Fixed<T, F>) -> 
     }
 }
 
-/// An operation on a number and an integer. Condition: the row is defined and its number fits.
+/// Runs an operation on a number and an integer. Precondition: the row is defined and its number fits.
 pub fn by_integer<T: Word, const F: u32>(op: Op, a: Fixed<T, F>, k: T) -> Answer
     requires fraction { F ≤ T.BITS }
     requires shape { IsByInteger op }
@@ -106,7 +108,7 @@ pub fn by_integer<T: Word, const F: u32>(op: Op, a: Fixed<T, F>, k: T) -> Answer
     }
 }
 
-/// Multiply-add: `a` times `mul`, plus `add`. Condition: the sum fits.
+/// Runs the multiply-add: `a` times `mul`, plus `add`. Precondition: the sum fits.
 pub fn mul_add<T: Word, const F: u32, const G: u32>(
     a: Fixed<T, F>,
     mul: Fixed<T, G>,
@@ -121,7 +123,7 @@ pub fn mul_add<T: Word, const F: u32, const G: u32>(
     bits_of(a.strict_mul_add(mul, add))
 }
 
-/// Sum with a product: `sum` plus `a` times `b`. Condition: the sum fits.
+/// Runs the sum with a product: `sum` plus `a` times `b`. Precondition: the sum fits.
 pub fn add_prod<T: Word, const F: u32, const A: u32, const B: u32>(
     sum: Fixed<T, F>,
     a: Fixed<T, A>,

@@ -1,5 +1,5 @@
 -- What a script meant before a line could name its rounding: the same fold, over lines without a rounding, whose rows
--- look at none.
+-- use none.
 use Rattle.std.specs.Prelude.{◌≡◌, ◌↔◌, ◌+◌, ◌++◌, ℕ, ℤ, Bool, true, false, List, [], ◌∷◌, Option, Some, None, if◌then◌else◌}
 use Rattle.std.specs.Option.{option_map, option_and_then, option_map_or}
 use Rattle.std.specs.List.{All}
@@ -41,7 +41,7 @@ unfoldable pub old_line_of_piece : List ℕ → Option ScriptLine
 old_line_of_piece piece = option_and_then old_line_of (body piece)
 
 -- ---- the machine
--- the six rows that round now did so in one way each; the other rows have not changed
+-- the six rows that now take a rounding had one of their own; the other rows have not changed
 abbrev pub old_row : Op → OperandValues → Option ℤ
 old_row Mul t = Some (exact_mul t.a.bits t.b.bits t.a.fraction)
 old_row Div t = by_divisor t.b.bits (exact_div t.a.bits t.b.bits t.a.fraction)
@@ -90,14 +90,14 @@ abbrev pub old_meaning : List ℕ → Meaning
 old_meaning script = let run = old_run_pieces (pieces script) in option_map_or Fault run.fault (Output run.output)
 
 -- ---- the laws
--- the old reading finds the lines that name no rounding, and no other
+-- the old reading finds exactly the lines that name no rounding
 abbrev pub ReadsOldLines : Type 0
 ReadsOldLines = (piece : List ℕ) (line : ScriptLine) → (old_line_of piece ≡ Some line) ↔ (IsLine line × (names_none line ≡ true) × (line_text line ≡ piece))
 
--- a space and the name of a rounding stand before the newline of the piece
+-- a space and the name of a rounding precede the newline of the piece
 abbrev pub EndsInRounding : List ℕ → Type 0
 EndsInRounding piece = (front : List ℕ) × (rounding : Rounding) × (piece ≡ front ++ (32 ∷ rounding_name rounding) ++ (10 ∷ []))
 
--- a script without such a piece has the meaning that it had before
+-- a script without such a piece has the same meaning as before
 abbrev pub MeansAsBefore : Type 0
 MeansAsBefore = (script : List ℕ) → All (λ piece. EndsInRounding piece → ⊥) (pieces script) → meaning script ≡ old_meaning script

@@ -1,4 +1,4 @@
--- Which calls a run makes of its source, its sink and its errors, in words of what one read or write may do.
+-- Which calls a run makes of its source, its sink and its errors, in terms of what one read or write may do.
 use Rattle.std.specs.Prelude.{◌≡◌, ℕ, zero, suc, ◌+◌, ◌<◌, ◌≤◌, ◌⊎◌, List, length, drop, Result, Ok, Err}
 use Rattle.fixed_calc.specs.Headline.{limit}
 use Rattle.fixed_stream.specs.declared.outside.Failed.{Failed}
@@ -9,27 +9,27 @@ use Rattle.fixed_calc.specs.declared.status.Status.TheVariants.{Done, ReadFault,
 
 -- ---- reads
 
--- `gives s room result s'`: a read into a buffer of so many bytes answers this, and leads from s to s'
+-- `gives s room result s'`: a read into a buffer of `room` bytes returns `result`, and leads from s to s'
 abbrev pub Reads : Type 0 → Type 1
 Reads S = S → ℕ → Result ℕ Failed → S → Type 0
 
--- how many bytes the buffer of each read has
+-- the length of the buffer of each read
 abbrev pub buffer_size : ℕ
 buffer_size = 4096
 
--- so many reads in a row led from s to s'. Each gave some bytes, and all together `total`
+-- so many reads in a row led from s to s'. Each returned some bytes, and all together `total`
 abbrev pub GaveBytes : {S : Type 0} → Reads S → ℕ → ℕ → S → S → Type 0
 GaveBytes gives zero total s s' = (total ≡ 0) × (s' ≡ s)
 GaveBytes {S} gives (suc calls) total s s' = (before : ℕ) × (count : ℕ) × (t : S)
     × GaveBytes gives calls before s t × (0 < count) × (total ≡ before + count) × gives t buffer_size (Ok count) s'
 
--- so many reads gave `total` bytes, within the limit, and the next and last answered this
+-- so many reads returned `total` bytes, within the limit, and the next read, which is the last, returned `last`
 abbrev pub ReadsUntil : {S : Type 0} → Reads S → ℕ → ℕ → Result ℕ Failed → S → S → Type 0
 ReadsUntil {S} gives calls total last s s' = (t : S)
     × GaveBytes gives calls total s t × (total ≤ limit) × gives t buffer_size last s'
 
--- the reads of a run with this status: the last one failed, or passed the limit, or met the end. Where memory ran out,
--- there may have been no such read yet
+-- the reads of a run with this status: the last one failed, exceeded the limit, or met the end. If memory ran out,
+-- there may have been no such read
 abbrev pub ReadsOfStatus : {S : Type 0} → Reads S → S → S → Status → Type 0
 ReadsOfStatus gives s s' ReadFault = (calls : ℕ) × (total : ℕ) × (failed : Failed) × ReadsUntil gives calls total (Err failed) s s'
 ReadsOfStatus gives s s' TooLong = (calls : ℕ) × (total : ℕ) × (count : ℕ) × (limit < total + count) × ReadsUntil gives calls total (Ok count) s s'
@@ -38,24 +38,24 @@ ReadsOfStatus gives s s' _ = (calls : ℕ) × (total : ℕ) × ReadsUntil gives 
 
 -- ---- writes
 
--- `gives s bytes result s'`: a write that offers these bytes answers this, and leads from s to s'
+-- `gives s bytes result s'`: a write that offers these bytes returns `result`, and leads from s to s'
 abbrev pub Writes : Type 0 → Type 1
 Writes S = S → List ℕ → Result ℕ Refusal → S → Type 0
 
--- so many writes in a row led from s to s', and took `total` bytes. Each offered all that was left of the bytes, and
--- some were
+-- so many writes in a row led from s to s', and took `total` bytes. Each offered all that remained of the bytes, which
+-- were some
 abbrev pub TookBytes : {S : Type 0} → Writes S → List ℕ → ℕ → ℕ → S → S → Type 0
 TookBytes gives bytes zero total s s' = (total ≡ 0) × (s' ≡ s)
 TookBytes {S} gives bytes (suc calls) total s s' = (before : ℕ) × (count : ℕ) × (t : S)
     × TookBytes gives bytes calls before s t × (before < length bytes) × (total ≡ before + count)
     × gives t (drop before bytes) (Ok count) s'
 
--- the last write, of all that was left, was refused so
+-- the last write, of all that remained, was refused for this reason
 abbrev pub WritesToRefusal : {S : Type 0} → Writes S → List ℕ → Refusal → S → S → Type 0
 WritesToRefusal {S} gives bytes refusal s s' = (calls : ℕ) × (before : ℕ) × (t : S)
     × TookBytes gives bytes calls before s t × (before < length bytes) × gives t (drop before bytes) (Err refusal) s'
 
--- the writes of a run with this status, whose output is bytes of which P holds; with the other statuses there are none
+-- the writes of a run with this status, if P holds for its output; with other statuses there are none
 abbrev pub WritesOfStatus : {S : Type 0} → Writes S → (List ℕ → Type 0) → S → S → Status → Type 0
 WritesOfStatus gives P s s' Done = (bytes : List ℕ) × (calls : ℕ) × P bytes × TookBytes gives bytes calls (length bytes) s s'
 WritesOfStatus gives P s s' WriteFault = (bytes : List ℕ) × P bytes × WritesToRefusal gives bytes RefusedFailed s s'

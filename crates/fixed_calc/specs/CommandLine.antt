@@ -3,7 +3,7 @@ use Rattle.std.specs.Prelude.{◌≡◌, ◌≢◌, ◌≤◌, ℕ, List, [], �
 use Rattle.std.specs.declared.alloc.Global.{Global}
 use Rattle.fixed_word.specs.Decimal.{natural_text}
 
--- how many lines a demonstration has at most
+-- a demonstration has at most this many lines
 abbrev pub most_lines : ℕ
 most_lines = 1000000
 
@@ -13,6 +13,6 @@ pub record IsDemo (words : List (String Global)) (n : ℕ) : Type 0 where
   pub some : 1 ≤ n
   pub most : n ≤ most_lines
 
--- there are words, and they are no demo
+-- there are words, and they are not `demo N`
 abbrev pub IsNoCommand : List (String Global) → Type 0
 IsNoCommand words = (words ≢ []) × ((n : ℕ) → IsDemo words n → ⊥)

@@ -78,6 +78,6 @@ abbrev pub summary_text : ℕ → ℕ → ℕ → List ℕ
 summary_text lines absent verdicts =
     codes "lines " ++ natural_text lines ++ codes "\nnone " ++ natural_text absent ++ codes "\ntrue " ++ natural_text verdicts ++ codes "\n"
 
--- how many lines were drawn, how many answers have no value, and how many a verdict that is true
+-- how many lines were drawn, how many answers have no value, and how many have a verdict that is true
 unfoldable pub summary : ℕ → List ℕ
 summary n = summary_text n (count_by is_absent (demo_answers n)) (count_by has_true_verdict (demo_answers n))

@@ -1,4 +1,4 @@
--- A script in which each line that may name a rounding does.
+-- A script in which each line that may name a rounding names one.
 use Rattle.std.specs.Prelude.{◌≡◌, ◌+◌, ◌++◌, ℕ, List, [], ◌∷◌, Option, Some, None, Result, Ok, Err}
 use Rattle.std.specs.Bool.{⊤}
 use Rattle.fixed_word.specs.Pieces.{pieces}
@@ -16,7 +16,7 @@ spelled_line (SetTo dest k) = SetTo dest k
 spelled_line (Apply dest policy op xs None) = Apply dest policy op xs (default_rounding op)
 spelled_line (Apply dest policy op xs (Some rounding)) = Apply dest policy op xs (Some rounding)
 
--- the script spelled out, or the number of the first piece that is no header, or no line, in its place
+-- the script spelled out, or the number of the first piece that is not a header, or a line, in its place
 pub data Spelling : Type 0 where
   Written : (bytes : List ℕ) → Spelling
   NoForm : (number : ℕ) → Spelling
@@ -45,12 +45,12 @@ spelled_pieces (p ∷ ps) = spelled_from (header_of_piece p) ps
 abbrev pub spelled : List ℕ → Spelling
 spelled script = spelled_pieces (pieces script)
 
--- the script spelled out, or the number of the piece without the form; or memory ran out
+-- the script spelled out, or the number of the malformed piece; or memory ran out
 abbrev pub IsAnswerOfSpelling : Spelling → Result (List ℕ) ExplicitFault → Type 0
 IsAnswerOfSpelling spelling (Ok script) = spelling ≡ Written script
 IsAnswerOfSpelling spelling (Err (Syntax k)) = spelling ≡ NoForm k
 IsAnswerOfSpelling spelling (Err Memory) = ⊤
 
--- the law: what is spelled out means the same, faults and their lines included
+-- the law: a script that is spelled out means the same, faults and their lines included
 abbrev pub KeepsMeaning : Type 0
 KeepsMeaning = (script bytes : List ℕ) → spelled script ≡ Written bytes → meaning bytes ≡ meaning script

@@ -1,4 +1,4 @@
-//! What the words of the command line ask for.
+//! What the words of the command line request.
 
 ghost use Rattle.std.specs.Prelude.{◌≡◌, ◌≤◌, ◌↔◌, ℕ, IfNone, IfSome, IsTrue};
 ghost use Rattle.fixed_word.specs.Decimal.{natural_text};
@@ -7,29 +7,29 @@ ghost use Rattle.fixed_calc.specs.CommandLine.{most_lines};
 
 use fixed_digits::natural_of;
 
-/// How many lines a demonstration has at least.
+/// A demonstration has at least this many lines.
 const FEWEST: u128 = 1;
 
-/// How many lines a demonstration has at most.
+/// A demonstration has at most this many lines.
 const MOST: u128 = 1_000_000;
 
-/// What the words ask for.
+/// What the words request.
 #[derive(Clone, Copy, Debug, PartialEq, Eq)]
 pub(crate) enum Command {
-    /// No words: a script is read, run, and its answers are written.
+    /// There are no words: a script is read and run, and its answers are written.
     Script,
-    /// `demo N`: a script of so many lines is made, run and summed up.
+    /// The words are `demo N`: a script of N lines is made, run and summed up.
     Demo(u32),
 }
 
-/// Whether a demonstration may have so many lines.
+/// Returns whether a demonstration may have so many lines.
 fn is_line_count(number: u128) -> bool
     ensures { IsTrue result ↔ ((1 ≤ number) × (number ≤ most_lines)) }
 {
     FEWEST <= number && number <= MOST
 }
 
-/// The number of lines that a word asks for.
+/// Returns the number of lines that a word requests, or `None` if the word is not the decimal of one that is allowed.
 fn lines_of(word: &[u8]) -> Option<u32>
     ensures some { IfSome result (λ n. (natural_text n ≡ word.now) × (1 ≤ n) × (n ≤ most_lines)) }
     ensures none { IfNone result
@@ -45,7 +45,7 @@ fn lines_of(word: &[u8]) -> Option<u32>
     }
 }
 
-/// What the words ask for; None where they are no form of the command.
+/// Returns what the words request, or `None` if they are not a form of the command.
 pub(crate) fn command_of(words: &[String]) -> Option<Command>
     ensures { IsCommandOf words.now result }
 {

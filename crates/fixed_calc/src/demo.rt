@@ -11,7 +11,7 @@ use fixed_digits::decimal_into;
 use std::alloc::{AllocError, Global};
 use std::marker::Model;
 
-/// The bytes of a script. Contracts see it as a list of bytes.
+/// The bytes of a script. Contracts see them as a list of bytes.
 #[derive(Drop)]
 pub struct Script {
     bytes: Vec<u8>,
@@ -26,21 +26,21 @@ impl Model for Script {
 }
 
 impl Script {
-    /// A script of these bytes. It takes no memory.
+    /// Returns a script of these bytes. This does not allocate.
     pub fn new(bytes: Vec<u8>) -> Script
         ensures { result ≡ bytes.items }
     {
         Script { bytes }
     }
 
-    /// The bytes.
+    /// Returns the bytes.
     pub fn as_bytes(&self) -> &[u8]
         ensures { result.now ≡ self.now }
     {
         &self.bytes
     }
 
-    /// Turns the script into its bytes. It takes no memory.
+    /// Turns the script into its bytes. This does not allocate.
     pub fn into_bytes(self) -> Vec<u8>
         ensures { result.items ≡ self }
     {
@@ -48,7 +48,7 @@ impl Script {
     }
 }
 
-/// The state after a state.
+/// Returns the next state.
 fn next(state: u64) -> u64
     ensures { result ≡ next_state state }
 {
@@ -57,7 +57,7 @@ fn next(state: u64) -> u64
         .wrapping_add(1_442_695_040_888_963_407)
 }
 
-/// Adds the decimal of a number.
+/// Adds the decimal of a number. Fails if memory runs out.
 fn push_number(script: &mut Vec<u8>, number: u64) -> Result<(), AllocError>
     ensures { OnOk result (script.new.items ≡ script.old.items ++ natural_text number) }
 {
@@ -66,7 +66,7 @@ fn push_number(script: &mut Vec<u8>, number: u64) -> Result<(), AllocError>
     script.extend_from_slice(&buffer[start..])
 }
 
-/// Adds the name of a register of one digit.
+/// Adds the name of a register of one digit. Fails if memory runs out.
 #[tactic(auto, using(fixed_digits::proofs::Shown::one_digit))]
 fn push_register(script: &mut Vec<u8>, register: u64) -> Result<(), AllocError>
     requires { register < 10 }
@@ -75,7 +75,7 @@ fn push_register(script: &mut Vec<u8>, register: u64) -> Result<(), AllocError>
     script.extend_from_slice(&[b'r', b'0' + register as u8])
 }
 
-/// Adds a line that sets a register of one digit.
+/// Adds a line that sets a register of one digit. Fails if memory runs out.
 fn push_set(script: &mut Vec<u8>, dest: u64, number: u64) -> Result<(), AllocError>
     requires { dest < 10 }
     ensures { OnOk result (script.new.items
@@ -86,8 +86,8 @@ fn push_set(script: &mut Vec<u8>, dest: u64, number: u64) -> Result<(), AllocErr
     push_number(script, number)
 }
 
-/// Adds a line of an operation: its destination, the names of its policy and operation, and its operands,
-/// with a space before all but the first. All registers have one digit.
+/// Adds the start of a line: its destination, the names of its policy and operation, and its operands, each after a
+/// space. All registers have one digit. Fails if memory runs out.
 fn push_applied(
     script: &mut Vec<u8>,
     dest: u64,
@@ -109,7 +109,7 @@ fn push_applied(
     Ok(())
 }
 
-/// Adds the line of a draw.
+/// Adds the line of a draw. Fails if memory runs out.
 fn push_line(script: &mut Vec<u8>, draw: u64) -> Result<(), AllocError>
     ensures { OnOk result (script.new.items ≡ script.old.items ++ line_text (drawn_line draw)) }
 {
@@ -128,9 +128,8 @@ fn push_line(script: &mut Vec<u8>, draw: u64) -> Result<(), AllocError>
     }
 }
 
-/// The script of a demonstration: a header of eight registers of 64 bits with 32 fraction bits, and
-/// so many lines that a generator of numbers draws. AllocError says that memory ran out. Condition:
-/// `lines` is from 1 to 1,000,000.
+/// Returns the script of a demonstration: a header of eight registers of 64 bits with 32 fraction bits, and `lines`
+/// lines that a generator of numbers draws. Fails if memory runs out. Precondition: `lines` is from 1 to 1,000,000.
 pub fn demo_script(alloc: Global, lines: u32) -> Result<Script, AllocError>
     requires some { 1 ≤ lines }
     requires most { lines ≤ most_lines }

@@ -1,4 +1,4 @@
-//! The line that is written to the errors, made without memory.
+//! The line that is written to the errors, made without allocation.
 
 ghost use Rattle.std.specs.Prelude.{◌≡◌, ◌≤◌, ◌++◌, codes, length};
 ghost use Rattle.fixed_word.specs.Decimal.{natural_text};
@@ -44,7 +44,7 @@ fn cause_line(cause: Cause) -> ShortText
     }
 }
 
-/// The line for a status; none for `Done`.
+/// Returns the line for a status, which is empty for `Done`.
 fn error_line_of(status: Status) -> ShortText
     ensures { result ≡ error_line status }
 {
@@ -59,7 +59,7 @@ fn error_line_of(status: Status) -> ShortText
     }
 }
 
-/// Writes the line for a status to the errors, as far as they take it.
+/// Writes the line for a status to the errors, until all of it is taken or a write is refused.
 pub(crate) fn write_error_line<E: Sink>(status: Status, errors: &mut E)
     ensures line { WritesErrorLine (E.state errors.old) (E.state errors.new) status }
     ensures line_writes { WritesOfLine E.write_gives (error_line status) errors.old errors.new }

@@ -1,4 +1,4 @@
-//! Laws of the definitions. These functions do nothing: each contract is the law.
+//! Laws of the definitions. These functions do nothing: the contract of each is the law.
 
 ghost use Rattle.std.specs.Prelude.{◌≡◌, ◌*◌, ◌+◌, ◌<◌, ◌≤◌, Bool, List, None, Ok, ℕ, ℤ, false, flat_map, length, min, true};
 ghost use Rattle.fixed_word.specs.Format.{IsWidth, fits};
@@ -20,28 +20,27 @@ ghost use Rattle.fixed_word.specs.Pieces.{pieces};
 pub use fixed_script::laws::{reading_law, text_law};
 use fixed_stream::{MemorySink, MemorySource, Sink, Source};
 
-/// Numbers of `2^64` or more, held as `2^64`, change neither the cause of a line nor its move.
+/// If `2^64` stands for each number of `2^64` or more, neither the cause of a line nor its move changes.
 pub fn cap_law()
     ensures { CapsAlike }
 {}
 
-/// The output of a script is at most twice as long as the script; so the room that is made for it
-/// suffices.
+/// The output of a script is at most twice as long as the script, so the room that is made for it suffices.
 pub fn output_law()
     ensures { (script bytes : List ℕ)
         → meaning script ≡ Output bytes → length bytes ≤ 2 * length script }
 {}
 
-/// Where a number fits, checked, saturating, wrapping and overflowing all answer it, as strict does.
-/// Where it does not, checked answers nothing, saturating the nearest number that fits, wrapping the
-/// residue, and overflowing the residue with the verdict.
+/// If a number fits, checked, saturating, wrapping and overflowing all return it, as strict does. If it does not fit,
+/// checked returns nothing, saturating the nearest number that fits, wrapping the wrapped number, and overflowing the
+/// wrapped number with the verdict.
 pub fn policy_law()
     ensures fits { (s : Bool) (n : ℕ) (x : ℤ) → IsWidth n → fits s n x ≡ true → WhereItFits s n x }
     ensures misses { (s : Bool) (n : ℕ) (x : ℤ) → fits s n x ≡ false → WhereItMisses s n x }
 {}
 
-/// The script of a demonstration has no cause, however many lines it has. Its output is the texts of its
-/// answers, one for each line.
+/// The script of a demonstration has no cause, whatever its number of lines. Its output is the texts of its answers,
+/// one for each line.
 pub fn demo_law()
     ensures no_cause { (n : ℕ) → (run_of (demo_text n)).fault ≡ None }
     ensures output { (n : ℕ)
@@ -49,9 +48,9 @@ pub fn demo_law()
     ensures one_each { (n : ℕ) → length (demo_answers n) ≡ n }
 {}
 
-/// A script has the same output with a wider word of the same sign in its header, where each row on the
-/// way is undefined or a number that fits; so `run_in` on the second script answers the same bytes. Each
-/// script that has an output begins with a header.
+/// A script has the same output with a wider word of the same sign in its header, if each row that it takes is
+/// undefined or fits. So `run_in` on the second script leaves the same bytes. Each script that has an output begins
+/// with a header.
 pub fn widening_law()
     ensures widens { (header : ScriptHeader) (wide : WordName) (lines bytes : List ℕ)
         → IsWider header.word wide → rows_fit (start header) (pieces lines) ≡ true
@@ -61,22 +60,22 @@ pub fn widening_law()
         → (header : ScriptHeader) × ((lines : List ℕ) × (script ≡ script_of header lines)) }
 {}
 
-/// A script of which no piece has a space and the name of a rounding before its newline means what it
-/// meant before lines could name a rounding.
+/// If no piece of a script has a space and the name of a rounding before its newline, the script means what it meant
+/// before lines could name a rounding.
 pub fn before_law()
     ensures meaning { MeansAsBefore }
     ensures lines { ReadsOldLines }
 {}
 
-/// A script that is spelled out means what the script means: the same output, or the same cause of the
-/// same line.
+/// A script that is spelled out means what the script means: it has the same output, or the same cause of the same
+/// line.
 pub fn spelling_law()
     ensures { KeepsMeaning }
 {}
 
-/// How many calls a run that read all and wrote all made of a source and a sink in memory. The reads take
-/// the input, each as much of it as it may give into the buffer, and one more meets its end. The writes
-/// take the output, each as much of it as it may; an output of no bytes takes no write.
+/// The number of calls of a run that reads all of a source in memory and writes all to a sink in memory. Each read
+/// returns as many bytes of the input as it may, and one more read meets the end. Each write takes as many bytes of the
+/// output as it may; an output without bytes has no write.
 pub fn calls_law()
     ensures reads { (calls total : ℕ) (source source' : MemoryInput) → 1 ≤ source.most
         → ReadsUntil ⟦<MemorySource as Source>⟧.read_gives calls total (Ok 0) source source'

@@ -1,9 +1,9 @@
-//! The calculator: a script of register lines, run by a machine whose every line takes the exact
-//! number of its operation and projects it by its policy.
+//! The calculator. It runs a script on a register machine: each line takes the exact result of its operation, and its
+//! policy makes the answer of it.
 //!
-//! [`calc_main`] does all that the program does; [`run`] runs a script in memory, and [`run_in`] runs
-//! it in a [`Room`] that was made for it, without asking for memory. [`demo_script`] makes a large valid
-//! script. All of this is this project's own.
+//! [`calc_main`] does all that the program does. [`run`] runs a script in memory, and [`run_in`] runs it in a [`Room`]
+//! that was made for it, without allocation. [`demo_script`] makes a large valid script. The Rust crate `fixed` does
+//! not have these items.
 #![tactic(auto)]
 
 mod command;

@@ -7,10 +7,10 @@ ghost use Rattle.fixed_calc.specs.inside.ReadFaults.{RoseIfFailed, ReadsAs};
 use fixed_stream::Source;
 use std::alloc::Global;
 
-/// How many bytes a script has at most.
+/// A script has at most this many bytes.
 const LIMIT: usize = 67_108_864;
 
-/// Why reading stops short of the end.
+/// Why reading stops before the end.
 #[derive(Clone, Copy, Debug, PartialEq, Eq)]
 pub(crate) enum Stop {
     Failed,
@@ -18,7 +18,7 @@ pub(crate) enum Stop {
     Memory,
 }
 
-/// All that the source has left. The limit is tested before the script grows.
+/// Reads a source to its end and returns its bytes. The limit is tested before the script grows.
 pub(crate) fn read_all<S: Source>(alloc: Global, source: &mut S) -> Result<Vec<u8>, Stop>
     ensures whole { IfOk result (λ script. ReadWhole
         (S.state source.old).left (S.state source.new).left (λ input. script.items ≡ input)) }

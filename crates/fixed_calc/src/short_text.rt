@@ -1,4 +1,4 @@
-//! A short text, made without memory.
+//! A short text, made without allocation.
 
 ghost use Rattle.std.specs.Prelude.{◌≡◌, ◌≤◌, ◌+◌, ◌++◌, [], length};
 ghost use Rattle.fixed_word.specs.Decimal.{natural_text};
@@ -33,7 +33,7 @@ impl ShortText {
         }
     }
 
-    /// Adds bytes, for which there is room.
+    /// Adds bytes. Precondition: there is room for them.
     pub(crate) fn push(&mut self, bytes: &[u8])
         requires { length self.old + length bytes.now ≤ 96 }
         ensures { self.new ≡ self.old ++ bytes.now }
@@ -43,7 +43,7 @@ impl ShortText {
         self.len = end;
     }
 
-    /// Adds the decimal of a number, which has at most 20 digits.
+    /// Adds the decimal of a number. Precondition: there is room for 20 digits.
     pub(crate) fn push_number(&mut self, number: u64)
         requires { length self.old + 20 ≤ 96 }
         ensures text { self.new ≡ self.old ++ natural_text number }

@@ -1,4 +1,4 @@
-//! A script in which each line that may name a rounding does.
+//! A script in which each line that may name a rounding names one.
 
 ghost use Rattle.std.specs.Prelude.{◌≡◌, ◌<◌, ◌∷◌, ◌++◌, [], length, IfErr, IfOk, OnOk};
 ghost use Rattle.fixed_word.specs.Pieces.{pieces};
@@ -13,10 +13,10 @@ use fixed_text::piece_end;
 use std::alloc::{AllocError, Global};
 use thiserror::Error;
 
-/// Why a script is not spelled out.
+/// Why a script cannot be spelled out.
 #[derive(Debug, PartialEq, Eq, Drop, Error)]
 pub enum ExplicitFault {
-    /// The piece of that number is the first that is no header or no line.
+    /// The piece with this number is the first that is not a header or a line.
     #[error("line {0}: syntax")]
     Syntax(u64),
     /// Memory ran out.
@@ -24,7 +24,7 @@ pub enum ExplicitFault {
     Memory,
 }
 
-/// The rounding of an operation whose line names none.
+/// Returns the rounding of an operation whose line names none.
 fn default_of(op: Op) -> Option<Rounding>
     ensures { result ≡ default_rounding op }
 {
@@ -35,7 +35,7 @@ fn default_of(op: Op) -> Option<Rounding>
     }
 }
 
-/// The rounding that is added to a line, if any is.
+/// Returns the rounding that is added to a line, if there is one.
 fn added(line: &Line) -> Option<Rounding>
     ensures { result ≡ added_to (script_line_of line.now) }
 {
@@ -51,7 +51,7 @@ fn added(line: &Line) -> Option<Rounding>
     }
 }
 
-/// How a line ends that names the rounding.
+/// Returns the end of a line that names the rounding.
 fn end_of(rounding: Rounding) -> &'static [u8]
     ensures { result.now ≡ 32 ∷ (rounding_name rounding ++ (10 ∷ [])) }
 {
@@ -77,7 +77,7 @@ fn push_spelled(script: &mut Vec<u8>, piece: &[u8], line: &Line) -> Result<(), A
     }
 }
 
-/// Adds the first line of the rest, spelled out. Answers where it ends.
+/// Adds the first line of the rest, spelled out, and returns where it ends.
 fn spell_line(script: &mut Vec<u8>, rest: &[u8], number: u64) -> Result<usize, ExplicitFault>
     requires { 0 < length rest.now }
     ensures ok { IfOk result (λ end. HasSpelled number rest.now end script.old.items script.new.items) }
@@ -111,10 +111,9 @@ fn spell_lines(script: &mut Vec<u8>, lines: &[u8]) -> Result<(), ExplicitFault>
     Ok(())
 }
 
-/// The script in which each line that may name a rounding does: its default where it names none.
-/// `Syntax` with the number of the first piece that is no header or no line, where there is one,
-/// and 1 for no bytes at all. A report that memory ran out may come in place of either; then
-/// nothing is handed out.
+/// Returns the script in which each line that may name a rounding names one: its own, or its operation's default. Fails
+/// with `Syntax` and the number of the first piece that is not a header or a line, which is 1 for an empty script.
+/// Whatever the script is, it may fail with `Memory`, if memory runs out.
 pub fn explicit(alloc: Global, script: &[u8]) -> Result<Script, ExplicitFault>
     ensures { IsAnswerOfSpelling (spelled script.now) result }
 {
@@ -125,7 +124,7 @@ pub fn explicit(alloc: Global, script: &[u8]) -> Result<Script, ExplicitFault>
     let Some(_header) = header_of_piece(&script[..end]) else {
         return Err(ExplicitFault::Syntax(1));
     };
-    // A line of 19 bytes or more grows by 5.
+    // A line that gets a rounding has at least 19 bytes, and grows by 5.
     let Ok(mut bytes) = Vec::with_capacity(alloc, script.len() + script.len() / 2) else {
         return Err(ExplicitFault::Memory);
     };

@@ -11,11 +11,11 @@ use crate::short_text::ShortText;
 use fixed_machine::{RunFault, run};
 use std::alloc::{AllocError, Global};
 
-/// How many bytes are counted at once.
+/// So many bytes are counted at once.
 const PART: usize = 60_000;
 
-/// How often a byte stands in a text of so few bytes: its count is a short word, of which the compiler takes
-/// many at once.
+/// Returns how often a byte occurs in a text of fewer than `2^16` bytes. The count is a short word, so that the
+/// compiler counts many bytes at once.
 fn count_in_part(part: &[u8], byte: u8) -> u16
     requires { length part.now < 2 ^ 16 }
     ensures { result ≡ count_by (λ b. b == byte) part.now }
@@ -29,7 +29,7 @@ fn count_in_part(part: &[u8], byte: u8) -> u16
     count
 }
 
-/// How often a byte stands in a text.
+/// Returns how often a byte occurs in a text.
 fn count_of(text: &[u8], byte: u8) -> usize
     ensures { result ≡ count_by (λ b. b == byte) text.now }
 {
@@ -43,7 +43,7 @@ fn count_of(text: &[u8], byte: u8) -> usize
     count
 }
 
-/// The three lines of a summary.
+/// Returns the three lines of a summary.
 fn summary_text(lines: u32, absent: usize, verdicts: usize) -> ShortText
     ensures { result ≡ text_of lines absent verdicts }
 {
@@ -58,8 +58,8 @@ fn summary_text(lines: u32, absent: usize, verdicts: usize) -> ShortText
     text
 }
 
-/// The summary of so many lines with these answers. Of all texts of answers `none` alone has an `o`, and
-/// a verdict that is true alone a `t`.
+/// Returns the summary of so many lines with these answers. Of all texts of answers, only `none` has an `o`, and only a
+/// verdict that is true has a `t`.
 fn summary_of(lines: u32, answers: &[u8]) -> ShortText
     ensures { (given : List Answer) → answers.now ≡ flat_map answer_text given
         → result ≡ text_of lines (count_by is_absent given) (count_by has_true_verdict given) }
@@ -69,7 +69,7 @@ fn summary_of(lines: u32, answers: &[u8]) -> ShortText
     summary_text(lines, absent, verdicts)
 }
 
-/// Makes the script of so many lines, runs it and sums up its answers; or says that memory ran out.
+/// Makes a script of so many lines, runs it and returns the summary of its answers. Fails if memory runs out.
 pub(crate) fn demo_summary(alloc: Global, lines: u32) -> Result<ShortText, AllocError>
     requires some { 1 ≤ lines }
     requires most { lines ≤ most_lines }

@@ -16,7 +16,7 @@ use fixed_machine::{RunFault, run};
 use fixed_stream::{Refusal, Sink, Source};
 use std::alloc::Global;
 
-/// Reads, runs and writes.
+/// Reads a script, runs it and writes its output.
 fn read_run_write<S: Source, K: Sink>(alloc: Global, source: &mut S, sink: &mut K) -> Status
     ensures source_faults { FaultsOfStatus (S.state source.old) (S.state source.new) result }
     ensures sink_counts { CountsOfStatus (K.state sink.old) (K.state sink.new) result }
@@ -70,7 +70,7 @@ fn demonstrate<K: Sink>(alloc: Global, lines: u32, sink: &mut K) -> Status
     }
 }
 
-/// All but the line for the errors.
+/// Does all that `calc_main` does, except writing the line for the errors.
 fn status_of<S: Source, K: Sink>(
     alloc: Global,
     words: &[String],
@@ -104,21 +104,20 @@ fn status_of<S: Source, K: Sink>(
     }
 }
 
-/// With no words: reads a script from `source`, runs it, and writes its whole output to `sink`, or the
-/// line of what stopped it to `errors`. With the words `demo N`, N the decimal of a number from 1 to
-/// 1,000,000: reads nothing, makes the script of `demo_script`, runs it, and writes how many lines it has,
-/// how many answers have no value and how many a verdict that is true. With any other words: `Usage`, and
-/// nothing is read and nothing written to `sink`.
+/// Runs the program, and returns how it ended. Without words, it reads a script from `source`, runs it and writes its
+/// whole output to `sink`, or the line for its fault to `errors`. With the words `demo N`, where N is the decimal of a
+/// number from 1 to 1,000,000, it reads nothing, makes the script of `demo_script`, runs it, and writes the number of
+/// its lines, of its answers without a value, and of its verdicts that are true. With any other words, it returns
+/// `Usage`, reads nothing, and writes nothing to `sink`.
 ///
-/// The clauses say, status by status, what was read and written. What a script means is defined by
-/// the register machine of this crate's definitions, in which each line takes the exact number of its
-/// operation and projects it by its policy.
+/// The contract states, for each status, what was read and written. It uses the meaning of a script, which this crate's
+/// specs define by a register machine: each line takes the exact result of its operation, and its policy makes the
+/// answer of it.
 ///
-/// They say too which calls are made, as far as source, sink and errors say what a call does. Each
-/// read goes into a buffer of 4,096 bytes. A read that gave some bytes is followed by another,
-/// unless the limit is passed or the status is `Memory`; none follows the end of the input or a
-/// failed read. Each write offers all that is left of the output or the line, where some is; none
-/// follows a refused one.
+/// The contract also states every read and write, in terms of the contracts of source, sink and errors. Each read uses
+/// a buffer of 4,096 bytes. After a read that returned some bytes there is another, unless the limit is exceeded or the
+/// status is `Memory`. After the end of the input, or after a failed read, there is none. Each write offers all bytes
+/// that remain of the output, or of the line for the errors, unless none do. After a refused write there is none.
 pub fn calc_main<S: Source, K: Sink, E: Sink>(
     alloc: Global,
     words: &[String],

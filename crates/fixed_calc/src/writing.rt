@@ -8,7 +8,7 @@ ghost use Rattle.fixed_calc.specs.Headline.{AppendsProperPrefix};
 
 use fixed_stream::{Refusal, Sink};
 
-/// Offers all that is left, until none is left or a write is refused.
+/// Offers all bytes that remain, until none do or a write is refused.
 pub(crate) fn write_all<K: Sink>(bytes: &[u8], sink: &mut K) -> Result<(), Refusal>
     ensures bytes { MatchResult result
         (λ _. Appends (K.state sink.old).taken (K.state sink.new).taken bytes.now)

@@ -1,5 +1,5 @@
 -- The digits behind the point, from the last on.
-use Rattle.std.proofs.Common.{◌≡◌, ◌+◌, ◌*◌, ◌/◌, ◌%◌, ◌^◌, ◌<◌, ◌≤◌, ℕ, zero, suc, Bool, not, ◌==◌, ◌||◌, sym, ap, ◌∙◌, mul_assoc, mul_comm, mul_left_comm, mul_right_comm, add-mul, pow-add, pow-suc, arith}
+use Rattle.std.proofs.Common.{◌≡◌, ◌+◌, ◌-◌, ◌*◌, ◌/◌, ◌%◌, ◌^◌, ◌<◌, ◌≤◌, ℕ, zero, suc, Bool, not, ◌==◌, ◌||◌, sym, ap, ◌∙◌, mul_assoc, mul_comm, mul_left_comm, mul_right_comm, add-mul, pow-add, pow-suc, arith}
 use Rattle.std.proofs.Math.Nat.{one-le-pow, mul-lt-mul_of_pos_right, pow-le-pow_right}
 use Rattle.std.proofs.lemmas.Bool.Decides.{nat_tests}
 use Rattle.std.proofs.lemmas.Nat.{div-add-mod', div-mul-add, mod-mul-add, div_below, mod_below, mul-add-lt, mul-le, shl_whole}
@@ -52,6 +52,12 @@ part_step c p j k m h r e f =
 -- the shift keeps every bit
 pub moved_up : (v f : ℕ) → v < 2 ^ 60 → f ≤ 64 → (v * 2 ^ (f + 1)) % 2 ^ 128 ≡ v * (2 * 2 ^ f)
 moved_up v f small le = shl_whole v 60 (f + 1) 128 small (omega arith) ∙ ap (λ n. v * n) two
+  where
+    two : 2 ^ (f + 1) ≡ 2 * 2 ^ f
+    two = ap (λ k. 2 ^ k) (omega arith) ∙ pow-suc 2 f ∙ mul_comm (2 ^ f) 2
+
+pub moved_short : (v f : ℕ) → v < 2 ^ (63 - f) → f < 63 → (v * 2 ^ (f + 1)) % 2 ^ 64 ≡ 2 * (v * 2 ^ f)
+moved_short v f small le = shl_whole v (63 - f) (f + 1) 64 small (omega arith) ∙ ap (λ n. v * n) two ∙ mul_left_comm v 2 (2 ^ f)
   where
     two : 2 ^ (f + 1) ≡ 2 * 2 ^ f
     two = ap (λ k. 2 ^ k) (omega arith) ∙ pow-suc 2 f ∙ mul_comm (2 ^ f) 2

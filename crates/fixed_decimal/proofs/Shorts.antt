@@ -1,5 +1,5 @@
 -- Decimals of at most 18 bytes.
-use Rattle.std.proofs.Common.{◌≡◌, ◌==◌, ◌+◌, ◌-◌, ◌*◌, ◌/◌, ◌%◌, ◌^◌, ◌<◌, ◌≤◌, ◌*ℤ◌, ◌++◌, ℕ, ℤ, pos, Bool, not, List, [], length, take, drop, get_or, Result, Ok, if◌then◌else◌, sym, ap, ◌∙◌, subst, append-nil, length-drop, mul_left_comm, arith}
+use Rattle.std.proofs.Common.{◌≡◌, ◌==◌, ◌+◌, ◌-◌, ◌*◌, ◌^◌, ◌<◌, ◌≤◌, ◌*ℤ◌, ◌++◌, ℕ, ℤ, pos, Bool, List, [], length, take, drop, get_or, Result, Ok, if◌then◌else◌, sym, ap, ◌∙◌, subst, append-nil, length-drop, arith}
 use lib.ListN.{get_or-eq_default}
 use Rattle.std.specs.Str.Parse.{digits_value, digits_value_after, starts_with_minus, without_leading_sign}
 use Rattle.std.proofs.Math.Nat.{one-le-pow, pow-le-pow_right}
@@ -14,7 +14,6 @@ use Rattle.fixed_decimal.specs.Decimal.{decimal_row, digits_in, fault_of, place_
 use Rattle.fixed_decimal.specs.inside.Reading.{IsPointAt, IsReadAs, IsShort, part_end}
 use Rattle.fixed_decimal.specs.inside.Stepped.{stepped}
 use Rattle.fixed_decimal.proofs.Decided.{rounded_by_step}
-use Rattle.fixed_decimal.proofs.Parts.{moved_up}
 use Rattle.fixed_decimal.proofs.Points.{point_clear, run}
 use Rattle.fixed_decimal.proofs.Runs.{after_join}
 
@@ -71,17 +70,11 @@ row_of_short k b bytes v p f r i =
     ∙ ap (λ (x : ℤ). ok (rounded x (pos (10 ^ p)) r)) (signed_times b v (2 ^ f))
     ∙ ap ok (rounded_by_step r b (v * 2 ^ f) (10 ^ p) (one-le-pow p 10 (omega arith)))
 
-pub short_decided : (b : Bool) (text bytes : List ℕ) (v p f t halves magnitude : ℕ) (rest : Bool) (r : Rounding)
-    → f ≤ 64 → b ≡ starts_with_minus text → bytes ≡ without_leading_sign text → IsShort bytes v p → t ≡ 10 ^ p
-    → halves ≡ (v * 2 ^ (f + 1)) % 2 ^ 128 / t → rest ≡ not ((v * 2 ^ (f + 1)) % 2 ^ 128 % t == 0)
-    → ((m d : ℕ) → 0 < d → halves ≡ 2 * m / d → rest ≡ not (2 * m % d == 0) → magnitude ≡ stepped r b m d)
-    → IsReadAs (decimal_row text f r) (Ok (b, magnitude))
-short_decided b text bytes v p f t halves magnitude rest r le eb ebytes i et ehalves erest step =
-    let up : (v * 2 ^ (f + 1)) % 2 ^ 128 ≡ 2 * (v * 2 ^ f) = moved_up v f i.small le ∙ mul_left_comm v 2 (2 ^ f) in
-    let size : magnitude ≡ stepped r b (v * 2 ^ f) (10 ^ p) =
-    step (v * 2 ^ f) (10 ^ p) (one-le-pow p 10 (omega arith))
-    (ehalves ∙ ap (λ k. k / t) up ∙ ap (λ k. 2 * (v * 2 ^ f) / k) et)
-    (erest ∙ ap (λ k. not (k % t == 0)) up ∙ ap (λ k. not (2 * (v * 2 ^ f) % k == 0)) et) in
+pub short_decided : (b : Bool) (text bytes : List ℕ) (v p f t magnitude : ℕ) (r : Rounding)
+    → b ≡ starts_with_minus text → bytes ≡ without_leading_sign text → IsShort bytes v p → t ≡ 10 ^ p
+    → magnitude ≡ stepped r b (v * 2 ^ f) t → IsReadAs (decimal_row text f r) (Ok (b, magnitude))
+short_decided b text bytes v p f t magnitude r eb ebytes i et step =
+    let size : magnitude ≡ stepped r b (v * 2 ^ f) (10 ^ p) = step ∙ ap (stepped r b (v * 2 ^ f)) et in
     let row : decimal_row text f r ≡ ok (with_sign b (stepped r b (v * 2 ^ f) (10 ^ p))) =
     ap (λ c. row_by (place_in text) c f r (without_leading_sign text)) (sym eb) ∙ ap (row_by (place_in text) b f r) (sym ebytes) ∙ row_of_short (place_in text) b bytes v p f r i in
     subst (λ (y : Result ℤ DecimalError). IsReadAs y (Ok (b, magnitude))) (sym row) (subst (λ (m : ℕ). Alike (2 ^ 64) (with_sign b (stepped r b (v * 2 ^ f) (10 ^ p))) (with_sign b m)) (sym size) (alike_refl (2 ^ 64) _))

@@ -14,18 +14,18 @@ use Rattle.fixed_decimal.specs.declared.error.DecimalError.TheVariants.{NoDigits
 abbrev pub is_point : ℕ → Bool
 is_point b = b == 46
 
--- behind the sign: all bytes but the first point, and those behind it
+-- after the sign: all bytes but the first point, and those after it
 abbrev pub digits_in : List ℕ → List ℕ
 digits_in bytes = before_first is_point bytes ++ after_first is_point bytes
 
 abbrev pub places_in : List ℕ → ℕ
 places_in bytes = length (after_first is_point bytes)
 
--- how many digits and points stand before the first other byte
+-- how many digits and points precede the first other byte
 abbrev pub lead : List ℕ → ℕ
 lead bytes = prefix_len (λ b. is_ascii_digit b || is_point b) bytes
 
--- why the bytes are not digits alone, at least one: the first that is no digit, or that there is none
+-- why the bytes are not digits alone, at least one: the first that is not a digit, or that there is none
 abbrev pub fault_at : ℕ → ℕ → DecimalError
 fault_at place b = if is_point b then TooManyPoints else InvalidDigit place
 
@@ -33,11 +33,11 @@ abbrev pub fault_of : ℕ → List ℕ → Option DecimalError
 fault_of place [] = Some NoDigits
 fault_of place (b ∷ bs) = option_map (fault_at place) (find (λ c. not (is_ascii_digit c)) (b ∷ bs))
 
--- the place of the first byte behind the sign that is neither a digit nor a point
+-- the index of the first byte after the sign that is neither a digit nor a point
 abbrev pub place_in : List ℕ → ℕ
 place_in text = length text - length (without_leading_sign text) + lead (without_leading_sign text)
 
--- why a text is no decimal
+-- why a text is not a decimal
 abbrev pub fault_in : List ℕ → Option DecimalError
 fault_in text = fault_of (place_in text) (digits_in (without_leading_sign text))
 
@@ -49,7 +49,7 @@ abbrev pub unless_inexact : Bool → Result ℤ DecimalError → Result ℤ Deci
 unless_inexact is_exact (Ok x) = if is_exact then Ok x else Err Inexact
 unless_inexact is_exact (Err e) = Err e
 
--- the number of a text's digits, with its sign
+-- the number that a text's digits write, with its sign
 abbrev pub number_in : List ℕ → ℤ
 number_in text = with_sign (starts_with_minus text) (digits_value 10 (digits_in (without_leading_sign text)))
 
@@ -59,10 +59,10 @@ decimal_row text f r =
     let bytes = without_leading_sign text in
     unless (fault_in text) (rounded (number_in text *ℤ pos (2 ^ f)) (pos (10 ^ places_in bytes)) r)
 
--- the number of bytes behind a sign is a whole number of units of 2 ^ -f
+-- the number of the bytes after a sign is a whole number of units of 2 ^ -f
 abbrev pub is_exact_in : List ℕ → ℕ → Bool
 is_exact_in bytes f = digits_value 10 (digits_in bytes) * 2 ^ f % 10 ^ places_in bytes == 0
 
--- the row of a text, where its number is a whole number of units
+-- the row of a text, if its number is a whole number of units
 abbrev pub exact_row : List ℕ → ℕ → Result ℤ DecimalError
 exact_row text f = unless_inexact (is_exact_in (without_leading_sign text) f) (decimal_row text f Zero)

@@ -1,4 +1,4 @@
--- What each policy makes of the row of a text: of a number without a bound, or of an error.
+-- What each policy returns for the row of a text, which is a number of any size or an error.
 use Rattle.std.specs.Prelude.{◌≡◌, ℕ, ℤ, nat_le, Bool, not, List, Option, None, Result, Ok, Err, if◌then◌else◌}
 use Rattle.std.specs.Result.{result_ok}
 use Rattle.fixed_word.specs.Format.{clamp, fits, wrap}
@@ -33,6 +33,6 @@ wrapping_decimal signed n row = result_map (wrap signed n) row
 abbrev pub overflowing_decimal : Bool → ℕ → Result ℤ DecimalError → Result (ℤ × Bool) DecimalError
 overflowing_decimal signed n row = result_map (λ x. (wrap signed n x, not (fits signed n x))) row
 
--- the number of a constant's text to the nearest unit, if the fraction is at most the width and it fits
+-- the number of a constant's text, to the nearest unit, if the fraction is at most the width and the number fits
 abbrev pub literal : Bool → ℕ → ℕ → List ℕ → Option ℤ
 literal signed n f text = if nat_le f n then result_ok (checked_decimal signed n (decimal_row text f Even)) else None

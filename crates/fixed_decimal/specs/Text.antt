@@ -11,12 +11,12 @@ unfoldable pub places_text : ℕ → ℕ → List ℕ
 places_text n zero = []
 places_text n (suc p) = places_text (n / 10) p ++ (48 + n % 10) ∷ []
 
--- n / 10 ^ p with p digits behind the point
+-- n / 10 ^ p with p digits after the point
 abbrev pub magnitude_text : ℕ → ℕ → List ℕ
 magnitude_text n zero = natural_text n
 magnitude_text n (suc p) = natural_text (n / 10 ^ suc p) ++ 46 ∷ places_text n (suc p)
 
--- a minus before the text of a number below 0
+-- a minus precedes the text of a number below 0
 abbrev pub after_sign : ℤ → List ℕ → List ℕ
 after_sign (pos n) text = text
 after_sign (negsuc n) text = 45 ∷ text
@@ -28,28 +28,28 @@ to_places a f p r = rounded (a *ℤ pos (10 ^ p)) (pos (2 ^ f)) r
 abbrev pub text_of : ℤ → ℕ → ℕ → Rounding → List ℕ
 text_of a f p r = after_sign a (magnitude_text (nat_abs (to_places a f p r)) p)
 
--- p digits behind the point are exact
+-- p digits after the point are exact
 abbrev pub IsExactAt : ℤ → ℕ → ℕ → Type 0
 IsExactAt a f p = (nat_abs a * 10 ^ p) % 2 ^ f ≡ 0
 
--- p digits behind the point, to the nearest, are read as a
+-- p digits after the point, to the nearest, are read as a
 abbrev pub ReadsBack : ℤ → ℕ → ℕ → Type 0
 ReadsBack a f p = rounded (to_places a f p Even *ℤ pos (2 ^ f)) (pos (10 ^ p)) Even ≡ a
 
--- m is the least number of which P holds
+-- m is the least number for which P holds
 pub record IsLeast (P : ℕ → Type 0) (m : ℕ) : Type 0 where
   pub holds : P m
   pub least : (k : ℕ) → P k → m ≤ k
 
--- the first of the numbers from 0 on that passes, or n
+-- the first number from 0 on that passes the test, or n if none below n does
 abbrev pub first_of : (ℕ → Bool) → ℕ → ℕ
 first_of test zero = zero
 first_of test (suc n) = if test zero then zero else suc (first_of (λ k. test (suc k)) n)
 
--- p digits behind the point are read as a
+-- p digits after the point are read as a
 abbrev pub reads_back : ℤ → ℕ → ℕ → Bool
 reads_back a f p = int_eq (rounded (to_places a f p Even *ℤ pos (2 ^ f)) (pos (10 ^ p)) Even) a
 
--- how many digits behind the point the shortest text has
+-- how many digits after the point the shortest text has
 unfoldable pub shortest : ℤ → ℕ → ℕ
 shortest a f = first_of (reads_back a f) 20

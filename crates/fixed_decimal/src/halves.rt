@@ -1,11 +1,12 @@
-//! A quotient with a named rounding, from its halves.
+//! Quotients rounded as named, from the quotient of twice the dividend.
 
 ghost use Rattle.std.specs.Prelude.{◌≡◌, ◌==◌, ◌*◌, ◌/◌, ◌%◌, ◌^◌, ◌<◌, ◌≤◌, ℕ, not};
 ghost use Rattle.fixed_decimal.specs.inside.Stepped.{moves_past, stepped};
 
 use fixed_word::Rounding;
 
-/// The magnitude of a rounded quotient, from that of twice the dividend, rounded down, and whether that left a rest.
+/// Returns the magnitude of a rounded quotient. `halves` is twice the dividend over the divisor, rounded down, and
+/// `rest` is whether that division left a remainder. The quotient is negative if `below_zero`.
 #[inline]
 pub const fn rounded_halves(halves: u128, rest: bool, below_zero: bool, rounding: Rounding) -> u128
     ensures { (n d : ℕ) → 0 < d → halves ≡ 2 * n / d → rest ≡ not (2 * n % d == 0)
@@ -16,7 +17,7 @@ pub const fn rounded_halves(halves: u128, rest: bool, below_zero: bool, rounding
     whole + past as u128
 }
 
-/// Whether the rounding takes a magnitude past its whole number, by what is behind that: a half, and a rest.
+/// Returns whether the rounding adds 1 to a whole magnitude, which a half and a smaller rest may follow.
 #[inline]
 const fn moves_past(
     rounding: Rounding,
@@ -34,7 +35,7 @@ const fn moves_past(
     }
 }
 
-/// What is left of a number by `2^count`.
+/// Returns the remainder of the number by `2^count`. Precondition: `count` is at most 64.
 #[inline]
 pub const fn low_bits(number: u128, count: u32) -> u128
     requires { count ≤ 64 }

@@ -1,4 +1,4 @@
-//! Laws of the definitions. These functions do nothing: each contract is the law.
+//! Laws of the definitions. These functions do nothing: the contract of each is the law.
 
 ghost use Rattle.std.specs.Prelude.{◌≡◌, ◌≤◌, ◌^◌, ◌-ℤ◌, ◌*ℤ◌, ℕ, ℤ, pos, nat_abs, List, None, Ok, true};
 ghost use Rattle.std.specs.Str.Parse.{without_leading_sign};
@@ -8,8 +8,8 @@ ghost use Rattle.fixed_kernel.specs.Rounded.{IsRounded};
 ghost use Rattle.fixed_decimal.specs.Decimal.{decimal_row, exact_row, fault_in, number_in, places_in};
 ghost use Rattle.fixed_decimal.specs.Text.{IsExactAt, IsLeast, ReadsBack, shortest, text_of, to_places};
 
-/// A text is read as its number with the named rounding: down, toward zero, or to the nearest and to the even one of
-/// two. What is read as exact is the text's number itself.
+/// A decimal is read as its number, rounded as named: down, toward zero, or to the nearest, ties to even. If it is read
+/// as exact, the result is the number itself.
 pub fn reading_law()
     ensures rounded { (f : ℕ) (r : Rounding) (text : List ℕ) → fault_in text ≡ None
         → (a : ℤ) × (decimal_row text f r ≡ Ok a)
@@ -18,10 +18,11 @@ pub fn reading_law()
         → a *ℤ pos (10 ^ places_in (without_leading_sign text)) ≡ number_in text *ℤ pos (2 ^ f) }
 {}
 
-/// The text of a number that is exact is read as the number, with each rounding. As many digits behind the point as
-/// fraction bits are exact. The shortest text is read as the number, to the nearest and to the even one of two; no text
-/// with fewer digits behind the point is; and of the decimals with as many none is nearer to the number. Up to 64
-/// fraction bits `shortest` is the number of digits behind the point that the shortest text has.
+/// If the text of a number is exact, it is read as the number, with each rounding. A text with at least as many digits
+/// after the point as the format has fraction bits is exact. The shortest text is read as the number, to the nearest,
+/// ties to even; no decimal with fewer digits after the point is. A rounded text is at least as near to the number as
+/// any decimal with as many digits after the point. Up to 64 fraction bits, `shortest` returns how many digits after
+/// the point the shortest text has.
 pub fn text_law()
     ensures exact { (a : ℤ) (f p : ℕ) (r s : Rounding) → IsExactAt a f p
         → decimal_row (text_of a f p r) f s ≡ Ok a }

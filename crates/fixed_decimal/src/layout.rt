@@ -1,4 +1,4 @@
-//! A number between its fill, as long as its width asks.
+//! Writing a number with its padding.
 
 ghost use Rattle.std.specs.Prelude.{◌≡◌, ◌≤◌, ◌++◌, [], length, replicate, if◌then◌else◌};
 ghost use Rattle.std.specs.List.{repeat};
@@ -7,8 +7,8 @@ ghost use Rattle.std.specs.Fmt.{WritesStyledOnOk, char_count, formatter_spec, pa
 
 use std::fmt::{self, Alignment, Write};
 
-/// Writes a number as `pad_integral` does, with so many zeros at the end of its digits. The prefix is written if the
-/// formatter is alternate. Precondition: each byte of the prefix is a letter.
+/// Writes a number as `pad_integral` does, with `zeros` zeros after its digits. The prefix is written if the formatter
+/// is alternate. Precondition: the prefix has as many characters as bytes.
 pub fn pad_number<W: fmt::Write>(
     f: &mut fmt::Formatter<W>,
     below_zero: bool,
@@ -45,7 +45,7 @@ pub fn pad_number<W: fmt::Write>(
     write_repeated(f, fill, padding - before - inner)
 }
 
-/// The sign that a number shows.
+/// Returns the sign to write: `-` below 0, `+` for other numbers if `plus`, and otherwise nothing.
 #[inline]
 fn sign_shown(plus: bool, below_zero: bool) -> &'static str
     ensures { result.now ≡ sign_text_with plus below_zero }
@@ -59,7 +59,7 @@ fn sign_shown(plus: bool, below_zero: bool) -> &'static str
     }
 }
 
-/// The prefix that a number shows.
+/// Returns the prefix if the formatter is alternate, and otherwise nothing.
 #[inline]
 fn prefix_shown(alternate: bool, prefix: &str) -> &str
     ensures { result.now ≡ (if alternate then prefix.now else []) }
@@ -67,7 +67,7 @@ fn prefix_shown(alternate: bool, prefix: &str) -> &str
     if alternate { prefix } else { "" }
 }
 
-/// How much of the padding stands before a number.
+/// Returns how much of the padding precedes the number.
 #[inline]
 fn fill_before<W: fmt::Write>(f: &fmt::Formatter<W>, padding: usize) -> usize
     ensures value { result ≡ padding_before (formatter_spec f.now) padding 3 }
@@ -80,7 +80,7 @@ fn fill_before<W: fmt::Write>(f: &fmt::Formatter<W>, padding: usize) -> usize
     }
 }
 
-/// Writes a character so many times.
+/// Writes a character `count` times.
 #[inline]
 fn write_repeated<W: fmt::Write>(f: &mut fmt::Formatter<W>, sign: char, count: usize) -> fmt::Result
     ensures { WritesStyledOnOk W.write_str_gives f.old result (repeat count (encode_utf8 sign)) f.new }

@@ -1,9 +1,9 @@
-//! Decimal text, in and out: the number of a text in any format and with any rounding, and the text of a number, exact,
-//! with so many digits behind the point, or as short as it can be and still be read as the number.
+//! Decimal text: reading a number of any format with any rounding, and writing a number exactly, with a given number of
+//! digits after the point, or with as few digits as read back as the number.
 //!
-//! A text is perhaps a sign, digits with at most one point among them, and at least one digit: `-12.5`, `+3`, `.5`,
-//! `5.`. It stands for a whole number over a power of ten, and its row in a format with f bits behind the point is that
-//! times `2^f`, rounded. Texts have any length, and each digit counts. No function takes memory.
+//! A decimal is an optional sign and digits, at least one, with at most one point among them: `-12.5`, `+3`, `.5`,
+//! `5.`. Its exact result in a format with f fraction bits is its number times `2^f`, rounded. Texts may have any
+//! length, and each digit counts. No function allocates.
 #![tactic(auto)]
 
 mod error;

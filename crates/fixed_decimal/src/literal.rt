@@ -9,9 +9,9 @@ ghost use Rattle.fixed_decimal.specs.inside.Reading.{within};
 use crate::reading::magnitude_of;
 use fixed_word::Rounding;
 
-/// The number of a decimal in units of `2^-frac`, to the nearest and to the even one of two. None if the text is no
-/// decimal, the number does not fit into a signed word of that width, or the fraction is past the width. Precondition:
-/// the width is 8, 16, 32 or 64.
+/// Returns the number of a decimal in units of `2^-frac`, rounded to the nearest, ties to even. Returns `None` if the
+/// text is not a decimal, if `frac` is greater than the width, or if the number does not fit into a signed word of that
+/// width. Precondition: `width` is 8, 16, 32 or 64.
 pub const fn checked_signed_literal(text: &[u8], frac: u32, width: u32) -> Option<i64>
     requires { IsWidth width }
     ensures { result ≡ literal true width frac text.now }
@@ -25,7 +25,7 @@ pub const fn checked_signed_literal(text: &[u8], frac: u32, width: u32) -> Optio
     }
 }
 
-/// The same for an unsigned word.
+/// Returns what `checked_signed_literal` returns, but for an unsigned word. Precondition: `width` is 8, 16, 32 or 64.
 pub const fn checked_unsigned_literal(text: &[u8], frac: u32, width: u32) -> Option<u64>
     requires { IsWidth width }
     ensures { option_map pos result ≡ literal false width frac text.now }
@@ -39,8 +39,9 @@ pub const fn checked_unsigned_literal(text: &[u8], frac: u32, width: u32) -> Opt
     }
 }
 
-/// The number of a decimal in units of `2^-frac`, to the nearest and to the even one of two. Preconditions: the width is
-/// 8, 16, 32 or 64, the fraction is at most the width, and the number fits into a signed word of that width.
+/// Returns the number of a decimal in units of `2^-frac`, rounded to the nearest, ties to even. Preconditions: `width`
+/// is 8, 16, 32 or 64, `frac` is at most the width, and the text is a decimal whose number fits into a signed word of
+/// that width.
 pub const fn signed_literal(text: &[u8], frac: u32, width: u32) -> i64
     requires width { IsWidth width }
     requires fits { IsSome (literal true width frac text.now) }
@@ -53,7 +54,7 @@ pub const fn signed_literal(text: &[u8], frac: u32, width: u32) -> i64
     }
 }
 
-/// The same for an unsigned word.
+/// Returns what `signed_literal` returns, but for an unsigned word. The preconditions are the same for such a word.
 pub const fn unsigned_literal(text: &[u8], frac: u32, width: u32) -> u64
     requires width { IsWidth width }
     requires fits { IsSome (literal false width frac text.now) }
@@ -66,7 +67,7 @@ pub const fn unsigned_literal(text: &[u8], frac: u32, width: u32) -> u64
     }
 }
 
-/// The number, if it fits into a signed word of that width.
+/// Returns the number, or `None` if it does not fit into a signed word of that width.
 const fn signed_within(below_zero: bool, magnitude: u128, width: u32) -> Option<i64>
     requires { IsWidth width }
     ensures { result ≡ within true width (with_sign below_zero magnitude) }
@@ -81,7 +82,7 @@ const fn signed_within(below_zero: bool, magnitude: u128, width: u32) -> Option<
     }
 }
 
-/// The number, if it fits into an unsigned word of that width.
+/// Returns the number, or `None` if it does not fit into an unsigned word of that width.
 const fn unsigned_within(below_zero: bool, magnitude: u128, width: u32) -> Option<u64>
     requires { IsWidth width }
     ensures { option_map pos result ≡ within false width (with_sign below_zero magnitude) }

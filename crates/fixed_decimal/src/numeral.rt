@@ -1,4 +1,4 @@
-//! The form of a decimal, and the numbers of its digits.
+//! The form of decimals, and the numbers that their digits write.
 
 ghost use Rattle.std.specs.Prelude.{◌≡◌, ◌≤◌, ◌<◌, ◌+◌, ◌-◌, ◌^◌, IfSome, length, drop, take, true};
 ghost use Rattle.std.specs.Char.{is_ascii_digit};
@@ -8,10 +8,10 @@ ghost use Rattle.fixed_decimal.specs.inside.Reading.{IsPoint, IsShort, part_end}
 
 use crate::error::DecimalError;
 
-/// How many digits a part has at most, of which the number is taken at once.
+/// Digits are read and written in parts of at most this length, each as one number.
 pub const PART: usize = 18;
 
-/// Whether a minus stands in front, and what stands behind a sign.
+/// Returns whether the text begins with a minus, and the bytes after its sign, if it has one.
 #[inline]
 pub const fn sign_of(text: &[u8]) -> (bool, &[u8])
     ensures minus { result.0 ≡ starts_with_minus text.now }
@@ -25,7 +25,7 @@ pub const fn sign_of(text: &[u8]) -> (bool, &[u8])
     }
 }
 
-/// Where the digits from a place on end.
+/// Returns where the run of digits from `from` on ends.
 #[inline]
 const fn digits_end(bytes: &[u8], from: usize) -> usize
     requires { from ≤ length bytes.now }
@@ -39,7 +39,7 @@ const fn digits_end(bytes: &[u8], from: usize) -> usize
     at
 }
 
-/// Where the digits end that stand behind a point at a place, or that place if there is none.
+/// Returns where the digits after a point at `at` end, or `at` if no point is there.
 #[inline]
 const fn part_end(bytes: &[u8], at: usize) -> usize
     requires { at ≤ length bytes.now }
@@ -54,8 +54,8 @@ const fn part_end(bytes: &[u8], at: usize) -> usize
     }
 }
 
-/// Where the point stands, or where the digits end if there is none. An error where the bytes are no decimal without
-/// its sign: an invalid digit has its place behind so many bytes that stand before these.
+/// Returns where the point is, or where the digits end if there is no point. Fails if the bytes are not an unsigned
+/// decimal. An invalid digit is reported by its index, counted with the `before` bytes that precede these.
 #[inline]
 pub const fn point_of(bytes: &[u8], before: usize) -> Result<usize, DecimalError>
     requires { before + length bytes.now < 2 ^ 64 }
@@ -76,7 +76,8 @@ pub const fn point_of(bytes: &[u8], before: usize) -> Result<usize, DecimalError
     }
 }
 
-/// The number of a run of digits from a place on, after those of a number before it, and where the run ends.
+/// Reads the digits from `from` on, which continue the number `before`. Returns the number of all digits, and where
+/// they end.
 #[inline]
 const fn run_from(bytes: &[u8], from: usize, before: u64) -> (u64, usize)
     requires from { from ≤ length bytes.now }
@@ -96,8 +97,8 @@ const fn run_from(bytes: &[u8], from: usize, before: u64) -> (u64, usize)
     (value, at)
 }
 
-/// A decimal of at most 18 bytes without its sign, in one pass: the number of all its digits, and how many of them
-/// stand behind the point. None for other bytes.
+/// Reads an unsigned decimal of at most 18 bytes in one pass. Returns the number that all its digits write, and how
+/// many of them follow the point. `None` decides nothing: the general path reads the bytes.
 #[inline]
 pub const fn short_decimal(bytes: &[u8]) -> Option<(u64, usize)>
     ensures { IfSome result (λ found. IsShort bytes.now found.0 found.1) }
@@ -119,7 +120,7 @@ pub const fn short_decimal(bytes: &[u8]) -> Option<(u64, usize)>
     Some((value, end - point - 1))
 }
 
-/// The number of at most 18 digits from a place on.
+/// Returns the number that the `count` digits from `from` on write. Precondition: these are digits, and at most 18.
 #[inline]
 pub const fn value_of(bytes: &[u8], from: usize, count: usize) -> u64
     requires within { from + count ≤ length bytes.now }

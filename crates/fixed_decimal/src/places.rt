@@ -1,4 +1,4 @@
-//! How many digits behind the point a number needs.
+//! How many digits after the point a number needs.
 
 ghost use Rattle.std.specs.Prelude.{◌≡◌, ◌↔◌, ◌^◌, ◌<◌, ◌≤◌, IsTrue};
 ghost use Rattle.fixed_decimal.specs.inside.Close.{IsClose};
@@ -8,8 +8,8 @@ use crate::halves::low_bits;
 use crate::tens::ten_to;
 use fixed_word::{RawWord, Word};
 
-/// How many digits behind the point the exact text of a number in units of `2^-frac` has, at most `frac`. Condition:
-/// `frac` is at most the width.
+/// Returns how many digits after the point the exact text of a number in units of `2^-frac` has, which is at most
+/// `frac`. Precondition: `frac` is at most the width.
 pub fn exact_places<T: Word>(number: T, frac: u32) -> usize
     requires { frac ≤ T.BITS }
     ensures places { IsLeast (IsExactAt (T.value number) frac) result }
@@ -19,8 +19,8 @@ pub fn exact_places<T: Word>(number: T, frac: u32) -> usize
     (frac - zeros.min(frac)) as usize
 }
 
-/// How many digits behind the point the shortest text has that is read as the number, to the nearest, and to the even
-/// one of two. Condition: `frac` is at most the width.
+/// Returns how many digits after the point the shortest text has that is read as the number, to the nearest, ties to
+/// even. That is at most 20. Precondition: `frac` is at most the width.
 pub fn shortest_places<T: Word>(number: T, frac: u32) -> usize
     requires { frac ≤ T.BITS }
     ensures places { IsLeast (ReadsBack (T.value number) frac) result }
@@ -35,7 +35,7 @@ pub fn shortest_places<T: Word>(number: T, frac: u32) -> usize
     places
 }
 
-/// So many digits that units of `10^-places` are no larger than those of `2^-frac`.
+/// Returns a number of digits, at most 20, such that a unit of the last digit is at most `2^-frac`.
 #[inline]
 fn enough_places(frac: u32) -> usize
     requires { frac ≤ 64 }
@@ -45,8 +45,8 @@ fn enough_places(frac: u32) -> usize
     (frac * 3 / 10 + 1) as usize
 }
 
-/// Whether the decimal with so many digits behind the point that is nearest to a magnitude in units of `2^-frac` lies
-/// less than half a unit beside it, or half a unit beside an even one.
+/// Returns whether the nearest decimal with `places` digits after the point is less than half a unit of `2^-frac` away
+/// from a magnitude, or half a unit away from an even one.
 #[inline]
 fn reads_back(magnitude: u64, frac: u32, places: usize) -> bool
     requires frac { frac ≤ 64 }

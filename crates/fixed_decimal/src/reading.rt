@@ -1,4 +1,4 @@
-//! The number of a decimal, in units of a format.
+//! Reading the number of a decimal, in units of a format.
 
 ghost use Rattle.std.specs.Prelude.{◌≡◌, ◌==◌, ◌+◌, ◌*◌, ◌/◌, ◌%◌, ◌^◌, ◌<◌, ◌≤◌, drop, length, min, not, take, true, None};
 ghost use Rattle.std.specs.Char.{is_ascii_digit};
@@ -7,6 +7,7 @@ ghost use Rattle.std.specs.Str.Parse.{digits_value, without_leading_sign};
 ghost use Rattle.fixed_decimal.specs.Decimal.{decimal_row, exact_row, fault_in, is_exact_in};
 ghost use Rattle.fixed_decimal.specs.Rows.{IsOutcomeOf};
 ghost use Rattle.fixed_decimal.specs.inside.Reading.{IsReadAs, held};
+ghost use Rattle.fixed_decimal.specs.inside.Stepped.{stepped};
 
 use crate::error::DecimalError;
 use crate::halves::rounded_halves;
@@ -14,8 +15,8 @@ use crate::numeral::{PART, point_of, short_decimal, sign_of, value_of};
 use crate::tens::ten_to;
 use fixed_word::{Outcome, Rounding, Word, outcome_of};
 
-/// The outcome that stands for the number of a text in units of `2^-frac`, rounded. Condition: `frac` is at most the
-/// width.
+/// Returns the outcome of the number of a decimal in units of `2^-frac`, rounded as named. Fails if the text is not a
+/// decimal. Precondition: `frac` is at most the width.
 pub fn decimal_of<T: Word>(
     text: &[u8],
     frac: u32,
@@ -30,8 +31,8 @@ pub fn decimal_of<T: Word>(
     }
 }
 
-/// The number of a text in units of `2^-frac`, rounded: whether it has a minus, and its magnitude, or one past 64 bits
-/// that ends in the same 64.
+/// Returns the sign and the magnitude of the number of a decimal in units of `2^-frac`, rounded as named. A magnitude
+/// of `2^64` or more may be another such number with the same lowest 64 bits.
 #[inline(always)]
 pub(crate) const fn magnitude_of(
     text: &[u8],
@@ -43,8 +44,7 @@ pub(crate) const fn magnitude_of(
 {
     let (below_zero, bytes) = sign_of(text);
     if let Some((value, places)) = short_decimal(bytes) {
-        let (halves, rest) = divided((value as u128) << (frac + 1), ten_to(places));
-        let magnitude = rounded_halves(halves, rest, below_zero, rounding);
+        let magnitude = rounded_quotient(value, ten_to(places), frac, below_zero, rounding);
         return Ok((below_zero, magnitude));
     }
     match point_of(bytes, text.len() - bytes.len()) {
@@ -58,8 +58,32 @@ pub(crate) const fn magnitude_of(
     }
 }
 
-/// The outcome that stands for the number of a text in units of `2^-frac`. An error where that is no whole number of
-/// units. Condition: `frac` is at most the width.
+/// Returns `value / by` in units of `2^-frac`, rounded as named. The quotient is negative if `below_zero`. Numbers of at
+/// most 64 bits stay in 64 bits up to the end, which is faster.
+#[inline(always)]
+const fn rounded_quotient(
+    value: u64,
+    by: u64,
+    frac: u32,
+    below_zero: bool,
+    rounding: Rounding,
+) -> u128
+    requires value { value < 2 ^ 60 }
+    requires by { 0 < by }
+    requires frac { frac ≤ 64 }
+    ensures { result ≡ stepped rounding below_zero (value * 2 ^ frac) by }
+{
+    if frac < 63 && value < 1 << (63 - frac) {
+        let twice = value << (frac + 1);
+        rounded_halves((twice / by) as u128, twice % by != 0, below_zero, rounding)
+    } else {
+        let (halves, rest) = divided((value as u128) << (frac + 1), by);
+        rounded_halves(halves, rest, below_zero, rounding)
+    }
+}
+
+/// Returns the outcome of the number of a decimal in units of `2^-frac`. Fails if the text is not a decimal, or if its
+/// number is not a whole number of units. Precondition: `frac` is at most the width.
 pub fn exact_decimal_of<T: Word>(text: &[u8], frac: u32) -> Result<Outcome<T>, DecimalError>
     requires { frac ≤ T.BITS }
     ensures { IsOutcomeOf T.value T.SIGNED T.BITS (exact_row text.now frac) result }
@@ -76,7 +100,8 @@ pub fn exact_decimal_of<T: Word>(text: &[u8], frac: u32) -> Result<Outcome<T>, D
     }
 }
 
-/// Whether the number of a decimal is a whole number of units of `2^-frac`.
+/// Returns whether the number of a decimal is a whole number of units of `2^-frac`. Of other texts, the result says
+/// nothing.
 #[inline]
 const fn is_exact(text: &[u8], frac: u32) -> bool
     requires { frac ≤ 64 }
@@ -92,7 +117,7 @@ const fn is_exact(text: &[u8], frac: u32) -> bool
     }
 }
 
-/// A number below `2^64`, or one of at least `2^64` that ends in the same 64 bits.
+/// Returns the number if it is below `2^64`, and otherwise a number of at least `2^64` with the same lowest 64 bits.
 #[inline]
 const fn fold(number: u128) -> u128
     ensures { result ≡ held number }
@@ -104,7 +129,7 @@ const fn fold(number: u128) -> u128
     }
 }
 
-/// The smaller of two counts.
+/// Returns the smaller of two counts.
 #[inline]
 const fn smaller(a: usize, b: usize) -> usize
     ensures { result ≡ min a b }
@@ -112,7 +137,8 @@ const fn smaller(a: usize, b: usize) -> usize
     if a < b { a } else { b }
 }
 
-/// The number of the digits before the point times `2^frac`, or one past 64 bits that ends in the same 64.
+/// Returns the number that the digits before the point write, times `2^frac`. If that is `2^64` or more, returns a
+/// number of at least `2^64` with the same lowest 64 bits.
 #[inline]
 const fn units_of(bytes: &[u8], point: usize, frac: u32) -> u128
     requires within { point ≤ length bytes.now }
@@ -131,8 +157,8 @@ const fn units_of(bytes: &[u8], point: usize, frac: u32) -> u128
     units
 }
 
-/// Twice the number of the digits from a place on, which stand behind the point, times `2^frac`, rounded down, and
-/// whether that left a rest. They are taken from the last on, so that each one counts.
+/// Returns twice the fraction that the digits from `from` on write after the point, times `2^frac`, rounded down, and
+/// whether that leaves a rest. The digits are read from the last one on, so that each one counts.
 #[inline]
 const fn halves_of(bytes: &[u8], from: usize, frac: u32) -> (u128, bool)
     requires within { from ≤ length bytes.now }
@@ -156,8 +182,8 @@ const fn halves_of(bytes: &[u8], from: usize, frac: u32) -> (u128, bool)
     (halves, rest)
 }
 
-/// The quotient, rounded down, and whether that left a rest. A number of 64 bits is divided there, since a division of
-/// 128 bits takes many times as long.
+/// Returns the quotient, rounded down, and whether there is a remainder. A number of at most 64 bits is divided in 64
+/// bits, since a division of 128 bits takes many times as long.
 #[inline]
 const fn divided(number: u128, by: u64) -> (u128, bool)
     requires { 0 < by }

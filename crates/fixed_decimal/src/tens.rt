@@ -2,7 +2,7 @@
 
 ghost use Rattle.std.specs.Prelude.{◌≡◌, ◌<◌, ◌^◌};
 
-/// The powers of ten that 64 bits hold.
+/// The powers of ten that fit into 64 bits.
 static TENS: [u64; 20] = [
     1,
     10,
@@ -26,7 +26,7 @@ static TENS: [u64; 20] = [
     10_000_000_000_000_000_000,
 ];
 
-/// `10^power`. Condition: `power` is below 20.
+/// Returns `10^power`. Precondition: `power` is below 20.
 #[inline(always)]
 pub const fn ten_to(power: usize) -> u64
     requires { power < 20 }

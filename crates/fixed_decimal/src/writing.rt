@@ -1,4 +1,4 @@
-//! The text of a number with so many digits behind the point.
+//! Writing a number with a given number of digits after the point.
 
 ghost use Rattle.std.specs.Prelude.{◌≡◌, ◌+◌, ◌-◌, ◌*◌, ◌/◌, ◌^◌, ◌<◌, ◌≤◌, ◌++◌, drop, length};
 ghost use Rattle.fixed_decimal.specs.Text.{magnitude_text, places_text, text_of};
@@ -10,9 +10,10 @@ use crate::tens::ten_to;
 use fixed_digits::decimal_before;
 use fixed_word::{RawWord, Rounding, Word};
 
-/// Puts the text of a number in units of `2^-frac` at the end of the buffer, rounded to so many digits behind the
-/// point, and answers where it begins. A minus stands before that of a number below 0. Conditions: `frac` is at most
-/// the width, and `places` at most 64. The longest text has a minus, 20 digits, a point and 64 digits.
+/// Writes the text of a number in units of `2^-frac`, rounded as named to `places` digits after the point, at the end
+/// of the buffer, and returns where it begins. The text of a number below 0 begins with a minus, even if the number is
+/// rounded to 0. The longest text has a minus, 20 digits, a point and 64 digits. Preconditions: `frac` is at most the
+/// width, and `places` is at most 64.
 pub fn write_decimal<T: Word>(
     number: T,
     frac: u32,
@@ -42,7 +43,8 @@ pub fn write_decimal<T: Word>(
     }
 }
 
-/// The same of a magnitude, with its rounding.
+/// Writes the text of a magnitude, rounded as named, and returns where it begins. The number is negative if
+/// `below_zero`.
 fn write_magnitude(
     magnitude: u64,
     frac: u32,
@@ -70,8 +72,8 @@ fn write_magnitude(
     decimal_before((units >> frac) as u64 + carry, buffer, point)
 }
 
-/// Puts so many digits of a number below 1, in units of `2^-frac`, before a place, rounded, and answers the carry: 1
-/// where the rounding leads to 1, and otherwise 0. The byte before the digits is lost.
+/// Writes `places` digits of a number below 1, in units of `2^-frac`, rounded as named, so that they end before `end`.
+/// Returns the carry: 1 if the number is rounded to 1, and otherwise 0. The byte before the digits is overwritten.
 fn put_part(
     part: u128,
     frac: u32,
@@ -106,8 +108,8 @@ fn put_part(
     )
 }
 
-/// Puts so many digits of a number before a place, and answers the number that stands before them. The byte before
-/// the digits is lost.
+/// Writes the last `count` digits of a number so that they end before `end`, and returns the number that the digits
+/// before these write. The byte before the digits is overwritten.
 #[inline]
 fn put_digits(number: u64, count: usize, buffer: &mut [u8], end: usize) -> u64
     requires count { count ≤ 18 }

@@ -1,4 +1,4 @@
--- The natural number whose decimal some bytes are, capped: one of 2 ^ 64 or more is held as 2 ^ 64.
+-- The natural number whose decimal some bytes are, capped: 2 ^ 64 stands for each number of 2 ^ 64 or more.
 use Rattle.std.specs.Prelude.{ℕ, ◌==◌, ◌^◌, ◌&&◌, ◌||◌, min, not, false, Bool, if◌then◌else◌, List, [], ◌∷◌, length, slice_index, drop, Option, Some, None}
 use Rattle.std.specs.List.{list_all}
 use Rattle.std.specs.Char.{is_ascii_digit}
@@ -7,7 +7,7 @@ use Rattle.std.specs.Str.Parse.{digits_value}
 abbrev pub cap : ℕ → ℕ
 cap n = min n (2 ^ 64)
 
--- digits alone, at least one, and no 0 before another
+-- digits alone, at least one, and no leading 0 before another
 abbrev pub is_decimal : List ℕ → Bool
 is_decimal [] = false
 is_decimal (c ∷ cs) = (not (c == 48) || length cs == 0) && list_all is_ascii_digit (c ∷ cs)
@@ -15,7 +15,7 @@ is_decimal (c ∷ cs) = (not (c == 48) || length cs == 0) && list_all is_ascii_d
 unfoldable pub natural_at : List ℕ → Option ℕ
 natural_at token = if is_decimal token then Some (cap (digits_value 10 token)) else None
 
--- a minus in front, and what stands behind it
+-- whether there is a minus at the front, and what follows it
 abbrev pub has_minus : List ℕ → Bool
 has_minus token = slice_index token 0 == 45
 

@@ -1,8 +1,8 @@
-//! The digits of natural numbers, written and read without memory.
+//! Reading and writing the digits of natural numbers, without allocation.
 //!
-//! The calculator's whole numbers and the decimals of fixed-point numbers are written by the same function. A number that
-//! is read is held capped: each number of `2^64` or more, which is no value of any word, is held as `2^64`. Contracts use
-//! the text of a natural number that [`fixed_word`](fixed_word) defines.
+//! `decimal_before` and `decimal_into` write both the calculator's whole numbers and the decimals of fixed-point
+//! numbers. A number that is read is capped: `2^64` stands for each number of `2^64` or more, which no word has as its
+//! value. Contracts use the text of a natural number that [`fixed_word`](fixed_word) defines.
 #![tactic(auto)]
 
 mod numerals;

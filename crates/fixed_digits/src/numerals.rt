@@ -1,4 +1,4 @@
-//! Decimals of natural numbers, read and held capped.
+//! Reading decimals of natural numbers, capped at `2^64`.
 
 ghost use Rattle.std.specs.Prelude.{◌≡◌, IsTrue};
 ghost use Rattle.std.specs.List.{list_all};
@@ -6,7 +6,7 @@ ghost use Rattle.std.specs.Char.{is_ascii_digit};
 ghost use Rattle.std.specs.Str.Parse.{digits_value};
 ghost use Rattle.fixed_digits.specs.Numerals.{cap, is_decimal, natural_at, has_minus, without_minus};
 
-/// What stands for each number that is as large or larger.
+/// This number stands for itself and for each larger one.
 const CAP: u128 = 18_446_744_073_709_551_616;
 
 fn all_digits(bytes: &[u8]) -> bool
@@ -15,7 +15,7 @@ fn all_digits(bytes: &[u8]) -> bool
     bytes.iter().all(|b| b.is_ascii_digit())
 }
 
-/// Whether the token is digits alone, at least one, and with no 0 before another.
+/// Returns whether the token consists of digits, at least one, and is `0` or does not begin with 0.
 pub fn is_decimal(token: &[u8]) -> bool
     ensures { result ≡ is_decimal token.now }
 {
@@ -25,7 +25,8 @@ pub fn is_decimal(token: &[u8]) -> bool
     }
 }
 
-/// The number that the digits stand for, capped.
+/// Returns the number that the digits write, or `2^64` if it is larger. Precondition: the token is a decimal, as
+/// `is_decimal` tests.
 pub fn value_of(digits: &[u8]) -> u128
     requires { IsTrue (is_decimal digits.now) }
     ensures { result ≡ cap (digits_value 10 digits.now) }
@@ -37,7 +38,8 @@ pub fn value_of(digits: &[u8]) -> u128
     value
 }
 
-/// A natural number.
+/// Returns the natural number that the token writes, or `2^64` if it is larger. Returns `None` if the token is not a
+/// decimal.
 #[tactic(auto, unfolding(crate::specs::Numerals::natural_at))]
 pub fn natural_of(token: &[u8]) -> Option<u128>
     ensures { result ≡ natural_at token.now }
@@ -49,7 +51,7 @@ pub fn natural_of(token: &[u8]) -> Option<u128>
     }
 }
 
-/// Whether a minus stands in front, and what stands after it.
+/// Returns whether the token begins with a minus, and the bytes after that minus. Without a minus, these are all bytes.
 pub fn sign_of(token: &[u8]) -> (bool, &[u8])
     ensures minus { result.0 ≡ has_minus token.now }
     ensures number { result.1.now ≡ without_minus token.now }

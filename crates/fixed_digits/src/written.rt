@@ -1,4 +1,4 @@
-//! The decimal of a number, without memory, up to eight digits at a time.
+//! Writing the decimal of a number, up to eight digits at a time.
 
 ghost use Rattle.std.specs.Prelude.{◌≡◌, ◌+◌, ◌<◌, ◌≤◌, ◌++◌, drop, length};
 ghost use Rattle.fixed_word.specs.Decimal.{natural_text};
@@ -8,7 +8,7 @@ ghost use Rattle.fixed_digits.specs.inside.Digits.{eight_digits, four_digits, pa
 static PAIRS: [u8; 200] =
     *b"00010203040506070809101112131415161718192021222324252627282930313233343536373839404142434445464748495051525354555657585960616263646566676869707172737475767778798081828384858687888990919293949596979899";
 
-/// Puts the two digits of a number below 100 at a place.
+/// Writes the two digits of a number below 100 at a place.
 #[inline(always)]
 fn put_pair(pair: u32, buffer: &mut [u8], at: usize)
     requires pair { pair < 100 }
@@ -21,7 +21,7 @@ fn put_pair(pair: u32, buffer: &mut [u8], at: usize)
     buffer[at + 1] = ones;
 }
 
-/// Puts the four digits of a number below 10,000 at a place.
+/// Writes the four digits of a number below 10,000 at a place.
 #[inline(always)]
 fn put_four(four: u32, buffer: &mut [u8], at: usize)
     requires four { four < 10000 }
@@ -32,7 +32,7 @@ fn put_four(four: u32, buffer: &mut [u8], at: usize)
     put_pair(four / 100, buffer, at);
 }
 
-/// Puts the eight digits of a number below 100,000,000 at a place.
+/// Writes the eight digits of a number below 100,000,000 at a place.
 #[inline(always)]
 fn put_eight(eight: u32, buffer: &mut [u8], at: usize)
     requires eight { eight < 100000000 }
@@ -43,7 +43,7 @@ fn put_eight(eight: u32, buffer: &mut [u8], at: usize)
     put_four(eight / 10_000, buffer, at);
 }
 
-/// Puts the decimal of a number below 100 before a place, and answers where it begins.
+/// Writes the decimal of a number below 100 so that it ends before `end`, and returns where it begins.
 #[inline(always)]
 fn put_first_pair(number: u32, buffer: &mut [u8], end: usize) -> usize
     requires number { number < 100 }
@@ -63,7 +63,7 @@ fn put_first_pair(number: u32, buffer: &mut [u8], end: usize) -> usize
     }
 }
 
-/// Puts the decimal of a number below 10,000 before a place, and answers where it begins.
+/// Writes the decimal of a number below 10,000 so that it ends before `end`, and returns where it begins.
 #[inline(always)]
 fn put_first_four(number: u32, buffer: &mut [u8], end: usize) -> usize
     requires number { number < 10000 }
@@ -81,7 +81,7 @@ fn put_first_four(number: u32, buffer: &mut [u8], end: usize) -> usize
     }
 }
 
-/// Puts the decimal of a number below 100,000,000 before a place, and answers where it begins.
+/// Writes the decimal of a number below 100,000,000 so that it ends before `end`, and returns where it begins.
 #[inline(always)]
 fn put_first(number: u32, buffer: &mut [u8], end: usize) -> usize
     requires number { number < 100000000 }
@@ -99,7 +99,8 @@ fn put_first(number: u32, buffer: &mut [u8], end: usize) -> usize
     }
 }
 
-/// Puts the decimal before a place, and answers where it begins.
+/// Writes the decimal so that it ends before `end`, and returns where it begins. Bytes from `end` on do not change.
+/// Precondition: `end` is at least 20, which is the length of the longest decimal, and at most the buffer's length.
 #[inline(always)]
 pub fn decimal_before(number: u64, buffer: &mut [u8], end: usize) -> usize
     requires room { 20 ≤ end }
@@ -117,7 +118,7 @@ pub fn decimal_before(number: u64, buffer: &mut [u8], end: usize) -> usize
     put_first(rest as u32, buffer, at)
 }
 
-/// Puts the decimal at the end of the buffer, and answers where it begins.
+/// Writes the decimal at the end of the buffer, and returns where it begins.
 pub fn decimal_into(number: u64, buffer: &mut [u8; 20]) -> usize
     ensures within { result ≤ 20 }
     ensures digits { drop result buffer.new ≡ natural_text number }

@@ -1,9 +1,9 @@
--- The exact result of each operation: a whole number of units of the result, without a bound.
--- a and b are the operands' bits, and f is the fraction of the operation's numbers.
+-- The exact result of each operation: a whole number of units of the result, of any size.
+-- a and b are the operands' bits, and f is the number of their fraction bits.
 use Rattle.std.specs.Prelude.{◌*◌, ◌/◌, ◌^◌, ◌+ℤ◌, ◌*ℤ◌, ℕ, ℤ, pos, negsuc, zero, suc, unsigned_abs, Option, Some, None}
 use Rattle.fixed_root.specs.Root.{root_of}
 
--- x, where a is above 0: the row of a reciprocal root
+-- x, if a is above 0: the row of a reciprocal root
 abbrev pub by_positive : ℤ → ℤ → Option ℤ
 by_positive (pos zero) x = None
 by_positive (pos (suc n)) x = Some x

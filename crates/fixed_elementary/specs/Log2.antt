@@ -1,17 +1,17 @@
 -- Logarithms to the base 2, rounded down up to a small part of a unit.
 use Rattle.std.specs.Prelude.{◌≡◌, ◌+◌, ◌*◌, ◌^◌, ◌≤◌, ◌<◌, ◌-ℤ◌, ℕ, ℤ, pos, nat_le, unsigned_abs, if◌then◌else◌}
 
--- s is at most the logarithm of a to the base 2, in units of 2^-g, and less by less than 1 + 2^-k units: by powers,
+-- s is at most the logarithm of a to the base 2, in units of 2^-g, which is less than s + 1 + 2^-k: by powers,
 -- 2^s ≤ a^(2^g), and a^(2^g 2^k) < 2^((s + 1) 2^k + 1)
 pub record IsLog2 (a g k s : ℕ) : Type 0 where
   pub below : 2 ^ s ≤ a ^ 2 ^ g
   pub above : a ^ (2 ^ g * 2 ^ k) < 2 ^ ((s + 1) * 2 ^ k + 1)
 
--- on words of n bits f + k is at most this
+-- on words of n bits, f + k is at most this
 abbrev pub log2_room : ℕ → ℕ
 log2_room n = if nat_le n 32 then 62 else 126
 
--- r is the logarithm of a number of a units to the base 2, both in units of 2^-f; exactly so of a power of two
+-- r is the logarithm of a units to the base 2, both in units of 2^-f; that of a power of two is exact
 pub record IsLog2Of (room : ℕ) (a : ℤ) (f : ℕ) (r : ℤ) : Type 0 where
   pub units : ℕ
   pub value : r ≡ pos units -ℤ pos (f * 2 ^ f)

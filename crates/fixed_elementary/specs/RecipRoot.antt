@@ -1,7 +1,7 @@
--- One over the square root of a number with f fractional bits, rounded down.
+-- One over the square root of a number with f fraction bits, rounded down.
 use Rattle.std.specs.Prelude.{◌*◌, ◌^◌, ◌≤ℤ◌, ◌<ℤ◌, ◌+ℤ◌, ◌*ℤ◌, ℕ, ℤ, pos}
 
--- r is one over the root of a with f fractional bits
+-- r is one over the root of a with f fraction bits
 pub record IsRecipRoot (a : ℤ) (f : ℕ) (r : ℤ) : Type 0 where
   pub from_zero : pos 0 ≤ℤ r
   pub below : ((r *ℤ r) *ℤ a) ≤ℤ pos (2 ^ (3 * f))

@@ -1,10 +1,9 @@
-//! The root of a quotient of up to 193 bits: the root of its first digits, and then one binary digit a turn.
+//! The root of a quotient of up to 193 bits: first the root of its first digits, then one binary digit in each turn.
 
 ghost use Rattle.std.specs.Prelude.{◌≡◌, ◌≤◌, ◌<◌, ◌+◌, ◌*◌, ◌%◌, ◌^◌};
 ghost use Rattle.fixed_elementary.specs.inside.RecipParts.{IsRecipRootOf, divided};
 
-/// The digits of the root so far, what their square leaves of the quotient's digits so far, and what these
-/// leave of the dividend.
+/// The root of the quotient's first digits, the remainder of that root, and the remainder of the quotient.
 #[derive(Clone, Copy)]
 struct Part {
     root: u128,
@@ -12,14 +11,15 @@ struct Part {
     rest: u128,
 }
 
-/// One more binary digit of a quotient, and what it leaves.
+/// One more binary digit of a quotient, and the remainder.
 #[derive(Clone, Copy)]
 struct Digit {
     digit: u128,
     rest: u128,
 }
 
-/// The power of two of which a quotient fits a word, and of which `2^exponent` is a multiple by a power of 4.
+/// Returns the power of two to begin with, whose quotient fits a word. From exponent 126 on, `2^exponent` is a power of
+/// 4 times it.
 fn first_of(exponent: u32) -> u128
     ensures { result ≡ 2 ^ (126 + exponent % 2) }
 {
@@ -30,7 +30,7 @@ fn first_of(exponent: u32) -> u128
     }
 }
 
-/// The quotient of a dividend that fits a word, and its root.
+/// Returns the root of the quotient of a dividend that fits a word.
 fn begin(a: u64, dividend: u128) -> Part
     requires { 0 < a }
     ensures value { divided a result.root result.remainder result.rest ≡ dividend }
@@ -48,7 +48,7 @@ fn begin(a: u64, dividend: u128) -> Part
     }
 }
 
-/// Twice the rest, divided.
+/// Returns the quotient and the remainder of twice `rest`. Precondition: `rest` is below `a`.
 #[inline]
 fn divide_twice(rest: u128, a: u64) -> Digit
     requires { rest < a }
@@ -71,7 +71,7 @@ fn divide_twice(rest: u128, a: u64) -> Digit
     }
 }
 
-/// Finds a digit of the root, of two more digits of the quotient.
+/// Returns the root with one more digit, which two more digits of the quotient determine.
 #[inline]
 fn find_digit(part: Part, a: u64) -> Part
     requires rest { part.rest < a }
@@ -102,7 +102,8 @@ fn find_digit(part: Part, a: u64) -> Part
     }
 }
 
-/// The root of `2^exponent / a`, rounded down.
+/// Returns the root of `2^exponent / a`, rounded down. Preconditions: `exponent` is from 126 to 192, and `a` is above
+/// 0.
 pub(crate) fn recip_root_by_digits(a: u64, exponent: u32) -> u128
     requires least { 126 ≤ exponent }
     requires most { exponent ≤ 192 }

@@ -1,4 +1,4 @@
-//! Powers of 2 with a fractional exponent, by a product for each binary digit of the exponent.
+//! Powers of 2 with a fractional exponent: one product for each binary digit of the exponent.
 
 ghost use Rattle.std.specs.Prelude.{◌≡◌, ◌≤◌, ◌<◌, ◌+◌, ◌-◌, ◌*◌, ◌/◌, ◌%◌, ◌^◌, ◌+ℤ◌, ℕ, ℤ, pos, min};
 ghost use Rattle.fixed_word.specs.Format.{with_sign};
@@ -11,7 +11,7 @@ use crate::roots_of_two::{broad_root, narrow_root};
 use crate::wide::product;
 use fixed_word::{Outcome, RawWord, Valued, Word, outcome_of};
 
-/// The product in units of `2^-62`, rounded down.
+/// Returns the product in units of `2^-62`, rounded down.
 #[inline]
 fn narrow_product(a: u64, b: u64) -> u64
     requires a { 2 ^ 62 ≤ a }
@@ -23,7 +23,7 @@ fn narrow_product(a: u64, b: u64) -> u64
     ((u128::from(a) * u128::from(b)) >> 62) as u64
 }
 
-/// The product in units of `2^-126`, rounded down.
+/// Returns the product in units of `2^-126`, rounded down.
 #[inline]
 fn broad_product(a: u128, b: u128) -> u128
     requires a { 2 ^ 126 ≤ a }
@@ -36,7 +36,7 @@ fn broad_product(a: u128, b: u128) -> u128
     4 * double.high + double.low / (1 << 126)
 }
 
-/// A binary digit of a number.
+/// Returns a binary digit of a number.
 #[inline]
 fn digit_of(number: u64, place: u32) -> u64
     requires { place < 64 }
@@ -45,8 +45,8 @@ fn digit_of(number: u64, place: u32) -> u64
     (number >> place) % 2
 }
 
-/// The factor of a digit, in units of `2^-62`. The root is at hand before the digit is known, so that loops choose
-/// without a jump.
+/// Returns the factor of a digit, in units of `2^-62`. The root is read before the digit is known, so that loops select
+/// it without a jump.
 #[inline]
 fn narrow_factor(digit: u64, place: u32) -> u64
     requires place { place < 32 }
@@ -57,7 +57,7 @@ fn narrow_factor(digit: u64, place: u32) -> u64
     if digit == 0 { 1 << 62 } else { root }
 }
 
-/// The power after one digit more, in units of `2^-62`.
+/// Returns the power after one more digit of the exponent, in units of `2^-62`.
 #[inline]
 fn narrow_turn(power: u64, digit: u64, place: u32) -> u64
     requires place { place < 32 }
@@ -69,8 +69,8 @@ fn narrow_turn(power: u64, digit: u64, place: u32) -> u64
     narrow_product(power, narrow_factor(digit, place))
 }
 
-/// The factor of a digit, in units of `2^-126`. The root is at hand before the digit is known, so that loops choose
-/// without a jump.
+/// Returns the factor of a digit, in units of `2^-126`. The root is read before the digit is known, so that loops
+/// select it without a jump.
 #[inline]
 fn broad_factor(digit: u64, place: u32) -> u128
     requires place { place < 64 }
@@ -81,7 +81,7 @@ fn broad_factor(digit: u64, place: u32) -> u128
     if digit == 0 { 1 << 126 } else { root }
 }
 
-/// The power after one digit more, in units of `2^-126`.
+/// Returns the power after one more digit of the exponent, in units of `2^-126`.
 #[inline]
 fn broad_turn(power: u128, digit: u64, place: u32) -> u128
     requires place { place < 64 }
@@ -93,7 +93,7 @@ fn broad_turn(power: u128, digit: u64, place: u32) -> u128
     broad_product(power, broad_factor(digit, place))
 }
 
-/// `2^(part / 2^places)` in units of `2^-62`.
+/// Returns `2^(part / 2^places)` in units of `2^-62`, or slightly less.
 fn narrow_exp2(part: u64, places: u32) -> u64
     requires places { places ≤ 32 }
     requires part { part < 2 ^ places }
@@ -106,7 +106,7 @@ fn narrow_exp2(part: u64, places: u32) -> u64
     power
 }
 
-/// `2^(part / 2^places)` in units of `2^-126`.
+/// Returns `2^(part / 2^places)` in units of `2^-126`, or slightly less.
 fn broad_exp2(part: u64, places: u32) -> u128
     requires places { places ≤ 64 }
     requires part { part < 2 ^ places }
@@ -119,7 +119,7 @@ fn broad_exp2(part: u64, places: u32) -> u128
     power
 }
 
-/// A mantissa of `unit` places times `2^whole`, rounded down, or `2^bits` where that has more bits.
+/// Returns `mantissa * 2^whole / 2^unit`, rounded down, or `2^bits` if that is less.
 fn in_bits(mantissa: u128, unit: u32, whole: u128, bits: u32) -> u128
     requires unit { unit ≤ 126 }
     requires bits { bits ≤ unit }
@@ -134,7 +134,7 @@ fn in_bits(mantissa: u128, unit: u32, whole: u128, bits: u32) -> u128
     }
 }
 
-/// The digits of an exponent behind its point.
+/// Returns the fraction of an exponent in units of `2^-places`.
 fn part_of(exponent: u128, places: u32) -> u64
     requires { places ≤ 64 }
     ensures { result ≡ exponent % 2 ^ places }
@@ -142,7 +142,7 @@ fn part_of(exponent: u128, places: u32) -> u64
     (exponent % (1 << places)) as u64
 }
 
-/// `2^(exponent / 2^places)`, rounded down, or `2^bits` where that has more bits.
+/// Returns `2^(exponent / 2^places)`, rounded as by `exp2_of`, at most `2^bits`. Precondition: `places <= bits <= 64`.
 pub fn power_of(exponent: u128, places: u32, bits: u32) -> u128
     requires bits { bits ≤ 64 }
     requires places { places ≤ bits }
@@ -157,7 +157,8 @@ pub fn power_of(exponent: u128, places: u32, bits: u32) -> u128
     }
 }
 
-/// The exponent of a power in units of `2^-frac`, or None where it is below 0 and the power is less than a unit.
+/// Returns the exponent of a power in units of `2^-frac`, or `None` if it is below 0, so that the power is less than a
+/// unit.
 fn exponent_of<T: RawWord>(a: T, frac: u32) -> Option<u128>
     requires { frac ≤ 64 }
     ensures { IsExponent (T.value a +ℤ pos (frac * 2 ^ frac)) result }
@@ -173,9 +174,10 @@ fn exponent_of<T: RawWord>(a: T, frac: u32) -> Option<u128>
     }
 }
 
-/// 2 to the power of `a 2^-frac`, in units of `2^-frac`, rounded down up to a factor of `2^(2^-k)` for each k up to 54
-/// on words of up to 32 bits, and up to 117 on words of 64 bits. That of a whole number is exact. The outcome has no
-/// bits of a number above the range: it then stands for another number above the range.
+/// Returns 2 to the power of `a 2^-frac`, in units of `2^-frac`. For the result r and the exact power p in units,
+/// `r <= p < (r + 1) 2^(2^-k)`, where k is 54 on words of up to 32 bits and 117 on words of 64 bits. 2 to the power of
+/// a whole number of at least `-frac` is exact. If the result is above the range, the outcome stands for some number
+/// above the range. Precondition: `frac` is at most the width.
 pub fn exp2_of<T: Word>(a: T, frac: u32) -> Outcome<T>
     requires { frac ≤ T.BITS }
     ensures { (r : ℤ) × IsExp2Of (exp2_room T.BITS) (T.value a) frac r

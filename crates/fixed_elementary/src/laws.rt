@@ -1,5 +1,5 @@
-//! Laws of the exact results: what each of them is, and where it is simple. These functions do nothing: each
-//! contract is the law.
+//! Laws of the exact results: what each one is, and where it is simple. These functions do nothing: the contract of
+//! each is the law.
 
 ghost use Rattle.std.specs.Prelude.{◌≡◌, ◌≤◌, ◌<◌, ◌-◌, ◌*◌, ◌^◌, ◌+ℤ◌, ◌-ℤ◌, ◌*ℤ◌, ◌≤ℤ◌, ◌<ℤ◌, ℕ, ℤ, true, pos, unsigned_abs};
 ghost use Rattle.fixed_word.specs.Format.{InRange};
@@ -9,23 +9,23 @@ ghost use Rattle.fixed_elementary.specs.Log2.{IsLog2Of};
 ghost use Rattle.fixed_elementary.specs.RecipRoot.{IsRecipRoot};
 ghost use Rattle.fixed_elementary.specs.ElementaryRows.{exact_hypot, exact_recip_sqrt};
 
-/// The length is the root of the sum of both squares, rounded down; it is that of the exchanged pair, and on
-/// an axis it is the magnitude.
+/// The length is the root of the sum of the squares, rounded down. It is the same if the operands are exchanged. If one
+/// operand is 0, it is the magnitude of the other.
 pub fn hypot_law()
     ensures is_root { (a b : ℤ) → IsRoot (a *ℤ a +ℤ b *ℤ b) 0 (exact_hypot a b) }
     ensures exchanged { (a b : ℤ) → exact_hypot a b ≡ exact_hypot b a }
     ensures on_axis { (a : ℤ) → exact_hypot a (pos 0) ≡ pos (unsigned_abs a) }
 {}
 
-/// The reciprocal root is the r with `r^2 a <= 2^(3f) < (r+1)^2 a`, and nothing else is.
+/// The reciprocal root of an a above 0 is an r with `r^2 a <= 2^(3f) < (r+1)^2 a`, and the only one from 0 on.
 pub fn recip_sqrt_law()
     ensures is_recip_root { (a : ℤ) (f : ℕ) → pos 0 <ℤ a → IsRecipRoot a f (exact_recip_sqrt a f) }
     ensures unique { (a r s : ℤ) (f : ℕ) → IsRecipRoot a f r → IsRecipRoot a f s → r ≡ s }
 {}
 
-/// The logarithm of a power of two is exact: that of `2^j` units is `j - f`. Two numbers that are the logarithm of one
-/// number, each rounded down up to a part of a unit, differ by one unit at most. On signed words of n bits each
-/// logarithm fits where the range of the word reaches from `-f` to `n - 1 - f`.
+/// The logarithm of a power of two is exact: that of `2^j` units is `j - f`. Two numbers that both meet the bound for
+/// the logarithm of one number differ by at most one unit. On signed words of n bits, each logarithm fits if the range
+/// of the word reaches from `-f` to `n - 1 - f`.
 pub fn log2_law()
     ensures exact { (room j f : ℕ) (r : ℤ) → IsLog2Of room (pos (2 ^ j)) f r
         → r ≡ pos (j * 2 ^ f) -ℤ pos (f * 2 ^ f) }
@@ -36,7 +36,7 @@ pub fn log2_law()
         → IsLog2Of room a f r → InRange true n r }
 {}
 
-/// 2 to the power of a whole number is exact: to the power of `j - f` it is `2^j` units. No power is below 0, and one
+/// 2 to the power of the whole number `j - f`, for j from 0 on, is exactly `2^j` units. No power is below 0, and one
 /// whose exponent is below `m - f` is below `2^m` units. 2 to the power of the logarithm of a number is at most that
 /// number.
 pub fn exp2_law()

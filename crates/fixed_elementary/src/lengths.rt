@@ -8,14 +8,14 @@ ghost use Rattle.fixed_elementary.specs.ElementaryRows.{exact_hypot};
 use crate::roots::{root_of_whole, root_past};
 use fixed_word::{Outcome, RawWord, Word, outcome_of};
 
-/// The square of a magnitude.
+/// Returns the square of a magnitude.
 fn square(magnitude: u64) -> u128
     ensures { result ≡ magnitude * magnitude }
 {
     u128::from(magnitude) * u128::from(magnitude)
 }
 
-/// The root of the sum of both squares, rounded down. The sum may have 129 bits.
+/// Returns the root of the sum of the squares, rounded down. The sum may have 129 bits.
 fn length_of(a: u64, b: u64) -> u128
     ensures { IsRootOf (a * a + b * b) result }
 {
@@ -27,7 +27,8 @@ fn length_of(a: u64, b: u64) -> u128
     }
 }
 
-/// The length of the pair `(a, b)`, rounded down: the root of `a^2 + b^2`, whatever the fraction of both.
+/// Returns the length of the pair `(a, b)`, which is the root of `a^2 + b^2`, rounded down. The operands and the result
+/// have the same number of fraction bits, which may be any.
 pub fn hypot_of<T: Word>(a: T, b: T) -> Outcome<T>
     ensures { StandsFor T.value T.SIGNED T.BITS (exact_hypot (T.value a) (T.value b)) result }
 {

@@ -1,8 +1,8 @@
-//! Elementary functions of fixed-point numbers on their bits, with the fraction at run time.
+//! Elementary functions of fixed-point numbers, on bits. The number of fraction bits is an argument, known only at run
+//! time.
 //!
-//! Each function `.._of` returns an [`Outcome`](fixed_word::Outcome) that stands for the exact result of its
-//! operation: what is left of it in the word, and whether it fits, lies above or lies below. Bits are whole
-//! numbers of units of `2^-frac`. No function takes memory.
+//! Each function `.._of` returns an [`Outcome`](fixed_word::Outcome): the wrapped result, and whether the result fits
+//! or is above or below the range. Bits are in units of `2^-frac`. No function allocates.
 #![tactic(auto)]
 
 mod digits;

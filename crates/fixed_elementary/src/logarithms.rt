@@ -1,4 +1,4 @@
-//! Logarithms to the base 2, one binary digit a turn, by squaring.
+//! Logarithms to the base 2: each turn squares a mantissa and finds one binary digit.
 
 ghost use Rattle.std.specs.Prelude.{◌≡◌, ◌≤◌, ◌<◌, ◌+◌, ◌*◌, ◌^◌, ◌<ℤ◌, ◌-ℤ◌, ℤ, pos};
 ghost use Rattle.fixed_word.specs.Format.{with_sign};
@@ -10,21 +10,21 @@ ghost use Rattle.fixed_elementary.specs.inside.Digits.{IsFound};
 use crate::wide::product;
 use fixed_word::{Digits, Outcome, RawWord, Silent, Steps, Valued, Word, outcome_of};
 
-/// Digits, and the mantissa that is left, in units of `2^-63`.
+/// Digits of a logarithm, and the mantissa that is left, in units of `2^-63`.
 #[derive(Clone, Copy)]
 pub struct Narrow {
     pub digits: u64,
     pub mantissa: u64,
 }
 
-/// Digits, and the mantissa that is left, in units of `2^-127`.
+/// Digits of a logarithm, and the mantissa that is left, in units of `2^-127`.
 #[derive(Clone, Copy)]
 pub struct Broad {
     pub digits: u128,
     pub mantissa: u128,
 }
 
-/// How many of the highest bits are 0.
+/// Returns how many of the highest bits are 0. Precondition: `a` is above 0.
 fn zeros_of(a: u64) -> u32
     requires { 0 < a }
     ensures few { result ≤ 63 }
@@ -35,7 +35,7 @@ fn zeros_of(a: u64) -> u32
     Digits::leading_zeros(a, &mut steps)
 }
 
-/// The product by a power of 2.
+/// Returns the product by a power of 2. Precondition: it fits.
 fn raised(a: u64, by: u32) -> u64
     requires by { by ≤ 63 }
     requires fits { a * 2 ^ by < 2 ^ 64 }
@@ -44,7 +44,7 @@ fn raised(a: u64, by: u32) -> u64
     a << by
 }
 
-/// The whole logarithm, and the mantissa.
+/// Returns the whole part of the logarithm, and the mantissa in units of `2^-63`. Precondition: `a` is above 0.
 pub fn whole(a: u64) -> Narrow
     requires { 0 < a }
     ensures { IsMantissa (2 ^ 63) a result.digits result.mantissa }
@@ -56,7 +56,7 @@ pub fn whole(a: u64) -> Narrow
     }
 }
 
-/// The whole logarithm, and the mantissa in 128 bits.
+/// Returns the whole part of the logarithm, and the mantissa in units of `2^-127`. Precondition: `a` is above 0.
 pub fn broad_whole(a: u64) -> Broad
     requires { 0 < a }
     ensures { IsMantissa (2 ^ 127) a result.digits result.mantissa }
@@ -68,7 +68,8 @@ pub fn broad_whole(a: u64) -> Broad
     }
 }
 
-/// The digit of the mantissa's square, and what is left of it, rounded down.
+/// Returns the next digit, and the mantissa after it: the square, over 2 if the digit is 1, rounded down. Precondition:
+/// the mantissa is at least 1, which is `2^63`.
 #[inline]
 pub fn squared(mantissa: u64) -> Narrow
     requires { 2 ^ 63 ≤ mantissa }
@@ -89,7 +90,7 @@ pub fn squared(mantissa: u64) -> Narrow
     }
 }
 
-/// The same in 128 bits.
+/// Does the same in 128 bits. Precondition: the mantissa is at least 1, which is `2^127`.
 #[inline]
 pub fn broad_squared(mantissa: u128) -> Broad
     requires { 2 ^ 127 ≤ mantissa }
@@ -109,7 +110,7 @@ pub fn broad_squared(mantissa: u128) -> Broad
     }
 }
 
-/// The logarithm in units of `2^-places`, by a mantissa of 64 bits.
+/// Returns the logarithm in units of `2^-places`, from a mantissa of 64 bits.
 fn narrow_log2(a: u64, places: u32) -> u64
     requires some { 0 < a }
     requires places { places ≤ 32 }
@@ -126,7 +127,7 @@ fn narrow_log2(a: u64, places: u32) -> u64
     digits
 }
 
-/// The logarithm in units of `2^-places`, by a mantissa of 128 bits.
+/// Returns the logarithm in units of `2^-places`, from a mantissa of 128 bits.
 fn broad_log2(a: u64, places: u32) -> u128
     requires some { 0 < a }
     requires places { places ≤ 64 }
@@ -143,7 +144,7 @@ fn broad_log2(a: u64, places: u32) -> u128
     digits
 }
 
-/// The logarithm in units of `2^-places`, by a mantissa of 64 bits, and on words of 64 bits by one of 128.
+/// Returns the logarithm in units of `2^-places`, from a mantissa of 64 bits, or on words of 64 bits from one of 128.
 fn units_of(bits: u32, a: u64, places: u32) -> u128
     requires bits { bits ≤ 64 }
     requires some { 0 < a }
@@ -157,7 +158,7 @@ fn units_of(bits: u32, a: u64, places: u32) -> u128
     }
 }
 
-/// The number `places`, in units of `2^-places`.
+/// Returns the number `places` in units of `2^-places`.
 pub(crate) fn in_units(places: u32) -> u128
     requires { places ≤ 64 }
     ensures { result ≡ places * 2 ^ places }
@@ -165,7 +166,7 @@ pub(crate) fn in_units(places: u32) -> u128
     u128::from(places) << places
 }
 
-/// The outcome of a difference.
+/// Returns the outcome of `units - less`.
 fn outcome_of_difference<T: Word>(units: u128, less: u128) -> Outcome<T>
     ensures { StandsFor T.value T.SIGNED T.BITS (pos units -ℤ pos less) result }
 {
@@ -176,9 +177,9 @@ fn outcome_of_difference<T: Word>(units: u128, less: u128) -> Outcome<T>
     }
 }
 
-/// The logarithm of `a 2^-frac` to the base 2, in units of `2^-frac`, rounded down up to `2^-k` of a unit for each
-/// k with `frac + k <= 62` on words of up to 32 bits, and with `frac + k <= 126` on words of 64 bits. That of a
-/// power of two is exact. Precondition: `a` is above 0.
+/// Returns the logarithm of `a 2^-frac` to the base 2, in units of `2^-frac`. For the result r and the exact logarithm
+/// l in units, `r <= l < r + 1 + 2^-k`, where `frac + k` is 62 on words of up to 32 bits and 126 on words of 64 bits.
+/// The logarithm of a power of two is exact. Preconditions: `a` is above 0, and `frac` is at most the width.
 pub fn log2_of<T: Word>(a: T, frac: u32) -> Outcome<T>
     requires frac { frac ≤ T.BITS }
     requires sign { pos 0 <ℤ T.value a }

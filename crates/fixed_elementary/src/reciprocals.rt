@@ -9,7 +9,7 @@ use crate::digits::recip_root_by_digits;
 use crate::roots::root_of_whole;
 use fixed_word::{Outcome, RawWord, Word, outcome_of};
 
-/// A power of two.
+/// Returns a power of two. Precondition: the exponent is below 128.
 pub(crate) fn power_of_two(exponent: u32) -> u128
     requires { exponent < 128 }
     ensures { result ≡ 2 ^ exponent }
@@ -17,8 +17,8 @@ pub(crate) fn power_of_two(exponent: u32) -> u128
     1 << exponent
 }
 
-/// The quotient of `2^exponent` by a number, rounded down. Powers that a word of 64 bits holds are divided
-/// there, since a division of 128 bits takes many times as long.
+/// Returns the quotient of `2^exponent` by a number, rounded down. A power that fits into 64 bits is divided there,
+/// since a division of 128 bits takes many times as long.
 fn power_over(exponent: u32, a: u64) -> u128
     requires exponent { exponent < 128 }
     requires some { 0 < a }
@@ -31,7 +31,7 @@ fn power_over(exponent: u32, a: u64) -> u128
     }
 }
 
-/// The root of `2^exponent / a`, rounded down.
+/// Returns the root of `2^exponent / a`, rounded down.
 fn recip_root(a: u64, exponent: u32) -> u128
     requires exponent { exponent ≤ 192 }
     requires some { 0 < a }
@@ -44,8 +44,8 @@ fn recip_root(a: u64, exponent: u32) -> u128
     }
 }
 
-/// One over the square root of `a 2^-frac`, in units of `2^-frac`, rounded down: the r with
-/// `r^2 a <= 2^(3 frac) < (r+1)^2 a`, for `a` above 0.
+/// Returns one over the square root of `a 2^-frac`, in units of `2^-frac`, rounded down: the r from 0 on with
+/// `r^2 a <= 2^(3 frac) < (r+1)^2 a`. Preconditions: `a` is above 0, and `frac` is at most the width.
 pub fn recip_sqrt_of<T: Word>(a: T, frac: u32) -> Outcome<T>
     requires frac { frac ≤ T.BITS }
     requires sign { pos 0 <ℤ T.value a }

@@ -3,7 +3,7 @@
 ghost use Rattle.std.specs.Prelude.{◌≡◌, ◌≤◌, ◌<◌, ◌+◌, ◌*◌, ◌^◌};
 ghost use Rattle.fixed_root.specs.inside.Parts.{IsRootOf};
 
-/// The root of a number, rounded down. A number that a word of 64 bits holds is taken there, where steps are
+/// Returns the root of a number, rounded down. The root of a number that fits into 64 bits is found there, which is
 /// faster.
 pub(crate) fn root_of_whole(number: u128) -> u128
     ensures { IsRootOf number result }
@@ -15,7 +15,7 @@ pub(crate) fn root_of_whole(number: u128) -> u128
     }
 }
 
-/// The root of `2^128 + rest`, rounded down: twice the root of a quarter, or one more.
+/// Returns the root of `2^128 + rest`, rounded down: twice the root of a quarter, or one more.
 pub(crate) fn root_past(rest: u128) -> u128
     ensures { IsRootOf (2 ^ 128 + rest) result }
 {

@@ -1,9 +1,9 @@
-//! Roots of 2: the powers of 2 whose exponents are `2^-place`.
+//! Roots of 2: the powers of 2 with the exponents `2^-place`.
 
 ghost use Rattle.std.specs.Prelude.{◌≤◌, ◌^◌};
 ghost use Rattle.fixed_elementary.specs.inside.Power.{IsRootOfTwo};
 
-/// In units of `2^-62`, each the root of the one before it, rounded down.
+/// The roots in units of `2^-62`. Each is the root of the one before it, rounded down.
 static NARROW: [u64; 33] = [
     0x8000_0000_0000_0000,
     0x5a82_7999_fcef_3242,
@@ -40,7 +40,7 @@ static NARROW: [u64; 33] = [
     0x4000_0000_2c5c_85fd,
 ];
 
-/// In units of `2^-126`, likewise.
+/// The roots in units of `2^-126`. Each is the root of the one before it, rounded down.
 static BROAD: [u128; 65] = [
     0x8000_0000_0000_0000_0000_0000_0000_0000,
     0x5a82_7999_fcef_3242_2cbe_c4d9_baa5_5f4f,
@@ -109,7 +109,7 @@ static BROAD: [u128; 65] = [
     0x4000_0000_0000_0000_2c5c_85fd_f473_de6a,
 ];
 
-/// `2^(2^-place)` in units of `2^-62`.
+/// Returns `2^(2^-place)` in units of `2^-62`, or slightly less.
 #[inline]
 pub(crate) fn narrow_root(place: usize) -> u64
     requires { place ≤ 32 }
@@ -118,7 +118,7 @@ pub(crate) fn narrow_root(place: usize) -> u64
     NARROW[place]
 }
 
-/// `2^(2^-place)` in units of `2^-126`.
+/// Returns `2^(2^-place)` in units of `2^-126`, or slightly less.
 #[inline]
 pub(crate) fn broad_root(place: usize) -> u128
     requires { place ≤ 64 }

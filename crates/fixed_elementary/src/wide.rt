@@ -2,21 +2,21 @@
 
 ghost use Rattle.std.specs.Prelude.{◌≡◌, ◌≤◌, ◌<◌, ◌+◌, ◌*◌, ◌^◌};
 
-/// A number of 256 bits, by its higher and its lower half.
+/// A number of 256 bits, as its high and its low half.
 #[derive(Clone, Copy)]
 pub struct Double {
     pub high: u128,
     pub low: u128,
 }
 
-/// A number of 128 bits, by its halves.
+/// A number of 128 bits, as its halves.
 #[derive(Clone, Copy)]
 struct Halves {
     high: u128,
     low: u128,
 }
 
-/// The halves of a number.
+/// Returns the halves of a number.
 #[inline]
 fn split(number: u128) -> Halves
     ensures value { result.high * 2 ^ 64 + result.low ≡ number }
@@ -29,7 +29,7 @@ fn split(number: u128) -> Halves
     }
 }
 
-/// The product of two halves, and a half more.
+/// Returns the product of two halves, plus one more half.
 #[inline]
 fn half_product(a: u128, b: u128, more: u128) -> Halves
     requires a { a < 2 ^ 64 }
@@ -42,7 +42,7 @@ fn half_product(a: u128, b: u128, more: u128) -> Halves
     split(a * b + more)
 }
 
-/// The product of two numbers of 128 bits.
+/// Returns the product of two numbers of 128 bits.
 #[inline]
 pub fn product(a: u128, b: u128) -> Double
     ensures { result.high * 2 ^ 128 + result.low ≡ a * b }

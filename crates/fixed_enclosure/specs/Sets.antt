@@ -4,16 +4,16 @@ use Rattle.std.specs.Int.{int_min, int_max}
 use Rattle.fixed_word.specs.Format.{InRange}
 use Rattle.fixed_interval.specs.Ends.{Ends}
 
--- x lies between the ends
+-- x is between the ends
 pub record Contains (e : Ends) (x : ℤ) : Type 0 where
   pub from_low : e.low ≤ℤ x
   pub to_high : x ≤ℤ e.high
 
--- each number of a stands in the relation to each one of b
+-- R holds for each number of a and each number of b
 abbrev pub ForAll : (ℤ → ℤ → Type 0) → Ends → Ends → Type 0
 ForAll R a b = (x y : ℤ) → Contains a x → Contains b y → R x y
 
--- some number of a stands in the relation to some one of b
+-- R holds for some number of a and some number of b
 abbrev pub ForSome : (ℤ → ℤ → Type 0) → Ends → Ends → Type 0
 ForSome R a b = (x : ℤ) × (y : ℤ) × Contains a x × Contains b y × R x y
 
@@ -21,7 +21,7 @@ ForSome R a b = (x : ℤ) × (y : ℤ) × Contains a x × Contains b y × R x y
 abbrev pub hull_of : Ends → Ends → Ends
 hull_of a b = record { low = int_min a.low b.low; high = int_max a.high b.high }
 
--- the ends of what lies in both, if anything does
+-- the ends of the numbers in both, if there are any
 abbrev pub common_of : Ends → Ends → Option Ends
 common_of a b =
     let e : Ends = record { low = int_max a.low b.low; high = int_min a.high b.high } in

@@ -1,4 +1,4 @@
-//! Comparisons of enclosures: of each two numbers, or of some.
+//! Comparisons of enclosures: of all their numbers, or of some.
 
 ghost use Rattle.std.specs.Prelude.{◌≡◌, ◌↔◌, ◌<ℤ◌, ◌≤ℤ◌, ℤ, IsTrue};
 ghost use Rattle.fixed_interval.specs.Ends.{ends_of};
@@ -23,7 +23,8 @@ impl<T: Word, const F: u32> Enclosure<T, F> {
         is_at_most(self.high().bits, other.low().bits)
     }
 
-    /// Returns whether each number of this enclosure equals each number of the other: both hold one number, the same.
+    /// Returns whether each number of this enclosure equals each number of the other, so that both hold the same one
+    /// number.
     pub fn certainly_eq(self, other: Self) -> bool
         ensures { IsTrue result ↔ ForAll (λ x y. x ≡ y) (ends_of T.value self) (ends_of T.value other) }
     {
@@ -45,7 +46,7 @@ impl<T: Word, const F: u32> Enclosure<T, F> {
         is_at_most(self.low().bits, other.high().bits)
     }
 
-    /// Returns whether some number lies in both enclosures.
+    /// Returns whether some number is in both enclosures.
     pub fn possibly_eq(self, other: Self) -> bool
         ensures { IsTrue result ↔ ForSome (λ x y. x ≡ y) (ends_of T.value self) (ends_of T.value other) }
     {

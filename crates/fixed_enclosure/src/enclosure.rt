@@ -36,7 +36,7 @@ impl<T: Word, const F: u32> Clone for Enclosure<T, F> {
 }
 
 impl<T: Word, const F: u32> Enclosure<T, F> {
-    /// Returns the enclosure from `low` to `high`, both included, or None exactly if `low` is above `high`.
+    /// Returns the enclosure from `low` to `high`, both included, or `None` if `low` is above `high`.
     pub fn new(low: Fixed<T, F>, high: Fixed<T, F>) -> Option<Self>
         ensures { MatchOption result (T.value high.bits <ℤ T.value low.bits)
             (λ e. e ≡ record { lo = low.bits; hi = high.bits }) }

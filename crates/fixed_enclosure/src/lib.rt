@@ -1,8 +1,8 @@
-//! Enclosures: intervals of fixed-point numbers, whose ends are rounded outward.
+//! Enclosures: intervals of fixed-point numbers whose ends are rounded outward.
 //!
-//! An [`Enclosure`] holds every number from its low end to its high end. Its operations return the narrowest
-//! enclosure of the format that holds each exact result. They stand on the calls of [`fixed_interval`](fixed_interval)
-//! on bits. No call takes memory. All items are this project's own.
+//! An [`Enclosure`] contains every number from its low end to its high end. Its operations return the narrowest
+//! enclosure of the format that contains each exact result. They use the calls of [`fixed_interval`](fixed_interval) on
+//! bits. No call allocates. The Rust crate `fixed` does not have these items.
 #![tactic(auto)]
 
 mod comparing;

@@ -1,4 +1,4 @@
-//! Operations on enclosures, for ends that fit: None exactly where an end does not fit or the operation is undefined.
+//! Operations on enclosures. They return `None` if an end does not fit or the operation is undefined.
 
 ghost use Rattle.std.specs.Prelude.{◌≡◌, ◌≤◌, IfSome};
 ghost use Rattle.std.specs.Option.{option_map};
@@ -10,7 +10,7 @@ use fixed_interval::{abs_in, add_in, div_in, mul_in, neg_in, sqrt_in, square_in,
 use fixed_word::Word;
 
 impl<T: Word, const F: u32> Enclosure<T, F> {
-    /// Returns the enclosure of the sums, or None exactly if an end does not fit.
+    /// Returns the enclosure of the sums, or `None` if an end does not fit.
     pub fn checked_add(self, other: Self) -> Option<Self>
         ensures ends { option_map (ends_of T.value) result ≡ fitting T.SIGNED T.BITS (sum_ends (ends_of T.value self) (ends_of T.value other)) }
         ensures holds { IfSome result (λ e. HoldsSums (ends_of T.value self) (ends_of T.value other) (ends_of T.value e)) }
@@ -18,7 +18,7 @@ impl<T: Word, const F: u32> Enclosure<T, F> {
         enclosed(add_in(&self.to_interval(), &other.to_interval()))
     }
 
-    /// Returns the enclosure of the differences, or None exactly if an end does not fit.
+    /// Returns the enclosure of the differences, or `None` if an end does not fit.
     pub fn checked_sub(self, other: Self) -> Option<Self>
         ensures ends { option_map (ends_of T.value) result ≡ fitting T.SIGNED T.BITS (difference_ends (ends_of T.value self) (ends_of T.value other)) }
         ensures holds { IfSome result (λ e. HoldsDifferences (ends_of T.value self) (ends_of T.value other) (ends_of T.value e)) }
@@ -26,8 +26,7 @@ impl<T: Word, const F: u32> Enclosure<T, F> {
         enclosed(sub_in(&self.to_interval(), &other.to_interval()))
     }
 
-    /// Returns the enclosure of the products, or None exactly if an end does not fit. Precondition: F is at most the
-    /// width.
+    /// Returns the enclosure of the products, or `None` if an end does not fit. Precondition: F is at most the width.
     pub fn checked_mul(self, other: Self) -> Option<Self>
         requires { F ≤ T.BITS }
         ensures ends { option_map (ends_of T.value) result ≡ fitting T.SIGNED T.BITS (product_ends (ends_of T.value self) (ends_of T.value other) F) }
@@ -36,8 +35,8 @@ impl<T: Word, const F: u32> Enclosure<T, F> {
         enclosed(mul_in(&self.to_interval(), &other.to_interval(), F))
     }
 
-    /// Returns the enclosure of the quotients, or None exactly if 0 lies in the divisor or an end does not fit.
-    /// Precondition: F is at most the width.
+    /// Returns the enclosure of the quotients, or `None` if 0 is in the divisor or an end does not fit. Precondition: F
+    /// is at most the width.
     pub fn checked_div(self, other: Self) -> Option<Self>
         requires { F ≤ T.BITS }
         ensures ends { option_map (ends_of T.value) result ≡ fitting T.SIGNED T.BITS (quotient_ends (ends_of T.value self) (ends_of T.value other) F) }
@@ -46,7 +45,7 @@ impl<T: Word, const F: u32> Enclosure<T, F> {
         enclosed(div_in(&self.to_interval(), &other.to_interval(), F))
     }
 
-    /// Returns the enclosure of the square roots, or None exactly if the low end is below 0 or an end does not fit.
+    /// Returns the enclosure of the square roots, or `None` if the low end is below 0 or an end does not fit.
     /// Precondition: F is at most the width.
     pub fn checked_sqrt(self) -> Option<Self>
         requires { F ≤ T.BITS }
@@ -56,7 +55,7 @@ impl<T: Word, const F: u32> Enclosure<T, F> {
         enclosed(sqrt_in(&self.to_interval(), F))
     }
 
-    /// Returns the enclosure of the negatives, or None exactly if an end does not fit.
+    /// Returns the enclosure of the negatives, or `None` if an end does not fit.
     pub fn checked_neg(self) -> Option<Self>
         ensures ends { option_map (ends_of T.value) result ≡ fitting T.SIGNED T.BITS (negation_ends (ends_of T.value self)) }
         ensures holds { IfSome result (λ e. HoldsNegations (ends_of T.value self) (ends_of T.value e)) }
@@ -64,7 +63,7 @@ impl<T: Word, const F: u32> Enclosure<T, F> {
         enclosed(neg_in(&self.to_interval()))
     }
 
-    /// Returns the enclosure of the magnitudes, or None exactly if an end does not fit.
+    /// Returns the enclosure of the magnitudes, or `None` if an end does not fit.
     pub fn checked_abs(self) -> Option<Self>
         ensures ends { option_map (ends_of T.value) result ≡ fitting T.SIGNED T.BITS (magnitude_ends (ends_of T.value self)) }
         ensures holds { IfSome result (λ e. HoldsMagnitudes (ends_of T.value self) (ends_of T.value e)) }
@@ -72,8 +71,8 @@ impl<T: Word, const F: u32> Enclosure<T, F> {
         enclosed(abs_in(&self.to_interval()))
     }
 
-    /// Returns the enclosure of the squares, or None exactly if an end does not fit. Precondition: F is at most the
-    /// width. The product of an enclosure with itself is wider if 0 lies inside.
+    /// Returns the enclosure of the squares, or `None` if an end does not fit. If 0 is inside, this is narrower than
+    /// the product of the enclosure with itself. Precondition: F is at most the width.
     pub fn checked_square(self) -> Option<Self>
         requires { F ≤ T.BITS }
         ensures ends { option_map (ends_of T.value) result ≡ fitting T.SIGNED T.BITS (square_ends (ends_of T.value self) F) }

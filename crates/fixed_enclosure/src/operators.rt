@@ -1,4 +1,4 @@
-//! Operators between enclosures, for ends that fit.
+//! Operators between enclosures. Precondition of each: the ends of the result fit.
 
 ghost use Rattle.std.specs.Prelude.{◌≡◌, ◌≤◌, false};
 ghost use Rattle.fixed_interval.specs.Ends.{difference_of, ends_of, has_zero, negation_of, product_of, quotient_of, sum_of};
@@ -15,7 +15,7 @@ impl<T: Word, const F: u32> Neg for Enclosure<T, F> {
 
     ghost neg_gives = { λ a r. ends_of T.value r ≡ negation_of (ends_of T.value a) };
 
-    /// Returns the enclosure of the negatives. Precondition: its ends fit.
+    /// Returns the enclosure of the negatives. Precondition: the ends of the result fit.
     fn neg(self) -> Self {
         self.checked_neg().unwrap()
     }
@@ -28,7 +28,7 @@ impl<T: Word, const F: u32> Add for Enclosure<T, F> {
 
     ghost add_gives = { λ a b r. ends_of T.value r ≡ sum_of (ends_of T.value a) (ends_of T.value b) };
 
-    /// Returns the enclosure of the sums. Precondition: its ends fit.
+    /// Returns the enclosure of the sums. Precondition: the ends of the result fit.
     fn add(self, rhs: Self) -> Self {
         self.checked_add(rhs).unwrap()
     }
@@ -41,7 +41,7 @@ impl<T: Word, const F: u32> Sub for Enclosure<T, F> {
 
     ghost sub_gives = { λ a b r. ends_of T.value r ≡ difference_of (ends_of T.value a) (ends_of T.value b) };
 
-    /// Returns the enclosure of the differences. Precondition: its ends fit.
+    /// Returns the enclosure of the differences. Precondition: the ends of the result fit.
     fn sub(self, rhs: Self) -> Self {
         self.checked_sub(rhs).unwrap()
     }
@@ -55,7 +55,7 @@ impl<T: Word, const F: u32> Mul for Enclosure<T, F> {
 
     ghost mul_gives = { λ a b r. ends_of T.value r ≡ product_of (ends_of T.value a) (ends_of T.value b) F };
 
-    /// Returns the enclosure of the products. Preconditions: F is at most the width, and its ends fit.
+    /// Returns the enclosure of the products. Preconditions: F is at most the width, and the ends of the result fit.
     fn mul(self, rhs: Self) -> Self {
         self.checked_mul(rhs).unwrap()
     }
@@ -69,8 +69,8 @@ impl<T: Word, const F: u32> Div for Enclosure<T, F> {
 
     ghost div_gives = { λ a b r. ends_of T.value r ≡ quotient_of (ends_of T.value a) (ends_of T.value b) F };
 
-    /// Returns the enclosure of the quotients. Preconditions: F is at most the width, 0 lies outside the divisor, and
-    /// the ends of the result fit.
+    /// Returns the enclosure of the quotients. Preconditions: F is at most the width, 0 is outside the divisor, and the
+    /// ends of the result fit.
     fn div(self, rhs: Self) -> Self {
         self.checked_div(rhs).unwrap()
     }

@@ -1,4 +1,4 @@
-//! The order of words, as that of their values.
+//! The order of words, which is that of their values.
 
 ghost use Rattle.std.specs.Prelude.{◌≡◌, ◌↔◌, ◌≤ℤ◌, ◌<ℤ◌, IsTrue};
 ghost use Rattle.std.specs.Int.{int_max, int_min};

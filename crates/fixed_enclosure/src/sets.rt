@@ -13,21 +13,21 @@ use fixed_num::Fixed;
 use fixed_word::Word;
 
 impl<T: Word, const F: u32> Enclosure<T, F> {
-    /// Returns the enclosure of one number.
+    /// Returns the enclosure of a single number.
     pub fn point(number: Fixed<T, F>) -> Self
         ensures { result ≡ record { lo = number.bits; hi = number.bits } }
     {
         Self::from_interval(Interval::from_ends(number.bits, number.bits))
     }
 
-    /// Returns whether the number lies in the enclosure.
+    /// Returns whether the number is in the enclosure.
     pub fn contains(self, number: Fixed<T, F>) -> bool
         ensures { IsTrue result ↔ Contains (ends_of T.value self) (T.value number.bits) }
     {
         is_at_most(self.low().bits, number.bits) & is_at_most(number.bits, self.high().bits)
     }
 
-    /// Returns whether each number of the other enclosure lies in this one.
+    /// Returns whether each number of the other enclosure is in this one.
     pub fn contains_enclosure(self, other: Self) -> bool
         ensures { IsTrue result ↔ Encloses (ends_of T.value self) (ends_of T.value other) }
     {
@@ -44,7 +44,7 @@ impl<T: Word, const F: u32> Enclosure<T, F> {
         Self::from_interval(Interval::from_ends(low, high))
     }
 
-    /// Returns the enclosure of the numbers that lie in both, or None exactly if there are none.
+    /// Returns the enclosure of the numbers that are in both, or `None` if there are none.
     pub fn intersection(self, other: Self) -> Option<Self>
         ensures { option_map (ends_of T.value) result ≡ common_of (ends_of T.value self) (ends_of T.value other) }
     {

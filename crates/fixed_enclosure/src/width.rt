@@ -1,4 +1,4 @@
-//! How wide an enclosure is.
+//! The width of an enclosure.
 
 ghost use Rattle.std.specs.Prelude.{◌≡◌, ◌-ℤ◌};
 
@@ -7,7 +7,7 @@ use fixed_num::Fixed;
 use fixed_word::Word;
 
 impl<T: Word, const F: u32> Enclosure<T, F> {
-    /// Returns how far the high end lies above the low one, exactly: the unsigned format has room for it.
+    /// Returns the high end minus the low end, exactly: the unsigned format has room for it.
     pub fn width(self) -> Fixed<T::Unsigned, F>
         ensures { T.Unsigned.value result.bits ≡ T.value self.hi -ℤ T.value self.lo }
     {

@@ -1,17 +1,23 @@
 -- The ends of a range, for a whole number and for an infinity.
-use Rattle.std.proofs.Common.{◌≡◌, ◌-◌, ◌<◌, ◌≤◌, ◌<ℤ◌, ℕ, ℤ, suc, Bool, true, false, pos, negsuc, unsigned_abs, ltb, refl, ap, sym, ◌∙◌, arith, inl, inr}
-use Rattle.std.specs.Prelude.{None, Some, int_lt, if◌then◌else◌}
+use Rattle.std.proofs.Common.{◌≡◌, ◌-◌, ◌^◌, ◌<◌, ◌≤◌, ◌<ℤ◌, ℕ, ℤ, zero, suc, Bool, true, false, pos, negsuc, unsigned_abs, ltb, refl, ap, sym, ◌∙◌, arith, inl, inr}
+use Rattle.std.specs.Prelude.{None, Option, Some, if◌then◌else◌}
 use Rattle.std.proofs.lemmas.Bool.{cases_lt, le-ltb, lt-ltb}
 use Rattle.std.proofs.lemmas.Int.{ints}
 use Rattle.std.proofs.lemmas.Nat.{pow_pos}
 use Rattle.std.specs.Float.{Float, NotNan, nan, inf, fin}
 use lib.Ieee.{is_nan}
-use Rattle.fixed_word.specs.Format.{clamp, highest, lowest, with_sign, wrap, InRange}
+use Rattle.fixed_word.specs.Format.{clamp, highest, lowest, with_sign, wrap, InRange, IsWidth}
+use Rattle.fixed_word.specs.Policies.{saturating}
+use Rattle.fixed_word.specs.Standing.{side_of}
+use Rattle.fixed_word.specs.declared.outcome.Outcome.{Outcome}
+use Rattle.fixed_word.specs.declared.outcome.Side.{Side}
+use Rattle.fixed_word.specs.declared.outcome.Side.TheVariants.{Fits, Above, Below}
 use Rattle.fixed_word.specs.declared.rounding.Rounding.{Rounding}
 use Rattle.fixed_word.proofs.Nearest.{clamp_above, clamp_below}
-use Rattle.fixed_word.proofs.Sides.{lt_no, lt_yes}
-use Rattle.fixed_word.proofs.Standings.{clamp_same}
-use Rattle.fixed_word.proofs.Wraps.{wrap_same}
+use Rattle.fixed_word.proofs.Standings.{clamp_same, range_from_side}
+use Rattle.fixed_word.proofs.Wraps.{width_pos, wrap_same}
+use Rattle.fixed_kernel.specs.inside.Alike.{Alike}
+use Rattle.fixed_kernel.proofs.Alikes.{stands_alike}
 use Rattle.fixed_float.specs.Rows.{saturated_float, units_of_float}
 
 pub end_is : (s : Bool) (n : ℕ) (x : Float) (g : ℕ) (r : Rounding) (v : ℤ) → NotNan x → units_of_float x g r ≡ None
@@ -21,7 +27,12 @@ end_is s n nan g r v h e at = absurd h
 end_is s n (inf t) g r v h e at = ap (λ (z : ℤ). Some z) (at t refl)
 end_is s n (fin t m k) g r v h e at = cc
 
--- ---- a whole number, by its sign and its magnitude m, where k is that of the end on its side
+pub held_row : (s : Bool) (n : ℕ) (x : Float) (g : ℕ) (r : Rounding) (v : ℤ) → units_of_float x g r ≡ Some v → saturated_float s n x g r ≡ Some (clamp s n v)
+held_row s n nan g r v e = cc
+held_row s n (inf t) g r v e = cc
+held_row s n (fin t m k) g r v e = ap (λ (o : Option ℤ). saturating s n o) e
+
+-- ---- a number by its sign and its magnitude m, where k is that of the end on its side
 past_highest : (s : Bool) (n a : ℕ) → unsigned_abs (highest s n) < a → highest s n <ℤ pos a
 past_highest true n a h = omega (arith, ints)
 past_highest false n a h = omega (arith, ints)
@@ -51,15 +62,34 @@ module _ {T : Type 0} (value : T → ℤ) (s : Bool) (n : ℕ) (N : 0 < n) (end 
     | inr g ↦ let r = to_lowest s n a g in rw (le-ltb (unsigned_abs (lowest s n)) (suc a) g) (w ∙ wrap_same s n (negsuc a) N r ∙ sym (clamp_same s n (negsuc a) r))
   ]
 
-  pub held_is : (x : ℤ) (m k : ℕ) → value end ≡ (if int_lt x (pos 0) then lowest s n else highest s n) → value kept ≡ wrap s n (with_sign (int_lt x (pos 0)) m)
-      → m ≡ unsigned_abs x → k ≡ unsigned_abs (value end) → value (if ltb k m then end else kept) ≡ clamp s n x
-  held_is (pos a) m k e w M K =
-      let b : int_lt (pos a) (pos 0) ≡ false = lt_no (pos a) (pos 0) (omega (arith, ints)) in
-      let e' : value end ≡ highest s n = e ∙ ap (λ (t : Bool). if t then lowest s n else highest s n) b in
-      let w' : value kept ≡ wrap s n (pos a) = w ∙ (λ i. wrap s n (with_sign (b i) (M i))) in
-      (λ i. value (if ltb ((K ∙ ap unsigned_abs e') i) (M i) then end else kept)) ∙ held_above a e' w'
-  held_is (negsuc a) m k e w M K =
-      let b : int_lt (negsuc a) (pos 0) ≡ true = lt_yes (negsuc a) (pos 0) (omega (arith, ints)) in
-      let e' : value end ≡ lowest s n = e ∙ ap (λ (t : Bool). if t then lowest s n else highest s n) b in
-      let w' : value kept ≡ wrap s n (negsuc a) = w ∙ (λ i. wrap s n (with_sign (b i) (M i))) in
-      (λ i. value (if ltb ((K ∙ ap unsigned_abs e') i) (M i) then end else kept)) ∙ held_below a e' w'
+  held_zero : value end ≡ lowest s n → value kept ≡ wrap s n (pos 0) → value (if ltb (unsigned_abs (lowest s n)) 0 then end else kept) ≡ clamp s n (pos 0)
+  held_zero e w =
+      let r = to_highest s n 0 (omega arith) in
+      rw (le-ltb (unsigned_abs (lowest s n)) 0 (omega arith)) (w ∙ wrap_same s n (pos 0) N r ∙ sym (clamp_same s n (pos 0) r))
+
+  pub held_is : (b : Bool) (m k : ℕ) → value end ≡ (if b then lowest s n else highest s n) → value kept ≡ wrap s n (with_sign b m)
+      → k ≡ unsigned_abs (value end) → value (if ltb k m then end else kept) ≡ clamp s n (with_sign b m)
+  held_is false m k e w K = (λ i. value (if ltb ((K ∙ ap unsigned_abs e) i) m then end else kept)) ∙ held_above m e w
+  held_is true zero k e w K = (λ i. value (if ltb ((K ∙ ap unsigned_abs e) i) 0 then end else kept)) ∙ held_zero e w
+  held_is true (suc a) k e w K = (λ i. value (if ltb ((K ∙ ap unsigned_abs e) i) (suc a) then end else kept)) ∙ held_below a e w
+
+-- ---- numbers of which every word keeps the same
+above_from_side : (s : Bool) (n : ℕ) (x : ℤ) → side_of s n x ≡ Above → highest s n <ℤ x
+above_from_side s n x e = grind (arith, ints)
+
+below_from_side : (s : Bool) (n : ℕ) (x : ℤ) → side_of s n x ≡ Below → x <ℤ lowest s n
+below_from_side s n x e = grind (arith, ints)
+
+by_side : (s : Bool) (n : ℕ) (x y : ℤ) (t : Side) → 0 < n → side_of s n x ≡ t → side_of s n y ≡ t → wrap s n x ≡ wrap s n y → clamp s n x ≡ clamp s n y
+by_side s n x y Fits N a b w =
+    let r = range_from_side s n x a in
+    let q = range_from_side s n y b in
+    clamp_same s n x r ∙ sym (wrap_same s n x N r) ∙ w ∙ wrap_same s n y N q ∙ sym (clamp_same s n y q)
+by_side s n x y Above N a b w = clamp_above s n x (above_from_side s n x a) ∙ sym (clamp_above s n y (above_from_side s n y b))
+by_side s n x y Below N a b w = clamp_below s n x (below_from_side s n x a) ∙ sym (clamp_below s n y (below_from_side s n y b))
+
+pub clamp_alike : (s : Bool) (n : ℕ) (x y : ℤ) → IsWidth n → Alike (2 ^ 64) x y → clamp s n x ≡ clamp s n y
+clamp_alike s n x y w a =
+    let o : Outcome ℤ = record { wrapped = wrap s n y; side = side_of s n y } in
+    let h = stands_alike (λ (z : ℤ). z) s n x y o w a (record { wrapped = refl; side = refl }) in
+    by_side s n x y (side_of s n x) (width_pos n w) refl h.side (sym h.wrapped)

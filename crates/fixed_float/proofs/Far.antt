@@ -55,18 +55,16 @@ stepped_far k below n j N =
       | inr g ↦ ap (λ (z : ℕ). stepped k below n (2 ^ z)) {x = j} {y = min j 63} (omega arith)
     ]
 
--- n * 2 ^ up over 2 ^ 1074, by 9 places more
-pub moved_down : (k : Rounding) (b : Bool) (n up : ℕ) → n < 2 ^ 53 → up ≤ 1083
-    → with_sign b (stepped k b (n * 2 ^ 9) (2 ^ min (1083 - up) 63)) ≡ rounded (with_sign b (n * 2 ^ up)) (pos (2 ^ 1074)) k
+-- n * 2 ^ up over 2 ^ 1074
+pub moved_down : (k : Rounding) (b : Bool) (n up : ℕ) → n < 2 ^ 53 → up ≤ 1074
+    → with_sign b (stepped k b n (2 ^ min (1074 - up) 63)) ≡ rounded (with_sign b (n * 2 ^ up)) (pos (2 ^ 1074)) k
 moved_down k b n up N U =
-    let by = 1083 - up in
-    let p : 2 ^ up * 2 ^ by ≡ 2 ^ 9 * 2 ^ 1074 =
-    sym (pow-add 2 up by) ∙ ap (λ (z : ℕ). 2 ^ z) {x = up + by} {y = 9 + 1074} (omega arith) ∙ pow-add 2 9 1074 in
-    let e : n * 2 ^ up * 2 ^ by ≡ n * 2 ^ 9 * 2 ^ 1074 =
-    mul_assoc n (2 ^ up) (2 ^ by) ∙ ap (λ (z : ℕ). n * z) p ∙ sym (mul_assoc n (2 ^ 9) (2 ^ 1074)) in
-    ap (with_sign b) (sym (stepped_far k b (n * 2 ^ 9) by (omega arith)))
-    ∙ sym (rounded_at k b (n * 2 ^ 9) (2 ^ by) (pow_pos by))
-    ∙ sym (rounded_same k b (n * 2 ^ up) (2 ^ 1074) (n * 2 ^ 9) (2 ^ by) (pow_pos 1074) (pow_pos by) e)
+    let by = 1074 - up in
+    let p : 2 ^ up * 2 ^ by ≡ 2 ^ 1074 = sym (pow-add 2 up by) ∙ ap (λ (z : ℕ). 2 ^ z) {x = up + by} {y = 1074} (omega arith) in
+    let e : n * 2 ^ up * 2 ^ by ≡ n * 2 ^ 1074 = mul_assoc n (2 ^ up) (2 ^ by) ∙ ap (λ (z : ℕ). n * z) p in
+    ap (with_sign b) (sym (stepped_far k b n by (omega arith)))
+    ∙ sym (rounded_at k b n (2 ^ by) (pow_pos by))
+    ∙ sym (rounded_same k b (n * 2 ^ up) (2 ^ 1074) n (2 ^ by) (pow_pos 1074) (pow_pos by) e)
 
 -- ---- up
 far_alike : (b : Bool) (n c : ℕ) → 0 < c → Alike (2 ^ 64) (with_sign b (n * c * 2 ^ 64)) (with_sign b (n * 2 ^ 64))
@@ -92,7 +90,7 @@ moved_alike b n j =
     ]
 
 -- n * 2 ^ up over 2 ^ 1074, which is a whole number
-pub moved_up : (k : Rounding) (b : Bool) (n up : ℕ) → 1083 < up
+pub moved_up : (k : Rounding) (b : Bool) (n up : ℕ) → 1074 < up
     → Alike (2 ^ 64) (rounded (with_sign b (n * 2 ^ up)) (pos (2 ^ 1074)) k) (with_sign b (n * 2 ^ min (up - 1074) 64))
 moved_up k b n up U =
     let j = up - 1074 in

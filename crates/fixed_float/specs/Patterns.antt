@@ -1,6 +1,6 @@
 -- Floats by their bits, and the nearest of them.
--- A pattern is, from above, the sign, the exponent's field and the fraction, which is below hid f: 2 ^ 52 of an `f64` and
--- 2 ^ 23 of an `f32`. A field of `ones f`, all bits 1, is that of an infinity or a NaN.
+-- A pattern is, from above, the sign, the exponent's field and the fraction. That is below hid f: 2 ^ 52 of an `f64`
+-- and 2 ^ 23 of an `f32`. A field of `ones f`, all bits 1, is that of an infinity or a NaN.
 use Rattle.std.specs.Prelude.{◌≡◌, ◌≢◌, ◌+◌, ◌*◌, ◌/◌, ◌%◌, ◌^◌, ◌<◌, ◌≤◌, ◌-ℤ◌, ◌*ℤ◌, ℕ, ℤ, zero, suc, pos, nat_abs, nat_le}
 use Rattle.std.specs.Float.{Format}
 use Rattle.std.specs.Float.Ieee.{hid, low, ones, top}
@@ -26,7 +26,7 @@ number_of f b = with_sign (nat_le (top f) b) (least_floats f (field_of f b) (fra
 abbrev pub distance : Format → ℤ → ℕ → ℕ → ℕ
 distance f a d b = nat_abs (a *ℤ pos (2 ^ low f) -ℤ number_of f b *ℤ pos d)
 
--- b is a finite float's, none is nearer to a / d, and where another is as near, the last bit of b is 0
+-- b is the pattern of a finite float, no other is nearer to a / d, and if another is as near, the last bit of b is 0
 pub record IsNearestOfAll (f : Format) (a : ℤ) (d b : ℕ) : Type 0 where
   pub finite : field_of f b < ones f
   pub near : (c : ℕ) → field_of f c < ones f → distance f a d b ≤ distance f a d c

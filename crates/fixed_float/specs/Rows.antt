@@ -1,5 +1,5 @@
--- What a float is as a number of units, and which float a number of units is.
--- A finite float is `fin s m e`: the number m * 2 ^ e, or minus it where s is true. `up e` over `down e` is 2 ^ e.
+-- What a float is in units, and which float is nearest to a number of units.
+-- A finite float is `fin s m e`: the number m * 2 ^ e, or minus it if s is true. `up e` over `down e` is 2 ^ e.
 use Rattle.std.specs.Prelude.{◌≡◌, ◌*◌, ◌^◌, ◌*ℤ◌, ℕ, ℤ, Bool, true, false, suc, pos, negsuc, Option, Some, None, if◌then◌else◌}
 use Rattle.std.specs.Float.{Float, Format, nan, inf, fin}
 use Rattle.std.specs.Ordering.{int_cmp}
@@ -13,30 +13,30 @@ use Rattle.fixed_word.specs.declared.outcome.Outcome.{Outcome}
 use Rattle.fixed_word.specs.declared.rounding.Rounding.{Rounding}
 use Rattle.fixed_kernel.specs.Rounded.{rounded}
 
--- a float in units of 2 ^ -g, rounded; a NaN and the infinities are no number
+-- a float in units of 2 ^ -g, rounded; NaNs and infinities are no numbers
 abbrev pub units_of_float : Float → ℕ → Rounding → Option ℤ
 units_of_float nan g r = None
 units_of_float (inf s) g r = None
 units_of_float (fin s m e) g r = Some (rounded (with_sign s (m * up e * 2 ^ g)) (pos (down e)) r)
 
--- the same, held at the ends of a range; an infinity is at the end on its side
+-- the same, limited to a range; an infinity becomes the end on its side
 abbrev pub saturated_float : Bool → ℕ → Float → ℕ → Rounding → Option ℤ
 saturated_float signed n nan g r = None
 saturated_float signed n (inf s) g r = Some (if s then lowest signed n else highest signed n)
 saturated_float signed n (fin s m e) g r = saturating signed n (units_of_float (fin s m e) g r)
 
--- the float nearest to a over 2 ^ g; of two as near, the one whose last bit is 0
+-- the float nearest to a over 2 ^ g, ties to even
 abbrev pub nearest_float : Format → ℤ → ℕ → Float
 nearest_float format (pos n) g = round format false n (2 ^ g)
 nearest_float format (negsuc n) g = round format true (suc n) (2 ^ g)
 
--- how a over 2 ^ g stands to a float; to a NaN not at all
+-- the order of a over 2 ^ g and a float; a NaN has none
 abbrev pub float_order : ℤ → ℕ → Float → Option Ordering
 float_order a g nan = None
 float_order a g (inf s) = Some (if s then Greater else Less)
 float_order a g (fin s m e) = Some (int_cmp (a *ℤ pos (down e)) (with_sign s (m * up e * 2 ^ g)))
 
--- the outcome stands for the row's number, and there is none where the row has none
+-- the outcome stands for the row's number; there is no outcome if the row has no number
 abbrev pub IsOutcomeOfRow : {T : Type 0} → (T → ℤ) → Bool → ℕ → Option ℤ → Option (Outcome T) → Type 0
 IsOutcomeOfRow value signed n row None = row ≡ None
 IsOutcomeOfRow value signed n row (Some outcome) = (x : ℤ) × (row ≡ Some x) × StandsFor value signed n x outcome

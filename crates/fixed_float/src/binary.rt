@@ -10,7 +10,7 @@ use fixed_word::Word;
 
 /// A float type of IEEE 754: `f32` or `f64`.
 pub trait Binary: Copy {
-    /// How many binary digits a significand has, the leading one counted.
+    /// How many binary digits a significand has, including the leading one.
     const DIGITS: u32;
 
     ghost DIGITS: { ℕ };
@@ -20,48 +20,48 @@ pub trait Binary: Copy {
 
     ghost LEAST: { ℕ };
 
-    /// The bits of the infinity above 0; past them lie those of NaNs.
+    /// The bits of the positive infinity. Greater bits below the sign's are those of NaNs.
     const INFINITE: u64;
 
     ghost INFINITE: { ℕ };
 
-    /// The bit of the sign.
+    /// The bits in which only the sign's is 1.
     const SIGN: u64;
 
     ghost SIGN: { ℕ };
 
-    /// Of how many bits every whole number is a float.
+    /// Every whole number of so many bits is a float, and so is its quotient by a power of two up to `2^64`.
     const WHOLE: u32;
 
     ghost WHOLE: { ℕ };
 
     ghost format: { Format };
 
-    // the float as IEEE 754 has it: a NaN, an infinity, or a sign, m and e
+    // the float of IEEE 754: a NaN, an infinity, or a sign, m and e
     ghost float: { Self → Float };
 
-    /// The same float as an `f64`.
+    /// Returns the same float as an `f64`.
     fn widened(self) -> f64
         ensures { result ≡ float self };
 
-    /// The float with these bits. Condition: they are so few, and no NaN's.
+    /// Returns the float with these bits. Precondition: `bits` is below `2 SIGN`, and is not a NaN's.
     fn of_pattern(bits: u64) -> Self
         requires width { bits < 2 * SIGN }
         requires not_nan { bits % SIGN ≤ INFINITE }
         ensures { float result ≡ of_bits format bits };
 
-    /// The float that is `whole / 2^by`. Condition: the format has it, by the bits of `whole`.
+    /// Returns the float `whole / 2^by`. Precondition: `whole` is below `2^WHOLE`, and `by` is at most 64.
     fn quotient(whole: u64, by: u32) -> Self
         requires whole { whole < 2 ^ WHOLE }
         requires by { by ≤ 64 }
         ensures { float result ≡ round format false whole (2 ^ by) };
 
-    /// The float nearest to `a / 2^frac`, of two as near the one whose last bit is 0.
+    /// Returns the float nearest to `a / 2^frac`, ties to even. Precondition: `frac` is at most the width.
     fn nearest<T: Word>(a: T, frac: u32) -> Self
         requires { frac ≤ T.BITS }
         ensures { float result ≡ nearest_float format (T.value a) frac };
 
-    /// The float with the other sign.
+    /// Returns the float with the other sign.
     fn negated(self) -> Self
         ensures { float result ≡ neg (float self) };
 

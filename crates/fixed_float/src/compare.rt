@@ -24,7 +24,7 @@ pub fn compare_float_of<T: Castable, X: Binary>(a: T, frac: u32, x: X) -> Option
     }
 }
 
-/// How a number stands to a finite float. Both are brought to a word and a fraction.
+/// Returns the order of a number and a finite float. The float is converted to a word and a number of fraction bits.
 #[inline]
 fn beside_parts<T: Castable>(a: T, frac: u32, parts: Parts) -> Ordering
     requires frac { frac ≤ T.BITS }
@@ -41,7 +41,7 @@ fn beside_parts<T: Castable>(a: T, frac: u32, parts: Parts) -> Ordering
     }
 }
 
-/// The digits with their sign.
+/// Returns the digits with their sign.
 #[inline]
 fn signed_digits(parts: Parts) -> i64
     requires { parts.digits < 2 ^ 53 }
@@ -51,7 +51,7 @@ fn signed_digits(parts: Parts) -> i64
     if parts.below_zero { -digits } else { digits }
 }
 
-/// How every number stands to an infinity; None for a NaN.
+/// Returns the order of any number and an infinity, or `None` for a NaN.
 #[inline]
 fn beside_infinity<X: Binary>(x: X) -> Option<Ordering>
     requires { float_is_finite (X.float x) ≡ false }

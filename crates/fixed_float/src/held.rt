@@ -1,18 +1,19 @@
-//! From a float to the nearest word.
+//! Conversions of floats to the nearest word.
 
 ghost use Rattle.std.specs.Prelude.{◌≡◌, Bool, Some, if◌then◌else◌};
 ghost use Rattle.std.specs.Float.{NotNan, inf};
-ghost use Rattle.fixed_word.specs.Format.{highest, lowest};
+ghost use Rattle.fixed_word.specs.Format.{clamp, highest, lowest, with_sign};
 ghost use Rattle.fixed_word.specs.Policies.{saturating};
 ghost use Rattle.fixed_float.specs.Rows.{saturated_float};
 
 use crate::binary::Binary;
-use crate::incoming::outcome_by_parts;
+use crate::incoming::magnitude_of_parts;
 use crate::near::whole_near;
-use fixed_word::{RawWord, Rounding, Word, saturating_of};
+use crate::parts::parts_of;
+use fixed_word::{RawWord, Rounding, Word};
 
-/// The float in units of `2^-frac`, rounded, held at the ends of the range; for an infinity the end on its side.
-/// Condition: the float is no NaN.
+/// Returns the float in units of `2^-frac`, rounded as named, or the nearest word if that does not fit. An infinity
+/// returns the end of the range on its side. Precondition: the float is not a NaN.
 #[inline]
 pub fn saturating_float_of<X: Binary, T: Word>(x: X, frac: u32, rounding: Rounding) -> T
     requires { NotNan (X.float x) }
@@ -26,31 +27,37 @@ pub fn saturating_float_of<X: Binary, T: Word>(x: X, frac: u32, rounding: Roundi
     }
 }
 
-/// The same of every `f64`, by its bits. Condition: it is no NaN.
+/// Does the same for every `f64`, by its bits. Precondition: it is not a NaN.
 #[inline]
 fn far_held<T: Word>(x: f64, frac: u32, rounding: Rounding) -> T
     requires { NotNan x }
     ensures { Some (T.value result) ≡ saturated_float T.SIGNED T.BITS x frac rounding }
 {
-    match outcome_by_parts(x, frac, rounding) {
-        Some(outcome) => saturating_of(outcome),
+    match parts_of(x) {
+        Some(parts) => magnitude_held(parts.below_zero, magnitude_of_parts(parts, frac, rounding)),
         None => end_beside(x),
     }
 }
 
-/// The whole number, held at the ends of the range.
+/// Returns the word nearest to the whole number.
 #[inline]
 fn whole_held<T: Word>(whole: i64) -> T
     ensures { Some (T.value result) ≡ saturating T.SIGNED T.BITS (Some whole) }
 {
-    let below_zero = whole < 0;
-    let magnitude = whole.unsigned_abs();
-    let end: T = end_on(below_zero);
-    let past = magnitude > end.magnitude();
-    T::residue(below_zero, magnitude as u128).unless(past, end)
+    magnitude_held(whole < 0, whole.unsigned_abs() as u128)
 }
 
-/// The end of the range on the side of an infinity.
+/// Returns the number of the word that is nearest to the magnitude with that sign. A branch on the sign would be slow.
+#[inline]
+fn magnitude_held<T: Word>(below_zero: bool, magnitude: u128) -> T
+    ensures { T.value result ≡ clamp T.SIGNED T.BITS (with_sign below_zero magnitude) }
+{
+    let end: T = end_on(below_zero);
+    let past = magnitude > end.magnitude() as u128;
+    T::residue(below_zero, magnitude).unless(past, end)
+}
+
+/// Returns the end of the range on the side of an infinity.
 #[inline]
 fn end_beside<T: Word>(x: f64) -> T
     ensures { (s : Bool) → x ≡ inf s → T.value result
@@ -59,7 +66,7 @@ fn end_beside<T: Word>(x: f64) -> T
     end_on(x < 0.0)
 }
 
-/// The lower end of the range where `below_zero`, and otherwise the upper end.
+/// Returns the lower end of the range if `below_zero`, and otherwise the upper end.
 #[inline]
 fn end_on<T: Word>(below_zero: bool) -> T
     ensures { T.value result

@@ -1,10 +1,11 @@
-//! From a float to a word.
+//! Conversions of floats to words.
 
 ghost use Rattle.std.specs.Prelude.{◌≡◌, ◌+◌, ◌*◌, ◌<◌, ◌≤◌, ◌^◌, pos};
 ghost use Rattle.fixed_word.specs.Format.{with_sign};
 ghost use Rattle.fixed_word.specs.Standing.{StandsFor};
 ghost use Rattle.fixed_word.specs.declared.rounding.Rounding.TheVariants.{Even};
 ghost use Rattle.fixed_kernel.specs.Rounded.{rounded};
+ghost use Rattle.fixed_kernel.specs.inside.Alike.{Alike};
 ghost use Rattle.fixed_float.specs.Rows.{IsOutcomeOfRow, units_of_float};
 
 use crate::binary::Binary;
@@ -13,7 +14,8 @@ use crate::near::whole_near;
 use crate::parts::{LEAST, Parts, parts_of};
 use fixed_word::{Outcome, Rounding, Word, outcome_of};
 
-/// The float in units of `2^-frac`, to the nearest, ties to even; None for a NaN and the infinities.
+/// Returns the outcome of the float in units of `2^-frac`, rounded to the nearest, ties to even. Returns `None` for a
+/// NaN and the infinities.
 #[inline]
 pub fn from_float_of<X: Binary, T: Word>(x: X, frac: u32) -> Option<Outcome<T>>
     ensures { IsOutcomeOfRow T.value T.SIGNED T.BITS (units_of_float (X.float x) frac Even) result }
@@ -21,7 +23,8 @@ pub fn from_float_of<X: Binary, T: Word>(x: X, frac: u32) -> Option<Outcome<T>>
     from_float_round_of(x, frac, Rounding::Even)
 }
 
-/// The float in units of `2^-frac`, rounded; None for a NaN and the infinities.
+/// Returns the outcome of the float in units of `2^-frac`, rounded as named. Returns `None` for a NaN and the
+/// infinities.
 #[inline]
 pub fn from_float_round_of<X: Binary, T: Word>(
     x: X,
@@ -38,7 +41,7 @@ pub fn from_float_round_of<X: Binary, T: Word>(
     }
 }
 
-/// The same of every `f64`, by its bits.
+/// Does the same for every `f64`, by its bits.
 #[inline]
 pub(crate) fn outcome_by_parts<T: Word>(x: f64, frac: u32, rounding: Rounding) -> Option<Outcome<T>>
     ensures { IsOutcomeOfRow T.value T.SIGNED T.BITS (units_of_float x frac rounding) result }
@@ -47,10 +50,7 @@ pub(crate) fn outcome_by_parts<T: Word>(x: f64, frac: u32, rounding: Rounding) -
     Some(outcome_of_parts(parts, frac, rounding))
 }
 
-/// How many bits stay free above the digits of a float, less those that a rounding needs.
-const ROOM: u64 = 9;
-
-/// The outcome of `digits * 2^(scale + frac - LEAST)`, or minus it, rounded.
+/// Returns the outcome of `digits * 2^(scale + frac - LEAST)`, with the sign, rounded as named.
 #[inline]
 fn outcome_of_parts<T: Word>(parts: Parts, frac: u32, rounding: Rounding) -> Outcome<T>
     requires digits { parts.digits < 2 ^ 53 }
@@ -59,15 +59,27 @@ fn outcome_of_parts<T: Word>(parts: Parts, frac: u32, rounding: Rounding) -> Out
         (rounded (with_sign parts.below_zero (parts.digits * 2 ^ (parts.scale + frac)))
         (pos (2 ^ 1074)) rounding) result }
 {
+    outcome_of(parts.below_zero, magnitude_of_parts(parts, frac, rounding))
+}
+
+/// Returns the magnitude of `digits * 2^(scale + frac - LEAST)`, rounded as named with the sign. In place of one of
+/// `2^64` or more, the result may be another such number with the same lowest 64 bits.
+#[inline]
+pub(crate) fn magnitude_of_parts(parts: Parts, frac: u32, rounding: Rounding) -> u128
+    requires digits { parts.digits < 2 ^ 53 }
+    requires scale { parts.scale < 2 ^ 11 }
+    ensures { Alike (2 ^ 64)
+        (rounded (with_sign parts.below_zero (parts.digits * 2 ^ (parts.scale + frac))) (pos (2 ^ 1074)) rounding)
+        (with_sign parts.below_zero result) }
+{
     let up = parts.scale + frac as u64;
-    if up <= LEAST + ROOM {
-        // From 63 places on nothing is left but what a rounding adds.
-        let by = (LEAST + ROOM - up).min(63) as u32;
-        let magnitude = lowered(parts.below_zero, parts.digits << ROOM, by, rounding);
-        outcome_of(parts.below_zero, magnitude as u128)
+    if up <= LEAST {
+        // After a shift by 63 places or more, only what the rounding adds is left.
+        let by = (LEAST - up).min(63) as u32;
+        lowered(parts.below_zero, parts.digits, by, rounding) as u128
     } else {
-        // From 64 places on every word keeps 0, and the number lies past its range.
+        // After a shift by 64 places or more, each word truncates to 0, and a number above 0 is out of range.
         let by = (up - LEAST).min(64) as u32;
-        outcome_of(parts.below_zero, (parts.digits as u128) << by)
+        (parts.digits as u128) << by
     }
 }

@@ -1,10 +1,9 @@
-//! Floats of IEEE 754, in and out of fixed-point numbers.
+//! Conversions between floats of IEEE 754 and fixed-point numbers, and comparisons of both.
 //!
-//! A finite float is a number with an end, `±m 2^e`. In a format with f bits behind the point it has the row
-//! `±m 2^(e + f)`, rounded: by its name, or to the nearest, ties to even. A NaN and the infinities have
-//! none. What a policy makes of a row is answered as of any other operation. Out, a number becomes the
-//! nearest float, of two as near the one whose last bit is 0. Comparisons with floats are those of exact numbers. No
-//! call takes memory.
+//! A finite float is exactly a number `±m 2^e`. Its exact result in a format with f fraction bits is `±m 2^(e + f)`,
+//! rounded as named, or to the nearest, ties to even. NaNs and infinities have none. Each policy returns what it
+//! returns for other operations. A number converts to the nearest float, ties to even. Comparisons with floats are
+//! exact. No call allocates.
 #![tactic(auto)]
 
 mod binary;

@@ -1,11 +1,11 @@
-//! Magnitudes moved down, with a rounding.
+//! Magnitudes shifted right, with a rounding.
 
 ghost use Rattle.std.specs.Prelude.{◌≡◌, ◌+◌, ◌*◌, ◌/◌, ◌%◌, ◌<◌, ◌≤◌, ◌^◌};
 ghost use Rattle.fixed_kernel.specs.inside.Steps.{rounding_step};
 
 use fixed_word::Rounding;
 
-/// The magnitude of a number over `2^by`, rounded; the number lies below 0 where `below_zero`.
+/// Returns the magnitude of a number over `2^by`, rounded as named. The number is negative if `below_zero`.
 #[inline]
 pub(crate) fn lowered(below_zero: bool, magnitude: u64, by: u32, rounding: Rounding) -> u64
     requires { by < 64 }
@@ -17,7 +17,7 @@ pub(crate) fn lowered(below_zero: bool, magnitude: u64, by: u32, rounding: Round
     quotient + step(rounding, below_zero, quotient, remainder, unit)
 }
 
-/// 1 where the rounding takes the magnitude past `quotient`, and otherwise 0.
+/// Returns 1 if the rounding makes the magnitude greater than `quotient`, and otherwise 0.
 #[inline]
 fn step(rounding: Rounding, below_zero: bool, quotient: u64, remainder: u64, unit: u64) -> u64
     requires { 2 * remainder + 1 < 2 ^ 64 }

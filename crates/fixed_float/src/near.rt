@@ -6,8 +6,8 @@ ghost use Rattle.fixed_float.specs.Rows.{units_of_float};
 
 use fixed_word::Rounding;
 
-/// The float in units of `2^-frac`, rounded to the nearest, ties to even. `None` says nothing: another rounding, or more
-/// than `2^50` units.
+/// Returns the float in units of `2^-frac`, rounded to the nearest, ties to even. `None` decides nothing: the rounding
+/// is another one, or there are more than `2^50` units.
 #[inline]
 pub(crate) fn whole_near(x: f64, frac: u32, rounding: Rounding) -> Option<i64>
     ensures { (whole : ℤ) → result ≡ Some whole → units_of_float x frac rounding ≡ Some whole }
@@ -18,13 +18,14 @@ pub(crate) fn whole_near(x: f64, frac: u32, rounding: Rounding) -> Option<i64>
     }
 }
 
-/// `1.5 * 2^52`. The last bit of a float from `2^52` to `2^53` counts 1, so a sum there is rounded to a whole number.
+/// `1.5 * 2^52`. The last bit of a float from `2^52` to `2^53` is worth 1, so a sum in that range is rounded to a whole
+/// number.
 const CENTRE: f64 = 6755399441055744.0;
 
-/// The bits of the centre.
+/// The bits of `CENTRE`.
 const CENTRE_BITS: i64 = 0x4338_0000_0000_0000;
 
-/// The same where the rounding is to the nearest, by the sum with the centre.
+/// Does the same for the rounding to the nearest, by a sum with `CENTRE`.
 #[inline]
 fn even_near(x: f64, frac: u32) -> Option<i64>
     requires { frac ≤ 64 }

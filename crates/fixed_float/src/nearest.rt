@@ -9,8 +9,8 @@ ghost use Rattle.fixed_float.specs.Rows.{nearest_float};
 use fixed_word::{RawWord, Valued, Word};
 use std::num::{nearest_i64_to_f32, nearest_i64_to_f64, nearest_u64_to_f32, nearest_u64_to_f64};
 
-/// The `f64` nearest to `a / 2^frac`, of two as near the one whose last bit is 0. Only the conversion rounds: a product
-/// with a power of two is exact, where nothing is as small as the least floats.
+/// Returns the `f64` nearest to `a / 2^frac`, ties to even. Only the conversion rounds: the product by a power of two
+/// is exact, since no number is as small as the least floats.
 #[inline]
 pub(crate) fn nearest_f64<T: Word>(a: T, frac: u32) -> f64
     requires { frac ≤ T.BITS }
@@ -19,7 +19,7 @@ pub(crate) fn nearest_f64<T: Word>(a: T, frac: u32) -> f64
     whole_f64(a) * f64::from_bits((1023 - frac as u64) << 52)
 }
 
-/// The same of an `f32`.
+/// Returns the `f32` nearest to `a / 2^frac`, ties to even.
 #[inline]
 pub(crate) fn nearest_f32<T: Word>(a: T, frac: u32) -> f32
     requires { frac ≤ T.BITS }
@@ -28,7 +28,7 @@ pub(crate) fn nearest_f32<T: Word>(a: T, frac: u32) -> f32
     whole_f32(a) * f32::from_bits((127 - frac) << 23)
 }
 
-/// The `f64` nearest to the value.
+/// Returns the `f64` nearest to the value.
 #[inline]
 fn whole_f64<T: Word>(a: T) -> f64
     ensures value { result ≡ of_int binary64 (T.value a) }
@@ -41,7 +41,7 @@ fn whole_f64<T: Word>(a: T) -> f64
     }
 }
 
-/// The `f32` nearest to the value.
+/// Returns the `f32` nearest to the value.
 #[inline]
 fn whole_f32<T: Word>(a: T) -> f32
     ensures value { result ≡ of_int binary32 (T.value a) }
@@ -54,7 +54,7 @@ fn whole_f32<T: Word>(a: T) -> f32
     }
 }
 
-/// The value of a signed word.
+/// Returns the value of a signed word.
 #[inline]
 fn signed_of<T: Word>(a: T) -> i64
     requires { T.SIGNED ≡ true }

@@ -1,4 +1,4 @@
-//! From a word to a float.
+//! Conversions of words to floats.
 
 ghost use Rattle.std.specs.Prelude.{◌≡◌, ◌≤◌};
 ghost use Rattle.fixed_float.specs.Rows.{nearest_float};
@@ -6,7 +6,7 @@ ghost use Rattle.fixed_float.specs.Rows.{nearest_float};
 use crate::binary::Binary;
 use fixed_word::Word;
 
-/// The float nearest to `a / 2^frac`, of two as near the one whose last bit is 0.
+/// Returns the float nearest to `a / 2^frac`, ties to even. Precondition: `frac` is at most the width.
 #[inline]
 pub fn to_float_of<T: Word, X: Binary>(a: T, frac: u32) -> X
     requires { frac ≤ T.BITS }

@@ -1,9 +1,9 @@
-//! A float taken apart.
+//! The parts of a float.
 
 ghost use Rattle.std.specs.Prelude.{◌≡◌, ◌<◌, ◌^◌};
 ghost use Rattle.fixed_float.specs.inside.Parts.{IsApart};
 
-/// What a finite float stands for: `digits * 2^scale` times the least float above 0, or minus that.
+/// A finite float: `digits * 2^scale` times the least float above 0, or minus that if `below_zero`.
 #[derive(Clone, Copy)]
 pub(crate) struct Parts {
     pub(crate) below_zero: bool,
@@ -14,10 +14,10 @@ pub(crate) struct Parts {
 /// The least float above 0 is `2^-LEAST`.
 pub(crate) const LEAST: u64 = 1074;
 
-/// The bits of a float's digits but the leading one, which the exponent's field stands for.
+/// How many bits store a float's digits. They lack the leading digit, which follows from the exponent's field.
 const FRACTION: u32 = 52;
 
-/// The parts of a float; None for a NaN and the infinities.
+/// Returns the parts of a float, or `None` for a NaN and the infinities.
 #[inline]
 pub(crate) fn parts_of(x: f64) -> Option<Parts>
     ensures { IsApart x result }

@@ -1,4 +1,4 @@
--- The header, and the line, whose text a piece is.
+-- The header and the line whose text a piece is.
 use Rattle.std.specs.Prelude.{ℕ, List, [], ◌∷◌, Option, Some, None, if◌then◌else◌, codes}
 use Rattle.std.specs.Str.{bytes_eq}
 use Rattle.fixed_text.specs.Numbers.{natural_in, numbered_in, whole_in}

@@ -7,7 +7,7 @@ ghost use Rattle.fixed_interval.specs.Parser.{format_at, header_of};
 
 use fixed_text::{Tokens, WordName, read_natural, word_of};
 
-/// A word, a fraction, and how many registers. A number of `2^64` or more is held as `2^64`.
+/// A word, a number of fraction bits and a number of registers. `2^64` stands for each number of `2^64` or more.
 #[derive(Clone, Copy)]
 pub(crate) struct Header {
     pub(crate) word: WordName,
@@ -15,7 +15,7 @@ pub(crate) struct Header {
     pub(crate) count: u128,
 }
 
-/// The word, the fraction and the number of registers that the tokens are.
+/// Returns the word, the number of fraction bits and the number of registers that the tokens name.
 #[tactic(auto, unfolding(crate::specs::Parser::format_at))]
 fn format_of(mut tokens: Tokens<'_>) -> Option<Header>
     ensures { result ≡ option_map capped_header (format_at tokens.entry) }
@@ -30,7 +30,7 @@ fn format_of(mut tokens: Tokens<'_>) -> Option<Header>
     }
 }
 
-/// The header whose text the piece is.
+/// Returns the header whose text the piece is, or `None` if no header has that text.
 #[tactic(auto, unfolding(crate::specs::Parser::header_at))]
 pub(crate) fn read_header(piece: &[u8]) -> Option<Header>
     ensures { result ≡ option_map capped_header (header_of piece.now) }

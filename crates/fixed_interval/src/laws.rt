@@ -1,4 +1,4 @@
-//! Laws of the ends. These functions do nothing: each contract is the law.
+//! Laws of the ends. These functions do nothing: the contract of each is the law.
 
 ghost use Rattle.std.specs.Prelude.{◌≡◌, ◌↔◌, ◌≤ℤ◌, ◌<ℤ◌, ◌*ℤ◌, ℕ, ℤ, pos};
 ghost use Rattle.fixed_text.specs.Texts.{IsReader};
@@ -7,8 +7,8 @@ ghost use Rattle.fixed_interval.specs.Containment.{HoldsDifferences, HoldsMagnit
 ghost use Rattle.fixed_interval.specs.Parser.{header_of, line_of};
 ghost use Rattle.fixed_interval.specs.Text.{header_text, line_text};
 
-/// What it is to be at most a quotient that is rounded down, and at least one that is rounded up: at a
-/// divisor above 0, and at one below 0, where the order turns.
+/// The numbers that are at most a quotient that is rounded down, and those that are at least one that is rounded up. If
+/// the divisor is below 0, the order is reversed.
 pub fn rounding_law()
     ensures floor_above { (q x d : ℤ) → pos 0 <ℤ d → (q ≤ℤ floor_over x d) ↔ ((q *ℤ d) ≤ℤ x) }
     ensures floor_below { (q x d : ℤ) → d <ℤ pos 0 → (q ≤ℤ floor_over x d) ↔ (x ≤ℤ (q *ℤ d)) }
@@ -18,14 +18,15 @@ pub fn rounding_law()
         → (ceiling_over x d ≤ℤ q) ↔ ((q *ℤ d) ≤ℤ x) }
 {}
 
-/// The root that is rounded up is the least whose square is at least the number. There is no other.
+/// The root that is rounded up is the least number from 0 on whose square is at least the number, and the only such
+/// one.
 pub fn root_law()
     ensures is { (a : ℤ) (f : ℕ) → pos 0 ≤ℤ a → IsCeilingRoot a f (ceiling_root a f) }
     ensures unique { (a r s : ℤ) (f : ℕ) → IsCeilingRoot a f r → IsCeilingRoot a f s → r ≡ s }
 {}
 
-/// Where each operand is replaced by an interval that lies in it, the ends stay defined, fit, and lie in
-/// those of the old operands.
+/// If each operand is replaced by an interval inside it, the result is still defined and fits, and its ends are within
+/// the old ones.
 pub fn inclusion_law()
     ensures sum { IsMonotone sum_ends }
     ensures difference { IsMonotone difference_ends }
@@ -37,8 +38,8 @@ pub fn inclusion_law()
     ensures square { (f : ℕ) → IsMonotoneOfOne (λ a. square_ends a f) }
 {}
 
-/// No narrower interval holds all that an operation makes of the numbers in two intervals: each
-/// that holds all of it also holds the operation's ends.
+/// No narrower interval contains every result of an operation on numbers of two intervals: each interval that contains
+/// them all also contains the operation's ends.
 pub fn tightness_law()
     ensures sum { IsTight sum_ends HoldsSums }
     ensures difference { IsTight difference_ends HoldsDifferences }
@@ -50,7 +51,7 @@ pub fn tightness_law()
     ensures square { (f : ℕ) → IsTightOfOne (λ a. square_ends a f) (λ a r. HoldsSquares a f r) }
 {}
 
-/// A piece is a header, or a line, exactly where it is the text of one, and is read as that.
+/// A piece is read as a header, or as a line, exactly if it is the text of that.
 pub fn text_law()
     ensures headers { IsReader header_text header_of }
     ensures lines { IsReader line_text line_of }

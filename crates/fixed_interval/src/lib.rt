@@ -1,11 +1,11 @@
-//! Intervals of fixed-point numbers, whose ends are rounded outward and are as near as the format allows.
+//! Intervals of fixed-point numbers. Their ends are rounded outward, to the nearest numbers of the format.
 //!
-//! An [`Interval`] is seen by the words of its ends. Each of the eight calls answers the interval of the ends that its
-//! operation has, and None exactly where it has none or one of them does not fit the word. What the operation makes
-//! of any rationals in the operands lies in the answer; [`laws::inclusion_law`](laws::inclusion_law) says that
-//! narrower operands give a narrower answer, and [`laws::tightness_law`](laws::tightness_law) that no interval of
-//! the format with all of that in it is narrower. Only [`interval_run`], the run of a script, takes memory. All
-//! items are this project's own.
+//! Contracts see an [`Interval`] as the words of its ends. Each of the eight operations returns the interval of its
+//! ends, or `None` if it has no result or an end does not fit. The result contains the operation's result for any
+//! rational numbers in the operands. [`laws::inclusion_law`](laws::inclusion_law) states that narrower operands have a
+//! narrower result, and [`laws::tightness_law`](laws::tightness_law) that no narrower interval of the format contains
+//! all of these results. Only [`interval_run`], which runs a script, allocates. The Rust crate `fixed` does not have
+//! these items.
 #![tactic(auto)]
 
 mod fault;

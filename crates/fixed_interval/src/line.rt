@@ -8,7 +8,7 @@ ghost use Rattle.fixed_interval.specs.Parser.{line_of, request_at, root_at, set_
 use crate::op::{Op, op_of};
 use fixed_text::{Decimal, Tokens, read_decimal, read_numbered};
 
-/// What a destination gets. A register of `2^64` or more is held as `2^64`.
+/// What a line stores in its destination. `2^64` stands for each register of `2^64` or more.
 #[derive(Clone, Copy)]
 pub(crate) enum Request {
     Set(Decimal, Decimal),
@@ -23,7 +23,7 @@ pub(crate) struct Line {
     pub(crate) request: Request,
 }
 
-/// Two stated ends.
+/// Returns two given ends.
 #[tactic(auto, unfolding(crate::specs::Parser::set_at))]
 fn set_of(mut tokens: Tokens<'_>) -> Option<Request>
     ensures { result ≡ option_map capped_request (set_at tokens.entry) }
@@ -37,7 +37,7 @@ fn set_of(mut tokens: Tokens<'_>) -> Option<Request>
     }
 }
 
-/// An operation, with the registers that the tokens are.
+/// Returns an operation with the registers that the tokens name.
 #[tactic(auto, unfolding(crate::specs::Parser::two_at))]
 fn two_of(op: Op, mut tokens: Tokens<'_>) -> Option<Request>
     ensures { result ≡ option_map capped_request (two_at op tokens.entry) }
@@ -51,7 +51,7 @@ fn two_of(op: Op, mut tokens: Tokens<'_>) -> Option<Request>
     }
 }
 
-/// A root, with the register that the token is.
+/// Returns a root with the register that the token names.
 #[tactic(auto, unfolding(crate::specs::Parser::root_at))]
 fn root_of(mut tokens: Tokens<'_>) -> Option<Request>
     ensures { result ≡ option_map capped_request (root_at tokens.entry) }
@@ -64,7 +64,7 @@ fn root_of(mut tokens: Tokens<'_>) -> Option<Request>
     }
 }
 
-/// What the tokens after the destination ask for.
+/// Returns what the tokens after the destination request.
 #[tactic(auto, unfolding(crate::specs::Parser::request_at))]
 fn request_of(mut tokens: Tokens<'_>) -> Option<Request>
     ensures { result ≡ option_map capped_request (request_at tokens.entry) }
@@ -80,7 +80,7 @@ fn request_of(mut tokens: Tokens<'_>) -> Option<Request>
     }
 }
 
-/// The line whose text the piece is.
+/// Returns the line whose text the piece is, or `None` if no line has that text.
 #[tactic(auto, unfolding(crate::specs::Parser::line_at))]
 pub(crate) fn read_line(piece: &[u8]) -> Option<Line>
     ensures { result ≡ option_map capped_line (line_of piece.now) }

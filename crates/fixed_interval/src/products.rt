@@ -10,9 +10,9 @@ ghost use Rattle.fixed_interval.specs.Containment.{HoldsProducts};
 use crate::interval::{Interval, between};
 use fixed_word::{Arithmetic, Integer, RawWord, Word, outcome_of_whole};
 
-/// The products of a number in `a` and one in `b`, each bits over `2^frac`: from the least product of two ends,
-/// rounded down, to the greatest, rounded up. Condition: `frac` is at most the width. None exactly where an end
-/// does not fit the word.
+/// Returns the interval of the products of a number in `a` and one in `b`, each bits over `2^frac`: from the least
+/// product of two ends, rounded down, to the greatest, rounded up. Returns `None` if an end does not fit. Precondition:
+/// `frac` is at most the width.
 pub fn mul_in<T: Word>(a: &Interval<T>, b: &Interval<T>, frac: u32) -> Option<Interval<T>>
     requires { frac ≤ T.BITS }
     ensures ends { option_map (ends_of T.value) result ≡ fitting T.SIGNED T.BITS (product_ends (ends_of T.value a.now) (ends_of T.value b.now) frac) }
@@ -23,7 +23,7 @@ pub fn mul_in<T: Word>(a: &Interval<T>, b: &Interval<T>, frac: u32) -> Option<In
     between(outcome_of_whole(low), outcome_of_whole(high))
 }
 
-/// The least of the four corners.
+/// Returns the least of the four corners.
 #[inline]
 fn least_product<T: Word>(a: &Interval<T>, b: &Interval<T>) -> T::Whole
     ensures value { T.Whole.value result ≡ least_corner (λ x y. x *ℤ y) (ends_of T.value a.now) (ends_of T.value b.now) }
@@ -35,7 +35,7 @@ fn least_product<T: Word>(a: &Interval<T>, b: &Interval<T>) -> T::Whole
     )
 }
 
-/// The greatest of the four corners.
+/// Returns the greatest of the four corners.
 #[inline]
 fn greatest_product<T: Word>(a: &Interval<T>, b: &Interval<T>) -> T::Whole
     ensures value { T.Whole.value result ≡ greatest_corner (λ x y. x *ℤ y) (ends_of T.value a.now) (ends_of T.value b.now) }
@@ -47,7 +47,7 @@ fn greatest_product<T: Word>(a: &Interval<T>, b: &Interval<T>) -> T::Whole
     )
 }
 
-/// The corner of two ends: their product.
+/// Returns the corner of two ends, which is their product.
 #[inline]
 pub(crate) fn corner<T: Word>(x: T, y: T) -> T::Whole
     ensures value { T.Whole.value result ≡ T.value x *ℤ T.value y }
@@ -56,7 +56,7 @@ pub(crate) fn corner<T: Word>(x: T, y: T) -> T::Whole
     x.whole().times(y.whole())
 }
 
-/// The less of two integers.
+/// Returns the lesser of two integers.
 #[inline]
 fn least<W: Integer>(x: W, y: W) -> W
     ensures { W.value result ≡ int_min (W.value x) (W.value y) }
@@ -64,7 +64,7 @@ fn least<W: Integer>(x: W, y: W) -> W
     if y < x { y } else { x }
 }
 
-/// The greater of two integers.
+/// Returns the greater of two integers.
 #[inline]
 fn greatest<W: Integer>(x: W, y: W) -> W
     ensures { W.value result ≡ int_max (W.value x) (W.value y) }
@@ -72,7 +72,7 @@ fn greatest<W: Integer>(x: W, y: W) -> W
     if x < y { y } else { x }
 }
 
-/// A product over `2^frac`, rounded up.
+/// Returns a product over `2^frac`, rounded up.
 #[inline]
 pub(crate) fn ceiled<T: Word>(product: T::Whole, frac: u32) -> T::Whole
     requires frac { frac ≤ T.BITS }

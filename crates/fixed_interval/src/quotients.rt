@@ -11,9 +11,9 @@ use crate::interval::{Interval, between};
 use crate::whole::{Outward, Whole};
 use fixed_word::{RawWord, Word};
 
-/// The quotients of a number in `a` by one in `b`, each bits over `2^frac`: from the least quotient of two ends,
-/// rounded down, to the greatest, rounded up. Condition: `frac` is at most the width. None exactly where 0 lies in
-/// `b`, or an end does not fit the word.
+/// Returns the interval of the quotients of a number in `a` by one in `b`, each bits over `2^frac`: from the least
+/// quotient of two ends, rounded down, to the greatest, rounded up. Returns `None` if 0 is in `b` or an end does not
+/// fit. Precondition: `frac` is at most the width.
 pub fn div_in<T: Word>(a: &Interval<T>, b: &Interval<T>, frac: u32) -> Option<Interval<T>>
     requires { frac ≤ T.BITS }
     ensures ends { option_map (ends_of T.value) result ≡ fitting T.SIGNED T.BITS (quotient_ends (ends_of T.value a.now) (ends_of T.value b.now) frac) }
@@ -28,14 +28,14 @@ pub fn div_in<T: Word>(a: &Interval<T>, b: &Interval<T>, frac: u32) -> Option<In
     )
 }
 
-/// Whether 0 lies in `b`.
+/// Returns whether 0 is in `b`.
 fn holds_zero<T: Word>(b: &Interval<T>) -> bool
     ensures { result ≡ has_zero (ends_of T.value b.now) }
 {
     b.lo() <= T::ZERO && T::ZERO <= b.hi()
 }
 
-/// The least corner, rounded down.
+/// Returns the least corner, rounded down.
 fn least_quotient<T: Word>(a: &Interval<T>, b: &Interval<T>, frac: u32) -> Whole
     requires frac { frac ≤ T.BITS }
     requires divisor { IsOffZero (ends_of T.value b.now) }
@@ -46,7 +46,7 @@ fn least_quotient<T: Word>(a: &Interval<T>, b: &Interval<T>, frac: u32) -> Whole
     corner(x, y, frac, Outward::Down)
 }
 
-/// The greatest corner, rounded up.
+/// Returns the greatest corner, rounded up.
 fn greatest_quotient<T: Word>(a: &Interval<T>, b: &Interval<T>, frac: u32) -> Whole
     requires frac { frac ≤ T.BITS }
     requires divisor { IsOffZero (ends_of T.value b.now) }
@@ -57,7 +57,7 @@ fn greatest_quotient<T: Word>(a: &Interval<T>, b: &Interval<T>, frac: u32) -> Wh
     corner(x, y, frac, Outward::Up)
 }
 
-/// The first end where `first`, and else the second.
+/// Returns the first end if `first`, and otherwise the second.
 #[inline]
 fn either<T: Word>(first: bool, x: T, y: T) -> T
     ensures { result ≡ (if first then x else y) }
@@ -65,7 +65,7 @@ fn either<T: Word>(first: bool, x: T, y: T) -> T
     if first { x } else { y }
 }
 
-/// The corner of two ends: `x 2^frac / y`, rounded that way.
+/// Returns the corner of two ends, `x 2^frac / y`, rounded in that direction.
 fn corner<T: Word>(x: T, y: T, frac: u32, way: Outward) -> Whole
     requires frac { frac ≤ T.BITS }
     requires divisor { T.value y ≢ pos 0 }

@@ -12,9 +12,9 @@ use fixed_kernel::sqrt_of;
 use fixed_root::root;
 use fixed_word::{Outcome, RawWord, Silent, Steps, Word, outcome_of};
 
-/// The roots of the numbers in `a`, each bits over `2^frac`: from the root of the low end, rounded down, to that of
-/// the high end, rounded up. Condition: `frac` is at most the width. None exactly where the low end is below 0, or
-/// an end does not fit the word.
+/// Returns the interval of the square roots of the numbers in `a`, each bits over `2^frac`: from the root of the low
+/// end, rounded down, to that of the high end, rounded up. Returns `None` if the low end is below 0 or an end does not
+/// fit. Precondition: `frac` is at most the width.
 pub fn sqrt_in<T: Word>(a: &Interval<T>, frac: u32) -> Option<Interval<T>>
     requires { frac ≤ T.BITS }
     ensures ends { option_map (ends_of T.value) result ≡ fitting T.SIGNED T.BITS (root_ends (ends_of T.value a.now) frac) }
@@ -27,7 +27,7 @@ pub fn sqrt_in<T: Word>(a: &Interval<T>, frac: u32) -> Option<Interval<T>>
     between(sqrt_of(low, frac), ceiling_sqrt_of(high, frac))
 }
 
-/// The root of `a 2^frac`, rounded up, for `a` not below 0.
+/// Returns the outcome of the root of `a 2^frac`, rounded up. Precondition: `a` is at least 0.
 fn ceiling_sqrt_of<T: Word>(a: T, frac: u32) -> Outcome<T>
     requires frac { frac ≤ T.BITS }
     requires sign { pos 0 ≤ℤ T.value a }
@@ -41,7 +41,7 @@ fn ceiling_sqrt_of<T: Word>(a: T, frac: u32) -> Outcome<T>
     }
 }
 
-/// The root of `a 2^frac`, rounded down, for `a` not below 0.
+/// Returns the root of `a 2^frac`, rounded down. Precondition: `a` is at least 0.
 fn floor_root<T: Word>(a: T, frac: u32) -> u128
     requires frac { frac ≤ T.BITS }
     requires sign { pos 0 ≤ℤ T.value a }
@@ -53,7 +53,7 @@ fn floor_root<T: Word>(a: T, frac: u32) -> u128
     found.magnitude() as u128
 }
 
-/// `a 2^frac`, for `a` not below 0.
+/// Returns `a 2^frac`. Precondition: `a` is at least 0.
 fn scaled<T: Word>(a: T, frac: u32) -> u128
     requires frac { frac ≤ T.BITS }
     requires sign { pos 0 ≤ℤ T.value a }

@@ -27,7 +27,7 @@ use fixed_word::{Valued, Word};
 use std::alloc::{AllocError, Global};
 use std::marker::Model;
 
-/// The most registers of a run.
+/// A run has at most this many registers.
 const MOST_REGISTERS: u128 = 1_000_000;
 
 /// The registers of a run.
@@ -64,7 +64,7 @@ fn append_ends<T: Word>(output: &mut Output, interval: &Interval<T>) -> Result<(
     output.append(b"\n")
 }
 
-/// That many copies of an interval.
+/// Returns `count` copies of an interval.
 fn copies<T: Word>(
     alloc: Global,
     count: usize,
@@ -77,7 +77,7 @@ fn copies<T: Word>(
     Ok(all)
 }
 
-/// Registers from 0 to 0.
+/// Returns `count` registers from 0 to 0.
 fn zeros<T: Word>(alloc: Global, count: usize) -> Result<Vec<Interval<T>>, AllocError>
     ensures { IfOk result
         (λ registers. map (ends_of T.value) registers.items ≡ replicate count zero_ends) }
@@ -87,7 +87,7 @@ fn zeros<T: Word>(alloc: Global, count: usize) -> Result<Vec<Interval<T>>, Alloc
 }
 
 impl<T: Word> IntervalRun<T> {
-    /// The place of a register, if it is one of this run.
+    /// Returns the place of a register, or `None` if the run does not have it.
     fn place(&self, register: u128) -> Option<usize>
         ensures within { IfSome result (λ i. i < length self.now.registers) }
         ensures place { (n : ℕ) → register ≡ cap n
@@ -101,7 +101,7 @@ impl<T: Word> IntervalRun<T> {
         }
     }
 
-    /// Puts an interval into a register, and prints it; or prints that there is none.
+    /// Stores an interval in a register and prints it. If there is none, prints `none`.
     fn answer(
         &mut self,
         dest: usize,
@@ -127,7 +127,7 @@ impl<T: Word> IntervalRun<T> {
         }
     }
 
-    /// What an operation makes of two registers.
+    /// Returns the result of an operation on two registers.
     fn of_two(&self, op: Op, a: usize, b: usize) -> Option<Interval<T>>
         requires a { a < length self.now.registers }
         requires b { b < length self.now.registers }
@@ -143,7 +143,7 @@ impl<T: Word> IntervalRun<T> {
         }
     }
 
-    /// The root of a register.
+    /// Returns the root of a register.
     fn root(&self, a: usize) -> Option<Interval<T>>
         requires { a < length self.now.registers }
         ensures { option_map (ends_of T.value) result ≡ made_by_root self.now a }
@@ -152,7 +152,7 @@ impl<T: Word> IntervalRun<T> {
         sqrt_in(x, self.frac)
     }
 
-    /// The interval of two stated ends.
+    /// Returns the interval of two given ends.
     fn stated(&self, low: &Decimal, high: &Decimal) -> Option<Interval<T>>
         ensures { (l h : ℤ) → low.now ≡ decimal_of l → high.now ≡ decimal_of h
             → option_map (ends_of T.value) result ≡ set_ends self.now.signed self.now.bits l h }
@@ -163,7 +163,7 @@ impl<T: Word> IntervalRun<T> {
         Interval::new(low, high)
     }
 
-    /// Follows a request.
+    /// Carries out a request.
     fn follow(&mut self, dest: usize, request: Request, output: &mut Output) -> Result<(), Refusal>
         requires { dest < length self.old.registers }
         ensures { (q : IntervalRequest) → request ≡ capped_request q
@@ -209,7 +209,7 @@ impl<T: Word> Run for IntervalRun<T> {
     }
 }
 
-/// The fault of a script of intervals.
+/// Returns the fault of a script of intervals.
 fn fault_of(fault: RunFault) -> IntervalFault
     ensures { (ending : Ending) → EndsBy ending fault → IsAnswerOfInterval ending (Err result) }
 {
@@ -220,7 +220,7 @@ fn fault_of(fault: RunFault) -> IntervalFault
     }
 }
 
-/// The lines after the header, at a word.
+/// Runs the lines after the header, on one word.
 fn run_at<T: Word>(
     alloc: Global,
     frac: u128,
@@ -247,7 +247,7 @@ fn run_at<T: Word>(
     }
 }
 
-/// The lines after the header, with the word of that name.
+/// Runs the lines after the header, on the word that the header names.
 fn run_word(alloc: Global, header: Header, lines: &[u8]) -> Result<Output, IntervalFault>
     ensures { IsAnswerOfInterval (then_by 1
         (started (is_signed header.word) (width header.word) header.frac header.count)
@@ -266,13 +266,16 @@ fn run_word(alloc: Global, header: Header, lines: &[u8]) -> Result<Output, Inter
     }
 }
 
-/// What a script of intervals prints. Its first line is `interval W F R`, a word, a fraction and how many registers,
-/// each from 0 to 0 at first. Then `iD set LO HI` gives register D two ends in bits, and `iD add iA iB`, `iD sub iA iB`,
-/// `iD mul iA iB`, `iD div iA iB` and `iD sqrt iA` give it what the operation makes of registers, which are read
-/// first. A line prints the ends, or `none` where there are none that fit, and then the register stays. Otherwise
-/// the first cause, with the number of its piece: `Syntax` where the piece lacks the form, and `OutOfRange` where a
-/// number is out of range, also at no register or above 1,000,000 and at ends out of order. A
-/// report that memory ran out may come in place of either; then nothing is handed out.
+/// Runs a script of intervals and returns what it prints. Its first line is `interval W F R`: a word, a number of
+/// fraction bits, and a number of registers, which are from 0 to 0 at first. `iD set LO HI` stores two ends, in bits,
+/// in register D. `iD add iA iB`, `iD sub iA iB`, `iD mul iA iB`, `iD div iA iB` and `iD sqrt iA` store the result of
+/// the operation, whose operands are read first. Each line prints the ends that it stores. If an operation has no
+/// result, or an end of it does not fit, the line prints `none` and the register does not change.
+///
+/// The first faulty piece is reported by its number. `Syntax` means that the piece is malformed. `OutOfRange` means
+/// that the number of fraction bits exceeds the width, that the number of registers is not from 1 to 1,000,000, that a
+/// register is not one of these, or that given ends do not fit or are in the wrong order. Whatever the script is, the
+/// run may fail with `Memory`, if memory runs out, and then returns no bytes.
 pub fn interval_run(alloc: Global, script: &[u8]) -> Result<Output, IntervalFault>
     ensures { IsAnswerOfInterval (interval_output script.now) result }
 {

@@ -10,8 +10,7 @@ use crate::interval::{Interval, between};
 use fixed_kernel::{dist_of, neg_of};
 use fixed_word::{RawWord, Word};
 
-/// Returns the interval of the negatives of the numbers in `a`, with nothing to round, or None exactly if an end does
-/// not fit the word.
+/// Returns the interval of the negatives of the numbers in `a`, or `None` if an end does not fit. Nothing is rounded.
 pub fn neg_in<T: Word>(a: &Interval<T>) -> Option<Interval<T>>
     ensures ends { option_map (ends_of T.value) result ≡ fitting T.SIGNED T.BITS (negation_ends (ends_of T.value a.now)) }
     ensures holds { IfSome result (λ i. HoldsNegations (ends_of T.value a.now) (ends_of T.value i)) }
@@ -19,8 +18,7 @@ pub fn neg_in<T: Word>(a: &Interval<T>) -> Option<Interval<T>>
     between(neg_of(a.hi()), neg_of(a.lo()))
 }
 
-/// Returns the interval of the magnitudes of the numbers in `a`, with nothing to round, or None exactly if an end does
-/// not fit the word.
+/// Returns the interval of the magnitudes of the numbers in `a`, or `None` if an end does not fit. Nothing is rounded.
 pub fn abs_in<T: Word>(a: &Interval<T>) -> Option<Interval<T>>
     ensures ends { option_map (ends_of T.value) result ≡ fitting T.SIGNED T.BITS (magnitude_ends (ends_of T.value a.now)) }
     ensures holds { IfSome result (λ i. HoldsMagnitudes (ends_of T.value a.now) (ends_of T.value i)) }
@@ -47,7 +45,7 @@ pub(crate) fn nearest_to_zero<T: Word>(a: &Interval<T>) -> T
     }
 }
 
-/// Returns the end of `a` that is farther from 0, or the high one if both are as far.
+/// Returns the end of `a` that is farther from 0. If both are as far, it returns the high one.
 #[inline]
 pub(crate) fn farthest_from_zero<T: Word>(a: &Interval<T>) -> T
     ensures { exact_abs (T.value result) ≡ (magnitude_of (ends_of T.value a.now)).high }

@@ -11,8 +11,8 @@ use crate::signs::{farthest_from_zero, nearest_to_zero};
 use fixed_word::{Integer, Word, outcome_of_whole};
 
 /// Returns the interval of the squares of the numbers in `a`, each bits over `2^frac`: from the least square, rounded
-/// down, to the greatest, rounded up, or None exactly if an end does not fit the word. Precondition: `frac` is at most
-/// the width. The product of `a` with itself is wider if 0 lies inside.
+/// down, to the greatest, rounded up. Returns `None` if an end does not fit. If 0 is inside `a`, this is narrower than
+/// the product of `a` with itself. Precondition: `frac` is at most the width.
 pub fn square_in<T: Word>(a: &Interval<T>, frac: u32) -> Option<Interval<T>>
     requires { frac ≤ T.BITS }
     ensures ends { option_map (ends_of T.value) result ≡ fitting T.SIGNED T.BITS (square_ends (ends_of T.value a.now) frac) }

@@ -9,8 +9,8 @@ use crate::interval::{Interval, between};
 use fixed_kernel::{add_of, sub_of};
 use fixed_word::Word;
 
-/// The sums of a number in `a` and one in `b`, of one fraction: from the sum of the low ends to that of the high
-/// ones, with nothing to round. None exactly where an end does not fit the word.
+/// Returns the interval of the sums of a number in `a` and one in `b`, which have the same number of fraction bits:
+/// from the sum of the low ends to that of the high ones. Returns `None` if an end does not fit. Nothing is rounded.
 pub fn add_in<T: Word>(a: &Interval<T>, b: &Interval<T>) -> Option<Interval<T>>
     ensures ends { option_map (ends_of T.value) result ≡ fitting T.SIGNED T.BITS (sum_ends (ends_of T.value a.now) (ends_of T.value b.now)) }
     ensures holds { IfSome result (λ i. HoldsSums (ends_of T.value a.now) (ends_of T.value b.now) (ends_of T.value i)) }
@@ -18,9 +18,9 @@ pub fn add_in<T: Word>(a: &Interval<T>, b: &Interval<T>) -> Option<Interval<T>>
     between(add_of(a.lo(), b.lo()), add_of(a.hi(), b.hi()))
 }
 
-/// The differences of a number in `a` and one in `b`, of one fraction: from the low end of `a` less the high one of
-/// `b` to the high end of `a` less the low one of `b`, with nothing to round. None exactly where an end does not fit
-/// the word.
+/// Returns the interval of the differences of a number in `a` and one in `b`, which have the same number of fraction
+/// bits: from the low end of `a` minus the high end of `b` to the high end of `a` minus the low end of `b`. Returns
+/// `None` if an end does not fit. Nothing is rounded.
 pub fn sub_in<T: Word>(a: &Interval<T>, b: &Interval<T>) -> Option<Interval<T>>
     ensures ends { option_map (ends_of T.value) result ≡ fitting T.SIGNED T.BITS (difference_ends (ends_of T.value a.now) (ends_of T.value b.now)) }
     ensures holds { IfSome result (λ i. HoldsDifferences (ends_of T.value a.now) (ends_of T.value b.now) (ends_of T.value i)) }

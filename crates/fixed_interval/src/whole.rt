@@ -1,4 +1,4 @@
-//! Whole numbers of up to 128 bits and a sign, in which quotients are rounded to either side.
+//! Whole numbers of up to 128 bits and a sign, whose quotients are rounded up or down.
 
 ghost use Rattle.std.specs.Prelude.{◌≡◌, ◌+◌, ◌*◌, ◌^◌, ◌<◌, ◌≤◌, ◌↔◌, ◌≤ℤ◌, ◌*ℤ◌, IsTrue, neg_ℤ, pos};
 ghost use Rattle.std.specs.Int.{int_max, int_min};
@@ -8,14 +8,14 @@ ghost use Rattle.fixed_interval.specs.inside.WholeValue.{rounded_over, value_of}
 
 use fixed_word::{Outcome, Word, outcome_of};
 
-/// `magnitude`, or minus it where `below_zero`.
+/// The number `magnitude`, or minus it if `below_zero`.
 #[derive(Clone, Copy)]
 pub(crate) struct Whole {
     pub(crate) below_zero: bool,
     pub(crate) magnitude: u128,
 }
 
-/// How an end is rounded outward: the low one down, the high one up.
+/// How an end is rounded outward: the low one down, and the high one up.
 #[derive(Clone, Copy)]
 pub(crate) enum Outward {
     Down,
@@ -23,7 +23,7 @@ pub(crate) enum Outward {
 }
 
 impl Whole {
-    /// The number of a word.
+    /// Returns the number of a word.
     pub(crate) fn of<T: Word>(word: T) -> Whole
         ensures value { value_of result ≡ T.value word }
         ensures small { result.magnitude < 2 ^ 64 }
@@ -34,7 +34,7 @@ impl Whole {
         }
     }
 
-    /// The number with the other sign.
+    /// Returns the number with the other sign.
     fn negated(self) -> Whole
         ensures value { value_of result ≡ neg_ℤ (value_of self) }
         ensures size { result.magnitude ≡ self.magnitude }
@@ -45,7 +45,7 @@ impl Whole {
         }
     }
 
-    /// The number times `2^by`. Condition: that has at most 128 bits.
+    /// Returns the number times `2^by`. Preconditions: the result has at most 128 bits, and `by` is below 128.
     pub(crate) fn scaled(self, by: u32) -> Whole
         requires room { self.magnitude * 2 ^ by < 2 ^ 128 }
         requires shift { by < 128 }
@@ -57,7 +57,7 @@ impl Whole {
         }
     }
 
-    /// The quotient, rounded down.
+    /// Returns the quotient, rounded down. Precondition: the divisor is not 0.
     fn floor_over(self, divisor: Whole) -> Whole
         requires { 0 < divisor.magnitude }
         ensures { value_of result ≡ floor_over (value_of self) (value_of divisor) }
@@ -75,7 +75,7 @@ impl Whole {
         }
     }
 
-    /// The quotient, rounded up.
+    /// Returns the quotient, rounded up. Precondition: the divisor is not 0.
     fn ceiling_over(self, divisor: Whole) -> Whole
         requires { 0 < divisor.magnitude }
         ensures { value_of result ≡ ceiling_over (value_of self) (value_of divisor) }
@@ -83,7 +83,7 @@ impl Whole {
         self.negated().floor_over(divisor).negated()
     }
 
-    /// The quotient, rounded that way.
+    /// Returns the quotient, rounded in that direction. Precondition: the divisor is not 0.
     pub(crate) fn over(self, divisor: Whole, way: Outward) -> Whole
         requires { 0 < divisor.magnitude }
         ensures { value_of result ≡ rounded_over way (value_of self) (value_of divisor) }
@@ -94,7 +94,7 @@ impl Whole {
         }
     }
 
-    /// The outcome of the number in a word.
+    /// Returns the outcome of the number in a word.
     pub(crate) fn outcome<T: Word>(self) -> Outcome<T>
         ensures { StandsFor T.value T.SIGNED T.BITS (value_of self) result }
     {

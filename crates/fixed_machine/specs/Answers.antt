@@ -8,7 +8,7 @@ use Rattle.fixed_word.specs.Decimal.{whole_text}
 abbrev pub ended : List ℕ → List ℕ
 ended text = text ++ (10 ∷ [])
 
--- the decimal or `none`, a verdict where there is one, and a newline
+-- the decimal or `none`, a verdict if there is one, and a newline
 abbrev pub answer_text : Answer → List ℕ
 answer_text Absent = codes "none" ++ (10 ∷ [])
 answer_text (Bits n) = whole_text n ++ (10 ∷ [])

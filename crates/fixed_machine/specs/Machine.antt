@@ -19,7 +19,7 @@ use Rattle.fixed_machine.specs.declared.cause.Cause.{Cause}
 use Rattle.fixed_machine.specs.declared.cause.Cause.TheVariants.{Syntax, OutOfRange, FractionMismatch, ZeroDivisor, NegativeRoot, Overflow}
 
 -- ---- states
--- a register: its bits as a whole number, and its fraction
+-- a register: its bits as a whole number, and its number of fraction bits
 pub record Cell : Type 0 where
   pub bits : ℤ
   pub fraction : ℕ
@@ -28,7 +28,7 @@ pub record State : Type 0 where
   pub word : WordName
   pub registers : List Cell
 
--- an integer has no fraction
+-- an integer has no fraction bits
 abbrev pub integer : ℤ → Cell
 integer k = record { bits = k; fraction = 0 }
 
@@ -55,14 +55,14 @@ literals_of (SetTo dest k) = k ∷ []
 literals_of (Apply dest policy op (RegisterAndInt a k) rounding) = k ∷ []
 literals_of (Apply dest policy op xs rounding) = []
 
--- the operands that have to have the destination's fraction
+-- the operands that must have as many fraction bits as the destination
 abbrev pub tied : Operands → Op → List ℕ
 tied (ThreeRegisters c a b) AddProd = c ∷ []
 tied (ThreeRegisters a m c) op = a ∷ c ∷ []
 tied xs op = operand_registers xs
 
 -- ---- the row of a line
--- three operands, of which a line takes the first ones
+-- three operands, of which an operation takes the first ones
 pub record OperandValues : Type 0 where
   pub a : Cell
   pub b : Cell
@@ -74,7 +74,7 @@ operand_values cells (TwoRegisters a b) = record { a = cell_at cells a; b = cell
 operand_values cells (RegisterAndInt a k) = record { a = cell_at cells a; b = integer k; c = integer (pos 0) }
 operand_values cells (ThreeRegisters a b c) = record { a = cell_at cells a; b = cell_at cells b; c = cell_at cells c }
 
--- with the rounding that a line names, if it names one
+-- the same with the rounding that a line names, if it names one
 abbrev pub row_by : Option Rounding → Op → OperandValues → Option ℤ
 row_by rounding op t = exact op (rounding_of op rounding) t.a.bits t.b.bits t.c.bits t.a.fraction t.b.fraction t.c.fraction
 
@@ -93,7 +93,7 @@ unfoldable pub is_mismatched : State → ScriptLine → Bool
 is_mismatched s (SetTo dest k) = false
 is_mismatched s (Apply dest policy op xs rounding) = list_any (λ r. not ((cell_at s.registers r).fraction == (cell_at s.registers dest).fraction)) (tied xs op)
 
--- the cause of a row that is undefined, or that a strict policy does not answer
+-- the cause of a row that is undefined, or that does not fit under a strict policy
 unfoldable pub row_cause : Bool → ℕ → Policy → Option ℤ → Op → ℕ → Option Cause
 row_cause signed n Checked None op k = None
 row_cause signed n policy None Sqrt k = Some (NegativeRoot k)
@@ -101,12 +101,12 @@ row_cause signed n policy None op k = Some (ZeroDivisor k)
 row_cause signed n Strict (Some x) op k = if fits signed n x then None else Some (Overflow k)
 row_cause signed n policy (Some x) op k = None
 
--- the cause of a line whose first three tests fail
+-- the cause of a line, if its first three tests find none
 abbrev pub late_cause : State → ScriptLine → ℕ → Option Cause
 late_cause s (SetTo dest x) k = None
 late_cause s (Apply dest policy op xs rounding) k = row_cause (is_signed s.word) (width s.word) policy (row_by rounding op (operand_values s.registers xs)) op k
 
--- the first that holds
+-- the first of these causes
 abbrev pub cause : State → ScriptLine → ℕ → Option Cause
 cause s line k =
     if is_unoffered s.word line then Some (Syntax k)

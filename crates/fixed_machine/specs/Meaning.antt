@@ -1,4 +1,4 @@
--- What a script means: a fold over its pieces.
+-- The meaning of a script: a fold over its pieces.
 use Rattle.std.specs.Prelude.{ℕ, ◌+◌, nat_lt, Bool, pos, List, [], ◌∷◌, ◌++◌, map, Option, Some, None, if◌then◌else◌}
 use Rattle.std.specs.List.{list_any}
 use Rattle.std.specs.Option.{option_map_or}
@@ -29,7 +29,7 @@ after bytes r = record { state = r.state; output = bytes ++ r.output; fault = r.
 abbrev pub by_cause : Option Cause → State → List ℕ → Run → Run
 by_cause found s text rest = option_map_or (stopped (Some s)) found (after text rest)
 
--- one piece, and then what comes after its move
+-- one piece, and then what follows its move
 abbrev pub step_then : State → ℕ → Option ScriptLine → (State → Run) → Run
 step_then s k None next = stopped (Some s) (Syntax k)
 step_then s k (Some line) next = by_cause (cause s line k) s (answer_text (answer s line)) (next (move s line))
@@ -67,6 +67,6 @@ pub data Meaning : Type 0 where
   Output : (bytes : List ℕ) → Meaning
   Fault : (cause : Cause) → Meaning
 
--- the first cause, or all answers where there is none
+-- the first cause, or all answers if there is none
 abbrev pub meaning : List ℕ → Meaning
 meaning script = option_map_or Fault (run_of script).fault (Output (run_of script).output)

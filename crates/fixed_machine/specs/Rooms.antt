@@ -1,4 +1,4 @@
--- What a room holds, how much it has room for, and what a run in it says.
+-- What a room holds, for how much it has room, and what a run in it returns.
 use Rattle.std.specs.Prelude.{◌≡◌, ℕ, ◌==◌, ◌≤◌, ◌*◌, List, [], ◌∷◌, length, Option, Some, None, Result, Ok, Err, ⊤}
 use Rattle.std.specs.List.{All, count_by}
 use Rattle.fixed_text.specs.declared.names.WordName.{WordName}
@@ -77,12 +77,12 @@ pub record Holds (run : Run) (room : Space) : Type 0 where
   pub its_answers : room.answers ≡ run.output
   pub its_state : HoldsState run.state room
 
--- Ok exactly where the run has no fault, and the first cause exactly where it has one
+-- Ok exactly if the run has no fault, and otherwise the first cause
 abbrev pub IsAnswerOfRun : Run → Result (Unit {0}) Cause → Space → Type 0
 IsAnswerOfRun run (Ok _) room = (run.fault ≡ None) × Holds run room
 IsAnswerOfRun run (Err c) room = (run.fault ≡ Some c) × Holds run room
 
--- what a run says of the meaning
+-- what a run returns, by the meaning
 abbrev pub IsAnswerOfMeaning : Meaning → Result (List ℕ) RunFault → Type 0
 IsAnswerOfMeaning m (Ok bytes) = m ≡ Output bytes
 IsAnswerOfMeaning m (Err (Script cause)) = m ≡ Fault cause

@@ -12,13 +12,13 @@ use Rattle.fixed_kernel.specs.RoundedRows.{rounded_mul, rounded_div, rounded_rec
 use Rattle.fixed_kernel.specs.Root.{root_of}
 use Rattle.fixed_kernel.specs.Rows.{by_divisor, by_sign, exact_abs, exact_div_euclid, exact_next_multiple_of, exact_next_power_of_two, exact_rem, exact_signum, units}
 
--- the rounding of a line: the one that it names, or else the operation's own; the other operations look at none
+-- the rounding of a line: the one that it names, or else the operation's own; other operations use none
 abbrev pub rounding_of : Op → Option Rounding → Rounding
 rounding_of op named = unwrap_or (option_or named (default_rounding op)) Down
 
--- The exact number of units of the result, or nothing where the row is undefined.
--- The operands stand in the order of the text, f, g, h are their fractions, and r is the rounding; an operation looks at
--- its own alone.
+-- The exact number of units of the result, or nothing if the row is undefined.
+-- The operands are in the order of the text, f, g, h are their fractions, and r is the rounding. An operation uses only
+-- its own.
 unfoldable pub exact : Op → Rounding → ℤ → ℤ → ℤ → ℕ → ℕ → ℕ → Option ℤ
 exact Neg _ a _ _ _ _ _ = Some (neg_ℤ a)
 exact Add _ a b _ _ _ _ = Some (a +ℤ b)

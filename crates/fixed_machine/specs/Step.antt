@@ -1,4 +1,4 @@
--- What a step says.
+-- What a step returns.
 use Rattle.std.specs.Prelude.{◌≡◌, ◌≤◌, ℕ, Bool, List, map, Option, Some, None, Result, Ok, Err, IsTrue}
 use Rattle.fixed_text.specs.declared.names.WordName.{WordName}
 use Rattle.fixed_machine.specs.declared.answer.Answer.{Answer}
@@ -28,7 +28,7 @@ pub record FitsFormat (signed : Bool) (n : ℕ) (cell : Cell) : Type 0 where
 abbrev pub IsCell : WordName → Cell → Type 0
 IsCell word cell = FitsFormat (is_signed word) (width word) cell
 
--- the answer of the move and its registers, or the line's cause and the registers as they were
+-- the answer of the move and its registers, or the line's cause and the unchanged registers
 abbrev pub IsStepOfLine : State → Option ScriptLine → ℕ → Result Answer Cause → List Cell → Type 0
 IsStepOfLine s None k (Ok a) cells = ⊥
 IsStepOfLine s None k (Err c) cells = (c ≡ Syntax k) × (cells ≡ s.registers)

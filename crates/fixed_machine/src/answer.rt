@@ -1,4 +1,4 @@
-//! The text of an answer, put at the end of a buffer with room.
+//! The text of an answer, written at the end of a buffer with room.
 
 ghost use Rattle.std.specs.Prelude.{◌≡◌, ◌+◌, ◌++◌, ◌≤◌, pos, drop, length, take, vec_len};
 ghost use Rattle.std.specs.Vec.{vec_capacity};
@@ -9,8 +9,8 @@ ghost use Rattle.fixed_machine.specs.inside.Signed.{signed_text};
 use fixed_digits::decimal_before;
 use fixed_text::{push_all, push_whole};
 
-/// The answer of a line: no value, the destination's bits, or its bits with the verdict of the
-/// overflowing policy, which is true where the number does not fit.
+/// The answer of a line: no value, the destination's bits, or its bits and the verdict of the overflowing policy, which
+/// is true if the exact result does not fit.
 #[derive(Clone, Copy, Debug, PartialEq, Eq)]
 pub enum Answer {
     Absent,
@@ -18,13 +18,13 @@ pub enum Answer {
     Flagged(i128, bool),
 }
 
-/// How many bytes are written for an answer at once; what is past its text is taken off again.
+/// How many bytes are written for an answer at once. Those after its text are removed again.
 pub(crate) const SPARE: usize = 32;
 
 /// Where the digits of a number end in its text.
 const DIGITS_END: usize = 24;
 
-/// The sign and the magnitude of a number.
+/// Returns the sign and the magnitude of a number.
 #[inline(always)]
 fn sign_and_magnitude(n: i128) -> (bool, u128)
     ensures { whole_text n ≡ signed_text result.0 result.1 }
@@ -36,7 +36,7 @@ fn sign_and_magnitude(n: i128) -> (bool, u128)
     }
 }
 
-/// Puts a number before what follows it, and answers where it begins.
+/// Writes a number before what follows it, and returns where it begins.
 #[inline(always)]
 fn put_signed(below_zero: bool, magnitude: u64, text: &mut [u8; 56]) -> usize
     ensures start { result + length (signed_text below_zero magnitude) ≡ 24 }
@@ -53,7 +53,7 @@ fn put_signed(below_zero: bool, magnitude: u64, text: &mut [u8; 56]) -> usize
     }
 }
 
-/// Adds the front of a text: all of it is copied, and the rest taken off.
+/// Adds the front of a text: all of the text is copied, and the rest removed.
 #[inline(always)]
 fn push_front(out: &mut Vec<u8>, text: &[u8], count: usize)
     requires count { count ≤ length text.now }
@@ -67,7 +67,7 @@ fn push_front(out: &mut Vec<u8>, text: &[u8], count: usize)
     out.truncate(end);
 }
 
-/// Puts what follows a number at its place.
+/// Writes what follows a number at its place.
 #[inline(always)]
 fn put_tail(tail: &[u8; 8], text: &mut [u8; 56])
     ensures { drop 24 text.new ≡ tail.now ++ drop 32 text.old }
@@ -75,7 +75,7 @@ fn put_tail(tail: &[u8; 8], text: &mut [u8; 56])
     text[DIGITS_END..DIGITS_END + 8].copy_from_slice(tail);
 }
 
-/// Adds a number of 64 bits and a sign, and so many bytes of what stands behind it in its text.
+/// Adds a number of 64 bits and a sign, and `count` bytes of what follows it in the text.
 #[inline(always)]
 fn push_before(
     out: &mut Vec<u8>,
@@ -96,7 +96,7 @@ fn push_before(
     push_front(out, &text[start..start + SPARE], DIGITS_END - start + count);
 }
 
-/// Adds a number of 64 bits and a sign, and so many bytes of what follows it.
+/// Adds a number of 64 bits and a sign, and the first `count` bytes of `tail`.
 #[inline(always)]
 fn push_number(
     out: &mut Vec<u8>,
@@ -118,7 +118,7 @@ fn push_number(
     push_before(out, text, below_zero, magnitude, count);
 }
 
-/// Adds a number and so many bytes of what follows it.
+/// Adds a number and the first `count` bytes of `tail`.
 #[inline(always)]
 fn push_with(out: &mut Vec<u8>, text: &mut [u8; 56], n: i128, tail: &[u8; 8], count: usize)
     requires count { count ≤ 8 }
@@ -137,7 +137,7 @@ fn push_with(out: &mut Vec<u8>, text: &mut [u8; 56], n: i128, tail: &[u8; 8], co
     }
 }
 
-/// Adds the text of an answer. Its number is written in room that is lent.
+/// Adds the text of an answer. `text` is scratch space for its number.
 #[inline(always)]
 pub(crate) fn push_answer(out: &mut Vec<u8>, text: &mut [u8; 56], answer: Answer)
     requires { vec_len out.old + length (answer_text answer) + 32 ≤ vec_capacity out.old }

@@ -1,4 +1,4 @@
-//! A buffer whose room is asked for once, so that adding to it takes no memory.
+//! A buffer that allocates its room once, so that adding to it does not allocate.
 
 ghost use Rattle.std.specs.Prelude.{◌≡◌, ◌+◌, ◌++◌, ◌≤◌, [], length, IfOk};
 ghost use Rattle.fixed_machine.specs.inside.Buffers.{Buffered};
@@ -8,8 +8,7 @@ use crate::answer::{Answer, SPARE, push_answer};
 use std::alloc::{AllocError, Global};
 use std::marker::Model;
 
-/// Bytes, with room for a fixed number of them, and spare room behind it; and room in which the number of an
-/// answer is written.
+/// Bytes, with room for a fixed number of them and spare room after it, and scratch space for the number of an answer.
 #[derive(Drop)]
 pub(crate) struct Buffer {
     held: Vec<u8>,
@@ -30,7 +29,7 @@ impl Model for Buffer {
 }
 
 impl Buffer {
-    /// Empty, with room for so many bytes.
+    /// Returns an empty buffer with room for `room` bytes. Fails if memory runs out.
     pub(crate) fn with_room(alloc: Global, room: usize) -> Result<Self, AllocError>
         ensures { IfOk result (λ b. b ≡ record { bytes = []; room = room }) }
     {
@@ -44,14 +43,14 @@ impl Buffer {
         }
     }
 
-    /// For how many bytes there is room.
+    /// Returns for how many bytes there is room.
     pub(crate) fn room(&self) -> usize
         ensures { result ≡ self.now.room }
     {
         self.most
     }
 
-    /// The bytes.
+    /// Returns the bytes.
     pub(crate) fn bytes(&self) -> &[u8]
         ensures { result.now ≡ self.now.bytes }
     {
@@ -65,14 +64,14 @@ impl Buffer {
         self.held
     }
 
-    /// Takes all bytes out; the room stays.
+    /// Removes all bytes. The room stays.
     pub(crate) fn reset(&mut self)
         ensures { self.new ≡ record { bytes = []; room = self.old.room } }
     {
         self.held.clear();
     }
 
-    /// Adds the text of an answer, for which there is room.
+    /// Adds the text of an answer. Precondition: there is room for it.
     #[inline(always)]
     pub(crate) fn push_text(&mut self, answer: Answer)
         requires { length self.old.bytes + length (answer_text answer) ≤ self.old.room }

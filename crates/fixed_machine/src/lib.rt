@@ -1,7 +1,8 @@
-//! The register machine: each line of a script takes the exact number of its operation and projects it by its policy.
+//! The register machine. Each line of a script takes the exact result of its operation, and its policy makes the answer
+//! of it.
 //!
-//! [`run`] runs a script in memory, [`run_in`] runs it in a [`Room`] that was made for it, without asking for memory,
-//! and [`step`] runs one line. All of this is this project's own.
+//! [`run`] runs a script in memory, [`run_in`] runs it in a [`Room`] that was made for it, without allocation, and
+//! [`step`] runs one line. The Rust crate `fixed` does not have these items.
 #![tactic(auto)]
 
 mod answer;

@@ -12,7 +12,7 @@ use crate::stepping::step_registers;
 use fixed_script::line_of_piece;
 use fixed_text::WordName;
 
-/// One piece over the registers.
+/// Runs one piece on the registers. Returns its answer, or its cause, which leaves the registers unchanged.
 pub(crate) fn read_and_step(
     word: WordName,
     registers: &mut [Register],

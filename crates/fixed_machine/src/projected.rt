@@ -1,4 +1,4 @@
-//! What a policy makes of a row.
+//! The result of a policy for a row.
 
 ghost use Rattle.std.specs.Prelude.{◌≡◌, ◌≤◌, ◌<◌, ◌^◌, ℕ, ℤ, Bool, Option, Some, None, true, false, unsigned_abs, IsTrue};
 ghost use Rattle.fixed_script.specs.declared.names.Op.{Op as Operation};
@@ -21,7 +21,7 @@ use fixed_word::{
     wrapping_of,
 };
 
-/// The number of a word.
+/// Returns the number of a word.
 #[inline(always)]
 fn number_of<T: RawWord>(word: T) -> i128
     ensures { result ≡ T.value word }
@@ -34,7 +34,7 @@ fn number_of<T: RawWord>(word: T) -> i128
     }
 }
 
-/// The word of a register.
+/// Returns the word of a register.
 #[inline(always)]
 fn word_held<T: Word>(register: Register) -> T
     requires { IsTrue (fits T.SIGNED T.BITS (cell_of register).bits) }
@@ -43,7 +43,7 @@ fn word_held<T: Word>(register: Register) -> T
     T::residue(register.below_zero, register.magnitude as u128)
 }
 
-/// The operand that a register holds.
+/// Returns the operand that a register holds.
 #[inline(always)]
 fn operand_of<T: Word>(register: Register) -> Operand<T>
     requires { IsTrue (fits T.SIGNED T.BITS (cell_of register).bits) }
@@ -56,7 +56,7 @@ fn operand_of<T: Word>(register: Register) -> Operand<T>
     }
 }
 
-/// What the policy makes of the number that an outcome stands for.
+/// Returns the policy's answer for the number of an outcome, or its cause.
 #[tactic(auto, unfolding(crate::specs::Machine::row_cause))]
 #[inline(always)]
 fn answered<T: Word>(policy: Policy, outcome: Outcome<T>, number: u64) -> Result<Answer, Cause>
@@ -81,7 +81,7 @@ fn answered<T: Word>(policy: Policy, outcome: Outcome<T>, number: u64) -> Result
     }
 }
 
-/// What the policy makes of a row that is undefined.
+/// Returns the policy's answer for a row that is undefined, or its cause.
 #[tactic(auto, unfolding(crate::specs::Machine::row_cause))]
 #[inline(always)]
 fn unanswered(policy: Policy, op: Op, number: u64) -> Result<Answer, Cause>
@@ -97,7 +97,7 @@ fn unanswered(policy: Policy, op: Op, number: u64) -> Result<Answer, Cause>
     }
 }
 
-/// The answer of an operation on registers of a word, or its cause.
+/// Returns the answer of an operation on registers of a word, or its cause.
 #[inline(always)]
 #[tactic(auto, unfolding(crate::specs::Machine::row_cause))]
 pub(crate) fn answer_as<T: Word>(
@@ -122,7 +122,7 @@ pub(crate) fn answer_as<T: Word>(
     }
 }
 
-/// The same in the word of a name.
+/// Does the same on the word with this name.
 #[inline(never)]
 pub(crate) fn answer_in_word(
     word: WordName,

@@ -1,7 +1,6 @@
-//! A quick reading of a line of the common form, in one pass over the bytes from its start on. It
-//! answers only where registers have one or two digits and numbers at most nineteen, and where at
-//! least as many bytes are left as the longest such line may have. Any other line is left to the
-//! general reading.
+//! The fast path that reads a line of the common form, in one pass over the bytes from its start on. It returns a line
+//! only if registers have one or two digits and numbers at most nineteen, and if at least as many bytes remain as the
+//! longest such line may have. The general path reads any other line.
 
 ghost use Rattle.std.specs.Prelude.{◌≡◌, ◌≤◌, ◌<◌, ◌+◌, drop, take, length, true, IfSome};
 ghost use Rattle.std.specs.List.{list_all};
@@ -15,7 +14,7 @@ ghost use Rattle.fixed_machine.specs.inside.Quick.{Stands, HasOperands, IsQuickL
 use crate::quick_names::{is_text, op_at, policy_at};
 use fixed_script::{Op, Policy, Shape, shape_of};
 
-/// The longest line that is read quickly, newline included; so many bytes have to be left.
+/// The length of the longest line that the fast path reads, including its newline. At least so many bytes must remain.
 pub(crate) const LONGEST: usize = 64;
 
 /// A policy and an operation.
@@ -25,11 +24,11 @@ pub(crate) struct Applied {
     pub op: Op,
 }
 
-/// A line that was read quickly. Of registers that its operation does not take, it names its first
-/// one again; of a number that it does not take, it says 0.
+/// A line that the fast path read. Registers that its operation does not take are its destination again, and a number
+/// that it does not take is 0.
 #[derive(Clone, Copy)]
 pub(crate) struct QuickLine {
-    /// None of a line that sets a register.
+    /// This is `None` if the line sets a register.
     pub applied: Option<Applied>,
     pub dest: usize,
     pub a: usize,
@@ -39,7 +38,8 @@ pub(crate) struct QuickLine {
     pub magnitude: u64,
 }
 
-/// The register of two digits that stands at a place.
+/// Returns the register of two digits at a place, if it is one of the first `count` and the separator follows it, and
+/// where the bytes after that begin.
 #[inline(always)]
 fn long_register_before(bytes: &[u8], at: usize, separator: u8, count: u8) -> Option<(usize, usize)>
     requires { at + 4 ≤ length bytes.now }
@@ -61,8 +61,8 @@ fn long_register_before(bytes: &[u8], at: usize, separator: u8, count: u8) -> Op
     }
 }
 
-/// The register of one or two digits that stands at a place, if it is one of the first so many and
-/// the separator stands behind it, and where what comes after that begins.
+/// Returns the register of one or two digits at a place, if it is one of the first `count` and the separator follows
+/// it, and where the bytes after that begin.
 #[inline(always)]
 fn register_before(bytes: &[u8], at: usize, separator: u8, count: u8) -> Option<(usize, usize)>
     requires { at + 4 ≤ length bytes.now }
@@ -80,7 +80,7 @@ fn register_before(bytes: &[u8], at: usize, separator: u8, count: u8) -> Option<
     }
 }
 
-/// The digits that stand at a place, at most nineteen, as a number, and how many they are.
+/// Returns the number that the digits at a place write, at most nineteen, and how many they are.
 #[inline(always)]
 fn digits_at(bytes: &[u8], at: usize) -> (u64, usize)
     requires { at + 19 ≤ length bytes.now }
@@ -88,7 +88,7 @@ fn digits_at(bytes: &[u8], at: usize) -> (u64, usize)
     ensures digits { list_all is_ascii_digit (take result.1 (drop at bytes.now)) ≡ true }
     ensures value { result.0 ≡ digits_value 10 (take result.1 (drop at bytes.now)) }
 {
-    // A slice of that length, so that no index in the loop is tested.
+    // The slice has that length, so that no index in the loop is tested.
     let digits = &bytes[at..at + 19];
     let mut value = 0;
     let mut count = 0;
@@ -99,8 +99,7 @@ fn digits_at(bytes: &[u8], at: usize) -> (u64, usize)
     (value, count)
 }
 
-/// The natural number of at most nineteen digits that stands at a place before a newline, and where
-/// the next line begins.
+/// Returns the natural number of at most nineteen digits at a place before a newline, and where the next line begins.
 #[inline(always)]
 fn natural_at(bytes: &[u8], at: usize) -> Option<(u64, usize)>
     requires { at + 20 ≤ length bytes.now }
@@ -113,7 +112,8 @@ fn natural_at(bytes: &[u8], at: usize) -> Option<(u64, usize)>
     Some((value, at + count + 1))
 }
 
-/// The same of a whole number: whether it is below 0, and its magnitude. No minus stands before 0.
+/// Does the same for a whole number: returns whether it is below 0, its magnitude, and where the next line begins. No
+/// minus precedes 0.
 #[inline(always)]
 fn literal_at(bytes: &[u8], at: usize) -> Option<(bool, u64, usize)>
     requires { at + 21 ≤ length bytes.now }
@@ -129,7 +129,7 @@ fn literal_at(bytes: &[u8], at: usize) -> Option<(bool, u64, usize)>
     Some((below_zero, magnitude, end))
 }
 
-/// The line with the operands that stand at a place, and where the next line begins.
+/// Returns the line with the operands at a place, and where the next line begins.
 #[inline(always)]
 fn operands_at(
     bytes: &[u8],
@@ -173,7 +173,7 @@ fn operands_at(
     }
 }
 
-/// The line in front, and where the next one begins.
+/// Returns the first line, and where the next one begins. `None` decides nothing: the general path reads the line.
 #[inline(always)]
 pub(crate) fn quick_line(bytes: &[u8], count: u8) -> Option<(QuickLine, usize)>
     requires room { 64 ≤ length bytes.now }

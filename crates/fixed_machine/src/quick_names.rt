@@ -1,4 +1,4 @@
-//! The names of policies and operations, read quickly: four or eight of their bytes are compared at once.
+//! The fast path that reads the names of policies and operations: it compares four or eight bytes at once.
 
 ghost use Rattle.std.specs.Prelude.{◌≡◌, ◌≤◌, ◌+◌, ◌++◌, drop, length, take, true, IfSome};
 ghost use Rattle.fixed_script.specs.Names.{policy_name, op_name};
@@ -6,7 +6,7 @@ ghost use Rattle.fixed_machine.specs.inside.Quick.{Stands};
 
 use fixed_script::{Op, Policy};
 
-/// Whether four bytes of a text, from a place of it on, stand at the same place behind `at`. They are compared as one
+/// Returns whether four bytes of a text, from `from` on, are at the same place after `at`. They are compared as one
 /// number.
 #[inline]
 fn is_four(bytes: &[u8], at: usize, text: &[u8], from: usize) -> bool
@@ -21,7 +21,7 @@ fn is_four(bytes: &[u8], at: usize, text: &[u8], from: usize) -> bool
     u32::from_le_bytes(found) == u32::from_le_bytes(wanted)
 }
 
-/// The same of eight bytes.
+/// Does the same for eight bytes.
 #[inline]
 fn is_eight(bytes: &[u8], at: usize, text: &[u8], from: usize) -> bool
     requires bytes { at + from + 8 ≤ length bytes.now }
@@ -35,7 +35,7 @@ fn is_eight(bytes: &[u8], at: usize, text: &[u8], from: usize) -> bool
     u64::from_le_bytes(found) == u64::from_le_bytes(wanted)
 }
 
-/// Whether a text of 4 to 24 bytes stands at a place. Four or eight bytes are compared at once.
+/// Returns whether a text of 4 to 24 bytes is at a place. Four or eight bytes are compared at once.
 #[inline]
 pub(crate) fn is_text<const N: usize>(bytes: &[u8], at: usize, text: &[u8; N]) -> bool
     requires least { 4 ≤ N }
@@ -54,7 +54,7 @@ pub(crate) fn is_text<const N: usize>(bytes: &[u8], at: usize, text: &[u8; N]) -
     }
 }
 
-/// The policy that stands at a place, and where what comes after its space begins.
+/// Returns the policy at a place, and where the bytes after its space begin.
 #[inline(always)]
 pub(crate) fn policy_at(bytes: &[u8], at: usize) -> Option<(Policy, usize)>
     requires { at + 12 ≤ length bytes.now }
@@ -76,7 +76,7 @@ pub(crate) fn policy_at(bytes: &[u8], at: usize) -> Option<(Policy, usize)>
     }
 }
 
-/// The operation that stands at a place, if its name has three letters.
+/// Returns the operation at a place, if its name has three letters, and where the bytes after its space begin.
 #[inline(always)]
 fn short_op_at(bytes: &[u8], at: usize) -> Option<(Op, usize)>
     requires { at + 18 ≤ length bytes.now }
@@ -101,7 +101,8 @@ fn short_op_at(bytes: &[u8], at: usize) -> Option<(Op, usize)>
     }
 }
 
-/// The same, if its name has more.
+/// Returns the operation at a place, if its name has more than three letters, and where the bytes after its space
+/// begin.
 #[inline(always)]
 fn long_op_at(bytes: &[u8], at: usize) -> Option<(Op, usize)>
     requires { at + 18 ≤ length bytes.now }
@@ -142,7 +143,7 @@ fn long_op_at(bytes: &[u8], at: usize) -> Option<(Op, usize)>
     }
 }
 
-/// The operation that stands at a place, and where what comes after its space begins.
+/// Returns the operation at a place, and where the bytes after its space begin.
 #[inline(always)]
 pub(crate) fn op_at(bytes: &[u8], at: usize) -> Option<(Op, usize)>
     requires { at + 18 ≤ length bytes.now }

@@ -1,5 +1,5 @@
-//! A line that was read quickly, over the registers. It answers only where the line has no cause; for any
-//! other the general step follows, which names the cause.
+//! A line that the fast path read, run on the registers. It returns an answer only if the line has no cause. For any
+//! other line, the general step follows, which names the cause.
 
 ghost use Rattle.std.specs.Prelude.{◌≡◌, ◌<◌, ◌≤◌, length, Some, None, Ok, IfSome, true, false};
 ghost use Rattle.std.specs.List.{All};
@@ -22,7 +22,7 @@ use fixed_script::{Op, Shape, shape_of};
 use fixed_text::WordName;
 use fixed_word::{Side, Word, outcome_of};
 
-/// Whether the number of the line is a value of the word.
+/// Returns whether the number of the line is a value of the word.
 #[inline(always)]
 fn is_number<T: Word>(line: QuickLine) -> bool
     ensures { result ≡ fits T.SIGNED T.BITS (quick_number line) }
@@ -30,7 +30,7 @@ fn is_number<T: Word>(line: QuickLine) -> bool
     outcome_of::<T>(line.below_zero, u128::from(line.magnitude)).side == Side::Fits
 }
 
-/// Whether the operands have the fractions that the operation asks for.
+/// Returns whether the operands have the numbers of fraction bits that the operation requires.
 #[inline(always)]
 #[tactic(auto, unfolding(crate::specs::Machine::is_mismatched))]
 fn is_matched(word: WordName, registers: &[Register], line: QuickLine, applied: Applied) -> bool
@@ -50,7 +50,7 @@ fn is_matched(word: WordName, registers: &[Register], line: QuickLine, applied: 
         }
 }
 
-/// The second operand: a register, or the number of the line, if it is a value of the word.
+/// Returns the second operand: a register, or the number of the line, if it is a value of the word.
 #[inline(always)]
 fn second_of<T: Word>(registers: &[Register], line: QuickLine, op: Op) -> Option<Register>
     requires b { line.b < length registers.now }
@@ -73,7 +73,7 @@ fn second_of<T: Word>(registers: &[Register], line: QuickLine, op: Op) -> Option
     }
 }
 
-/// The answer of a line that applies an operation; None where it has a cause.
+/// Returns the answer of a line that applies an operation. `None` decides nothing: the line may have a cause.
 #[inline(always)]
 fn answer_of_applied<T: Word>(
     word: WordName,
@@ -113,7 +113,7 @@ fn answer_of_applied<T: Word>(
     Some(answer)
 }
 
-/// The answer of a line; None where it has a cause.
+/// Returns the answer of a line. `None` decides nothing: the line may have a cause.
 #[inline(always)]
 fn quick_answer<T: Word>(
     word: WordName,
@@ -143,7 +143,8 @@ fn quick_answer<T: Word>(
     }
 }
 
-/// One line over the registers; None where it has a cause. It asks for the word by its name and its type.
+/// Runs one line on the registers and returns its answer. If it returns `None`, the line may have a cause, and the
+/// registers have not changed. The word is given by its name and by its type.
 #[inline(always)]
 pub(crate) fn quick_step<T: Word>(
     word: WordName,

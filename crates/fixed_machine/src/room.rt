@@ -1,4 +1,4 @@
-//! Where a script runs: its registers and its answers, with room that is made once.
+//! The registers and the answers of a script, with room that is allocated once.
 
 ghost use Rattle.std.specs.Prelude.{◌≡◌, ◌≤◌, ◌<◌, ◌*◌, ◌+◌, ◌++◌, [], length, vec_len, vec_capacity, IfOk, IfErr, OnOk, IsSome, IfSome, IsTrue, ◌↔◌, Some, None, Ok, true, false};
 ghost use Rattle.fixed_machine.specs.Answers.{answer_text};
@@ -34,7 +34,7 @@ fn width(word: WordName) -> u128
     }
 }
 
-/// Whether a fraction exceeds the width.
+/// Returns whether a number of fraction bits exceeds the width.
 fn has_wide(header: &Header<'_>) -> bool
     ensures { result ≡ is_wide header.now.word header.now.fractions }
 {
@@ -48,7 +48,7 @@ fn has_wide(header: &Header<'_>) -> bool
     false
 }
 
-/// A register of bits 0 for each fraction.
+/// Adds a register with bits 0 for each number of fraction bits.
 fn push_fractions(registers: &mut Vec<Register>, header: &Header<'_>)
     requires room { vec_len registers.old + length header.now.fractions
         ≤ vec_capacity registers.old }
@@ -67,9 +67,8 @@ fn push_fractions(registers: &mut Vec<Register>, header: &Header<'_>)
     }
 }
 
-/// Where a script runs: the word of its header, its registers and the bytes of its answers, with room that
-/// was made for it. Contracts see it as a `Space`: what it holds, and for how many
-/// registers and answer bytes there is room.
+/// The word of a script's header, its registers and the bytes of its answers, with room that was made for the script.
+/// Contracts see it as a `Space`: these three, and for how many registers and answer bytes there is room.
 #[derive(Drop)]
 pub struct Room {
     word: Option<WordName>,
@@ -90,7 +89,7 @@ impl Model for Room {
     ghost invariant = { λ r. IsRoom r.word (cells_of r.registers.items) × (r.most ≤ vec_capacity r.registers) };
 }
 
-/// The bytes of all answers, one a line. Contracts see it as a list of bytes.
+/// The bytes of all answers, each of which is one line. Contracts see them as a list of bytes.
 #[derive(Drop)]
 pub struct Answers {
     bytes: Vec<u8>,
@@ -105,21 +104,21 @@ impl Model for Answers {
 }
 
 impl Answers {
-    /// Answers of these bytes. It takes no memory.
+    /// Returns answers with these bytes. This does not allocate.
     pub fn new(bytes: Vec<u8>) -> Answers
         ensures { result ≡ bytes.items }
     {
         Answers { bytes }
     }
 
-    /// The bytes.
+    /// Returns the bytes.
     pub fn as_bytes(&self) -> &[u8]
         ensures { result.now ≡ self.now }
     {
         &self.bytes
     }
 
-    /// Turns the answers into their bytes. It takes no memory.
+    /// Turns the answers into their bytes. This does not allocate.
     pub fn into_bytes(self) -> Vec<u8>
         ensures { result.items ≡ self }
     {
@@ -134,8 +133,8 @@ impl Room {
     ghost use Rattle.fixed_machine.specs.Rooms.{IsEmptySpace, IsStarted, KeepsTheRest, KeepsRoom, Suffices, spaces};
     ghost use Rattle.fixed_machine.specs.Step.{IsStepOfLine, state_in};
 
-    /// A room without a header, registers and answers, for as many registers as the script's first piece has
-    /// spaces and for twice the script's length of answer bytes. AllocError says that memory ran out.
+    /// Returns a room without a header, registers and answers. It has room for as many registers as the script's first
+    /// piece has spaces, and for twice as many answer bytes as the script has bytes. Fails if memory runs out.
     pub fn for_script(alloc: Global, script: &[u8]) -> Result<Room, AllocError>
         ensures { IfOk result
             (λ room. IsEmptySpace (spaces script.now) (2 * length script.now) room) }
@@ -149,7 +148,7 @@ impl Room {
         })
     }
 
-    /// Whether the room is for at least as many registers and answer bytes as `for_script` makes room for.
+    /// Returns whether the room is at least as large as the one that `for_script` returns.
     pub fn suffices(&self, script: &[u8]) -> bool
         ensures { IsTrue result ↔ Suffices script.now self.now }
     {
@@ -164,9 +163,9 @@ impl Room {
         self.answers.reset();
     }
 
-    /// Declares the registers of a header, with bits 0, and no answers. Condition: there is room for its
-    /// fractions. `OutOfRange(1)` exactly where a fraction exceeds the width; then there is no header, no
-    /// register and no answer.
+    /// Declares the registers of a header, with bits 0, and removes all answers. Fails with `OutOfRange(1)` if a number
+    /// of fraction bits exceeds the width; the room then has no header, registers and answers. Precondition: there is
+    /// room for the header's registers.
     pub fn declare(&mut self, header: &Header<'_>) -> Result<(), Cause>
         requires { length header.now.fractions ≤ self.old.register_room }
         ensures ok { OnOk result ((is_wide header.now.word header.now.fractions ≡ false)
@@ -207,8 +206,8 @@ impl Room {
         read_and_step(word, &mut self.registers, piece, number)
     }
 
-    /// Runs a line that was read quickly; None where it has a cause. It asks for the word by its name and
-    /// its type.
+    /// Runs a line that the fast path read and returns its answer. If it returns `None`, the line may have a cause, and
+    /// the registers have not changed. The word is given by its name and by its type.
     #[inline(always)]
     pub(crate) fn step_quick_line<T: Word>(
         &mut self,
@@ -232,7 +231,7 @@ impl Room {
         quick_step::<T>(word, &mut self.registers, line, number)
     }
 
-    /// Adds the text of an answer, for which there is room.
+    /// Adds the text of an answer. Precondition: there is room for it.
     #[inline(always)]
     pub(crate) fn push(&mut self, answer: Answer)
         requires { length self.old.answers + length (answer_text answer) ≤ self.old.answer_room }
@@ -244,14 +243,14 @@ impl Room {
         self.answers.push_text(answer);
     }
 
-    /// The word of the declared header, if there is one: the test of the condition of `step`.
+    /// Returns the word of the declared header, or `None` if there is none. Precondition of `step`: there is one.
     pub fn word(&self) -> Option<WordName>
         ensures { result ≡ self.now.word }
     {
         self.word
     }
 
-    /// Whether there is room for the header's fractions: the test of the condition of `declare`.
+    /// Returns whether there is room for the header's registers. Precondition of `declare`: there is.
     pub fn has_room_for(&self, header: &Header<'_>) -> bool
         ensures { IsTrue result ↔ (length header.now.fractions ≤ self.now.register_room) }
     {
@@ -266,14 +265,14 @@ impl Room {
         true
     }
 
-    /// How many registers there are.
+    /// Returns the number of registers.
     pub fn registers(&self) -> usize
         ensures { result ≡ length self.now.registers }
     {
         self.registers.len()
     }
 
-    /// The bits of a register as a whole number. Condition: the index is below the number of registers.
+    /// Returns the bits of a register. Precondition: `index` is below the number of registers.
     pub fn bits_at(&self, index: usize) -> i128
         requires { index < length self.now.registers }
         ensures { result ≡ (cell_at self.now.registers index).bits }
@@ -282,7 +281,7 @@ impl Room {
         with_sign(register.below_zero, register.magnitude)
     }
 
-    /// The fraction of a register. Condition: the index is below the number of registers.
+    /// Returns the number of fraction bits of a register. Precondition: `index` is below the number of registers.
     pub fn fraction_at(&self, index: usize) -> u32
         requires { index < length self.now.registers }
         ensures { result ≡ (cell_at self.now.registers index).fraction }
@@ -290,14 +289,14 @@ impl Room {
         self.registers[index].fraction
     }
 
-    /// The bytes of the answers so far.
+    /// Returns the bytes of the answers so far.
     pub fn answers(&self) -> &[u8]
         ensures { result.now ≡ self.now.answers }
     {
         self.answers.bytes()
     }
 
-    /// Turns the room into its answers so far. It takes no memory.
+    /// Turns the room into its answers so far. This does not allocate.
     pub fn into_answers(self) -> Answers
         ensures { result ≡ self.answers }
     {
@@ -305,10 +304,10 @@ impl Room {
     }
 }
 
-/// Runs one line of a script: its answer, with the number stored in its register, or its cause with that
-/// line number and all registers as they were. A line whose operation takes other operands has the cause
-/// `Syntax`. The header and the answers in the room stay. Condition: a header was declared. It takes no
-/// memory.
+/// Runs one line of a script: stores its number, if there is one, in the destination, and returns its answer. If the
+/// line has a cause, returns that with the given line number and changes no register. A line whose operation takes
+/// other operands has the cause `Syntax`. The header and the answers in the room do not change. This does not allocate.
+/// Precondition: a header was declared.
 pub fn step(room: &mut Room, line: &Line, number: u64) -> Result<Answer, Cause>
     requires { IsSome room.old.word }
     ensures tells { IfSome room.old.word (λ word. IsStepOfLine
@@ -318,14 +317,14 @@ pub fn step(room: &mut Room, line: &Line, number: u64) -> Result<Answer, Cause>
     room.step_line(line, number)
 }
 
-/// The spaces of a piece.
+/// Returns the number of spaces of a piece.
 fn spaces_in(piece: &[u8]) -> usize
     ensures { result ≡ spaces_in piece.now }
 {
     piece.iter().filter(|byte| **byte == b' ').count()
 }
 
-/// The spaces of the first piece.
+/// Returns the number of spaces of the first piece.
 fn spaces_of(script: &[u8]) -> usize
     ensures { result ≡ spaces script.now }
 {

@@ -1,4 +1,4 @@
-//! The row of an operation, over one word.
+//! The row of an operation on one word.
 
 ghost use Rattle.std.specs.Prelude.{◌≡◌, ◌≢◌, ◌≤◌, None, ℕ, ℤ, pos, true};
 ghost use Rattle.fixed_kernel.specs.Rounded.{rounded};
@@ -20,25 +20,25 @@ use fixed_kernel::{
 use fixed_script::{Op, Policy, takes_rounding};
 use fixed_word::{Outcome, Rounding, Word};
 
-/// An operand: its bits in a word, and its fraction.
+/// An operand: its bits in a word, and its number of fraction bits.
 #[derive(Clone, Copy)]
 pub(crate) struct Operand<T> {
     pub bits: T,
     pub fraction: u32,
 }
 
-/// Which operands decide whether an operation has a number.
+/// The operands that decide whether the row of an operation is defined.
 #[derive(Clone, Copy)]
 pub(crate) enum Group {
-    /// Operations on one number.
+    /// These operations take one number.
     OfOne,
-    /// Sums, differences and products, which have a number for all operands.
+    /// Sums, differences and products are defined for all operands.
     SumOrProduct,
-    /// Quotients, remainders and multiples, which have none where the divisor is 0.
+    /// Quotients, remainders and multiples are undefined if the divisor is 0.
     ByDivisor,
 }
 
-/// The operation's group.
+/// Returns the operation's group.
 #[inline(always)]
 fn group_of(op: Op) -> Group
     ensures { result ≡ group op }
@@ -60,7 +60,7 @@ fn group_of(op: Op) -> Group
     }
 }
 
-/// The outcome of an operation on one number, where it is defined.
+/// Returns the outcome of an operation on one number, or `None` if its row is undefined.
 #[inline(always)]
 #[tactic(auto, unfolding(crate::specs::Rows::exact, crate::specs::Offered::is_offered))]
 fn outcome_of_one<T: Word>(policy: Policy, op: Op, x: T, frac: u32) -> Option<Outcome<T>>
@@ -93,7 +93,7 @@ fn outcome_of_one<T: Word>(policy: Policy, op: Op, x: T, frac: u32) -> Option<Ou
     }
 }
 
-/// The outcome of a sum, a difference or a product.
+/// Returns the outcome of a sum, a difference or a product.
 #[inline(always)]
 #[tactic(auto, unfolding(crate::specs::Rows::exact))]
 fn outcome_of_sum_or_product<T: Word>(
@@ -124,7 +124,7 @@ fn outcome_of_sum_or_product<T: Word>(
     }
 }
 
-/// The outcome of a quotient, a remainder or a multiple. Condition: the divisor is not 0.
+/// Returns the outcome of a quotient, a remainder or a multiple. Precondition: the divisor is not 0.
 #[inline(always)]
 fn outcome_of_quotient<T: Word>(op: Op, x: T, y: T, frac: u32) -> Option<Outcome<T>>
     requires group { group op ≡ ByDivisor }
@@ -147,7 +147,7 @@ fn outcome_of_quotient<T: Word>(op: Op, x: T, y: T, frac: u32) -> Option<Outcome
     }
 }
 
-/// The same, and None where the divisor is 0.
+/// Returns the outcome of a quotient, a remainder or a multiple, or `None` if the divisor is 0.
 #[inline(always)]
 fn outcome_by_divisor<T: Word>(op: Op, x: T, y: T, frac: u32) -> Option<Outcome<T>>
     requires group { group op ≡ ByDivisor }
@@ -161,7 +161,7 @@ fn outcome_by_divisor<T: Word>(op: Op, x: T, y: T, frac: u32) -> Option<Outcome<
     outcome_of_quotient(op, x, y, frac)
 }
 
-/// The outcome of the operation's row, where it is defined.
+/// Returns the outcome of the operation's row, or `None` if the row is undefined.
 #[inline(always)]
 #[tactic(auto)]
 fn outcome_as<T: Word>(
@@ -186,7 +186,7 @@ fn outcome_as<T: Word>(
     }
 }
 
-/// The quotient with that rounding, and None where the divisor is 0.
+/// Returns the quotient, rounded as named, or `None` if the divisor is 0.
 fn rounded_quotient<T: Word>(a: Operand<T>, b: T, rounding: Rounding) -> Option<Outcome<T>>
     requires { a.fraction ≤ T.BITS }
     ensures { IsOutcomeOfRow T.value T.SIGNED T.BITS
@@ -198,7 +198,7 @@ fn rounded_quotient<T: Word>(a: Operand<T>, b: T, rounding: Rounding) -> Option<
     Some(div_round_of(a.bits, b, a.fraction, rounding))
 }
 
-/// The quotient by an integer with that rounding, and None where the integer is 0.
+/// Returns the quotient by an integer, rounded as named, or `None` if the integer is 0.
 fn rounded_quotient_by<T: Word>(a: T, k: T, rounding: Rounding) -> Option<Outcome<T>>
     ensures { IsOutcomeOfRow T.value T.SIGNED T.BITS
         (by_divisor (T.value k) (rounded (T.value a) (T.value k) rounding)) result }
@@ -209,7 +209,7 @@ fn rounded_quotient_by<T: Word>(a: T, k: T, rounding: Rounding) -> Option<Outcom
     Some(div_int_round_of(a, k, rounding))
 }
 
-/// The reciprocal with that rounding, and None where the operand is 0.
+/// Returns the reciprocal, rounded as named, or `None` if the operand is 0.
 fn rounded_reciprocal<T: Word>(a: Operand<T>, rounding: Rounding) -> Option<Outcome<T>>
     requires { a.fraction ≤ T.BITS }
     ensures { IsOutcomeOfRow T.value T.SIGNED T.BITS
@@ -221,7 +221,7 @@ fn rounded_reciprocal<T: Word>(a: Operand<T>, rounding: Rounding) -> Option<Outc
     Some(recip_round_of(a.bits, a.fraction, rounding))
 }
 
-/// The outcome of the operation's row with the rounding that is named, where it is defined.
+/// Returns the outcome of the operation's row, rounded as named, or `None` if the row is undefined.
 #[inline(never)]
 #[tactic(auto, unfolding(crate::specs::Rows::exact))]
 fn rounded_outcome_as<T: Word>(
@@ -252,8 +252,8 @@ fn rounded_outcome_as<T: Word>(
     }
 }
 
-/// The outcome of the operation's row with the rounding that a line names, if it names one, where the row
-/// is defined.
+/// Returns the outcome of the operation's row, or `None` if the row is undefined. It is rounded as the line names, if
+/// it names a rounding.
 #[inline(always)]
 pub(crate) fn outcome_by<T: Word>(
     rounding: Option<Rounding>,

@@ -1,4 +1,4 @@
-//! A whole script in a room.
+//! Running a whole script in a room.
 
 ghost use Rattle.std.specs.Prelude.{◌≡◌, ◌≤◌, ◌<◌, ◌*◌, ◌+◌, drop, length, Some, None, Err, IfOk, IfErr, IfSome};
 ghost use Rattle.fixed_text.specs.Words.{is_signed, width};
@@ -16,7 +16,7 @@ use fixed_text::{WordName, piece_end};
 use fixed_word::Word;
 use std::alloc::Global;
 
-/// The first line of the rest. Answers where it ends.
+/// Runs the first line of the rest, and returns where it ends.
 fn answer_line(word: WordName, rest: &[u8], number: u64, room: &mut Room) -> Result<usize, Cause>
     requires some { 0 < length rest.now }
     requires word { room.old.word ≡ Some word }
@@ -36,8 +36,9 @@ fn answer_line(word: WordName, rest: &[u8], number: u64, room: &mut Room) -> Res
     }
 }
 
-/// The first line of the rest, if it is read quickly and has no cause. Answers where it ends; else nothing
-/// has changed. Conditions: there are as many bytes as such a line may have, and so many registers.
+/// Runs the first line of the rest, if the fast path reads it and it has no cause, and returns where it ends. If it
+/// returns `None`, nothing has changed. Preconditions: as many bytes remain as such a line may have, and there are
+/// `count` registers or more.
 #[inline(always)]
 fn answer_quick_line<T: Word>(
     word: WordName,
@@ -71,7 +72,7 @@ fn answer_quick_line<T: Word>(
     }
 }
 
-/// The lines from a place on, as long as they are read quickly and have no cause. Answers where the next
+/// Runs the lines from a place on, as long as the fast path reads them and they have no cause. Returns where the next
 /// line begins, and its number.
 #[inline(always)]
 fn answer_quick_lines<T: Word>(
@@ -103,7 +104,7 @@ fn answer_quick_lines<T: Word>(
     (at, number)
 }
 
-/// The lines after the header, over the word of that name.
+/// Runs the lines after the header, on the word of that name and type.
 fn answer_lines_as<T: Word>(word: WordName, lines: &[u8], room: &mut Room) -> Result<(), Cause>
     requires signed { T.SIGNED ≡ is_signed word }
     requires bits { T.BITS ≡ width word }
@@ -128,7 +129,7 @@ fn answer_lines_as<T: Word>(word: WordName, lines: &[u8], room: &mut Room) -> Re
     Ok(())
 }
 
-/// The lines after the header.
+/// Runs the lines after the header.
 fn answer_lines(word: WordName, lines: &[u8], room: &mut Room) -> Result<(), Cause>
     requires word { room.old.word ≡ Some word }
     requires space { length room.old.answers + 2 * length lines.now ≤ room.old.answer_room }
@@ -148,9 +149,9 @@ fn answer_lines(word: WordName, lines: &[u8], room: &mut Room) -> Result<(), Cau
     }
 }
 
-/// Runs a script in a room that suffices for it, from a fresh start, and asks for no memory. Ok with all
-/// answers in the room, or the first cause with the registers and answers of the lines before it in the
-/// room.
+/// Runs a script from a fresh start, without allocation. Leaves all answers in the room. If a line has a cause, returns
+/// the first one and leaves the registers and the answers of the lines before it in the room. Precondition: the room
+/// suffices for the script, as `suffices` tests.
 pub fn run_in(script: &[u8], room: &mut Room) -> Result<(), Cause>
     requires { Suffices script.now room.old }
     ensures tells { IsAnswerOfRun (run_of script.now) result room.new }
@@ -171,8 +172,8 @@ pub fn run_in(script: &[u8], room: &mut Room) -> Result<(), Cause>
     }
 }
 
-/// Runs a script: its answers, its first cause, or a report that memory ran out. On a fault nothing is
-/// handed out.
+/// Runs a script and returns its answers. Fails with the first cause of a line, or if memory runs out, and then returns
+/// no answers.
 pub fn run(alloc: Global, script: &[u8]) -> Result<Answers, RunFault>
     ensures { IsAnswerOfMeaning (meaning script.now) result }
 {

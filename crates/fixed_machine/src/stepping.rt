@@ -1,4 +1,4 @@
-//! One line of a script, over the registers.
+//! Running one line of a script on the registers.
 
 ghost use Rattle.std.specs.Prelude.{◌≡◌, ◌≤◌, ◌<◌, ◌^◌, nat_le, length, set, Some, None, true, false, IsTrue, unsigned_abs, if◌then◌else◌};
 ghost use Rattle.std.specs.List.{All};
@@ -19,14 +19,14 @@ use fixed_script::{Line, Literal, Op, Policy, Shape, shape_of, takes_rounding};
 use fixed_text::WordName;
 use fixed_word::Rounding;
 
-/// Whether the operation may name that rounding.
+/// Returns whether the operation may name that rounding.
 fn may_round(op: Op, rounding: Option<Rounding>) -> bool
     ensures { result ≡ rounds op rounding }
 {
     rounding.is_none() || takes_rounding(op)
 }
 
-/// Whether the operation takes the operands of the line, and its rounding.
+/// Returns whether the operation takes the operands of the line, and its rounding.
 fn is_shaped(line: &Line) -> bool
     ensures yes { result ≡ true → checked_script_line line.now ≡ Some (script_line_of line.now) }
     ensures no { result ≡ false → checked_script_line line.now ≡ None }
@@ -58,7 +58,7 @@ fn is_signed(word: WordName) -> bool
     }
 }
 
-/// Whether the operation is offered under that policy on the word.
+/// Returns whether the operation is offered under that policy on the word.
 #[inline(always)]
 #[tactic(auto, unfolding(crate::specs::Offered::is_offered))]
 pub(crate) fn is_offered(word: WordName, policy: Policy, op: Op) -> bool
@@ -78,7 +78,7 @@ pub(crate) fn is_offered(word: WordName, policy: Policy, op: Op) -> bool
     }
 }
 
-/// Whether the operation of the line is not offered under its policy on the word.
+/// Returns whether the operation of the line is not offered under its policy on the word.
 #[tactic(auto, unfolding(crate::specs::Machine::is_unoffered))]
 fn is_unoffered(word: WordName, line: &Line) -> bool
     ensures { result ≡ unoffered word (script_line_of line.now) }
@@ -92,7 +92,7 @@ fn is_unoffered(word: WordName, line: &Line) -> bool
     }
 }
 
-/// The greatest magnitude of the values of the word that are below 0, or of the others.
+/// Returns the greatest magnitude of the word's values below 0, or of the others.
 fn greatest_magnitude(word: WordName, below_zero: bool) -> u64
     ensures { with_sign below_zero result
         ≡ (if below_zero then lowest (signed word) (width word) else highest (signed word) (width word)) }
@@ -119,14 +119,14 @@ fn greatest_magnitude(word: WordName, below_zero: bool) -> u64
     }
 }
 
-/// Whether a literal is a value of the word.
+/// Returns whether a literal is a value of the word.
 fn is_literal(word: WordName, literal: Literal) -> bool
     ensures { result ≡ is_value word (literal_value literal) }
 {
     literal.magnitude <= u128::from(greatest_magnitude(word, literal.below_zero))
 }
 
-/// Whether a register was not declared.
+/// Returns whether a register was not declared.
 fn is_missing(registers: &[Register], index: u128) -> bool
     ensures { result ≡ nat_le (length (cells_of registers.now)) index }
 {
@@ -160,7 +160,7 @@ fn is_out_of_range(word: WordName, registers: &[Register], line: &Line) -> bool
     }
 }
 
-/// The register of that number.
+/// Returns the register with that number.
 fn register_at(registers: &[Register], index: u128) -> Register
     ensures { cell_of result ≡ cell_in (cells_of registers.now) index }
 {
@@ -205,7 +205,7 @@ fn is_mismatched(word: WordName, registers: &[Register], line: &Line) -> bool
     }
 }
 
-/// An integer as an operand.
+/// Returns an integer as an operand.
 fn integer_of(literal: Literal) -> Register
     requires { literal.magnitude < 2 ^ 64 }
     ensures { cell_of result ≡ integer (literal_value literal) }
@@ -217,7 +217,7 @@ fn integer_of(literal: Literal) -> Register
     }
 }
 
-/// The operands of a line.
+/// Returns the operands of a line.
 #[inline(always)]
 fn taken_by(word: WordName, registers: &[Register], line: &Line) -> OperandRegisters
     requires { out_of_range (state_in word (cells_of registers.now)) (script_line_of line.now) ≡ false }
@@ -257,7 +257,7 @@ fn taken_by(word: WordName, registers: &[Register], line: &Line) -> OperandRegis
     }
 }
 
-/// The number of a literal.
+/// Returns the number of a literal.
 fn whole_of(literal: Literal) -> i128
     requires { literal.magnitude < 2 ^ 64 }
     ensures { result ≡ literal_value literal }
@@ -265,7 +265,7 @@ fn whole_of(literal: Literal) -> i128
     with_sign(literal.below_zero, literal.magnitude as u64)
 }
 
-/// The answer of a line of an operation whose first three tests fail.
+/// Returns the answer of a line with an operation, or its cause, if the first three tests found none.
 #[inline(always)]
 fn answer_of_operation(
     word: WordName,
@@ -289,7 +289,7 @@ fn answer_of_operation(
     answer_in_word(word, policy, op, rounding, &taken, number)
 }
 
-/// The answer of a line whose first three tests fail.
+/// Returns the answer of a line, or its cause, if the first three tests found none.
 fn answer_past_tests(
     word: WordName,
     registers: &[Register],
@@ -333,7 +333,7 @@ fn answer_past_tests(
     }
 }
 
-/// The answer of a line, or its cause.
+/// Returns the answer of a line, or its cause.
 fn answer_or_cause(
     word: WordName,
     registers: &[Register],
@@ -380,7 +380,7 @@ pub(crate) fn store(registers: &mut [Register], dest: u128, x: i128)
     register.magnitude = x.unsigned_abs() as u64;
 }
 
-/// One line over the registers.
+/// Runs one line on the registers. Returns its answer, or its cause, which leaves the registers unchanged.
 pub(crate) fn step_registers(
     word: WordName,
     registers: &mut [Register],

@@ -1,6 +1,7 @@
-//! Elementary functions as typed calls of [`Fixed`](fixed_num::Fixed), each named by its policy and its operation.
+//! Elementary functions as methods of [`Fixed`](fixed_num::Fixed). The name of each call is its policy and its
+//! operation.
 //!
-//! The exact result of each operation is a whole number of units of `2^-F`. No call takes memory.
+//! Results are in units of `2^-F`. No call allocates.
 #![tactic(auto)]
 
 mod checked;

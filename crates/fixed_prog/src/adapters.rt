@@ -1,5 +1,5 @@
-//! Standard input, output and error as a source, a sink and errors. They do not say which bytes are
-//! left or taken. This project's own.
+//! Standard input, output and error as a source, a sink and the errors. They do not state which bytes are left or
+//! taken. The Rust crate `fixed` does not have them.
 
 ghost use Rattle.std.specs.Prelude.{◌≡◌, ◌≤◌, ◌<◌, None, IfErr, IfOk, length, take};
 ghost use Rattle.std.specs.Io.KnownBytes.{Appends, ReadConsumes, WriteAppends};
@@ -9,7 +9,7 @@ use fixed_calc::{Failed, Refusal, Sink, Source};
 use std::io::{Read, Write};
 use std::marker::Model;
 
-/// A reader, as standard input. Each failed read raises its count of faults.
+/// A source that reads from a reader, such as standard input. Each failed read increments its count of faults.
 #[derive(Drop)]
 pub struct StdSource<R> {
     reader: R,
@@ -25,7 +25,7 @@ impl<R> Model for StdSource<R> {
 }
 
 impl<R: Read> StdSource<R> {
-    /// The source of a reader, with no faults so far.
+    /// Returns the source of a reader, without faults.
     pub fn new(reader: R) -> StdSource<R>
         ensures device { result.device ≡ reader }
         ensures faults { result.faults ≡ 0 }
@@ -42,7 +42,7 @@ impl<R: Read> Source for StdSource<R> {
         ensures bytes { ReadConsumes None None result buf.new }
         ensures faults { FaultsAfterRead self.old.faults self.new.faults result }
         ensures raised { IfErr result (λ _. self.new.faults ≡ next_count self.old.faults) }
-        // What the reader gave, where it says which bytes it has.
+        // The bytes from the reader, if the reader states which it has.
         ensures given { ReadConsumes
             (R.remaining self.old.device) (R.remaining self.new.device) result buf.new }
     {
@@ -56,8 +56,8 @@ impl<R: Read> Source for StdSource<R> {
     }
 }
 
-/// A writer, as standard output. Each failed write, each write that takes none of some bytes and each
-/// failed flush raises its count of faults.
+/// A sink that writes to a writer, such as standard output. Each failed write, each write that takes none of some
+/// bytes, and each failed flush increments its count of faults.
 #[derive(Drop)]
 pub struct StdSink<W> {
     writer: W,
@@ -73,7 +73,7 @@ impl<W> Model for StdSink<W> {
 }
 
 impl<W: Write> StdSink<W> {
-    /// The sink of a writer, with no faults so far.
+    /// Returns the sink of a writer, without faults.
     pub fn new(writer: W) -> StdSink<W>
         ensures device { result.device ≡ writer }
         ensures faults { result.faults ≡ 0 }
@@ -94,7 +94,7 @@ impl<W: Write> Sink for StdSink<W> {
             (record { taken = None; faults = self.new.faults; shortages = 0 }) result }
         ensures refused { IfErr result (λ refusal. refusal ≡ Refusal.Failed) }
         ensures raised { IfErr result (λ _. self.new.faults ≡ next_count self.old.faults) }
-        // What the writer took, where it says which bytes it has.
+        // The bytes that the writer took, if it states which it has.
         ensures taken { IfOk result (λ k. Appends
             (W.contents self.old.device) (W.contents self.new.device) (take k bytes.now)) }
     {
@@ -111,7 +111,7 @@ impl<W: Write> Sink for StdSink<W> {
     }
 }
 
-/// A writer, as standard error. It counts faults as `StdSink` does.
+/// A sink that writes to a writer, such as standard error. It counts faults as `StdSink` does.
 #[derive(Drop)]
 pub struct StdErrors<W> {
     sink: StdSink<W>,
@@ -126,7 +126,7 @@ impl<W> Model for StdErrors<W> {
 }
 
 impl<W: Write> StdErrors<W> {
-    /// The errors of a writer, with no faults so far.
+    /// Returns the errors of a writer, without faults.
     pub fn new(writer: W) -> StdErrors<W>
         ensures device { result.device ≡ writer }
         ensures faults { result.faults ≡ 0 }
@@ -149,7 +149,7 @@ impl<W: Write> Sink for StdErrors<W> {
             (record { taken = None; faults = self.new.faults; shortages = 0 }) result }
         ensures refused { IfErr result (λ refusal. refusal ≡ Refusal.Failed) }
         ensures raised { IfErr result (λ _. self.new.faults ≡ next_count self.old.faults) }
-        // What the writer took, where it says which bytes it has.
+        // The bytes that the writer took, if it states which it has.
         ensures taken { IfOk result (λ k. Appends
             (W.contents self.old.device) (W.contents self.new.device) (take k bytes.now)) }
     {

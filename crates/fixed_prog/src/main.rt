@@ -1,6 +1,5 @@
-//! Runs a script from standard input: its answers go to standard output, and the line of what stopped
-//! it to standard error. With the words `demo N` it runs a script of N lines of its own making, and
-//! writes a summary.
+//! Runs a script from standard input, and writes its answers to standard output, or the line for its fault to standard
+//! error. With the words `demo N`, it makes a script of N lines, runs it, and writes a summary.
 //!
 //! usage: fixed_prog [demo N]
 #![tactic(auto)]
@@ -15,8 +14,8 @@ use std::alloc::AllocError;
 use std::process::ExitCode;
 use std::{env, io};
 
-/// The words of the command line. Where they cannot be read as text, one empty word stands for them,
-/// which is no form of the command.
+/// Returns the words of the command line. If they are not text, it returns one empty word, which is not a form of the
+/// command.
 fn words(rt: &HostRuntime) -> Result<Vec<String>, AllocError> {
     let mut words = Vec::new(rt.alloc());
     match env::args(rt) {

@@ -1,4 +1,4 @@
-//! Each adapter over bytes in memory, and over a device that fails.
+//! Tests of each adapter on bytes in memory, and on a device that fails.
 
 use crate::adapters::{StdErrors, StdSink, StdSource};
 use fixed_calc::{Cause, Failed, Refusal, Sink, Source, Status, calc_main};
@@ -8,11 +8,11 @@ use std::test::Fail;
 /// How a device fails.
 #[derive(Clone, Copy, Debug, PartialEq, Eq)]
 enum Manner {
-    /// Each read and each write is an error.
+    /// Each read and each write fails.
     Broken,
     /// Each write takes nothing.
     Full,
-    /// Each write takes all, and each flush is an error.
+    /// Each write takes all, and each flush fails.
     Unflushed,
 }
 
@@ -45,7 +45,7 @@ impl Write for Device {
     }
 }
 
-/// A reader's bytes come in order, and then its end; a writer takes what it is offered.
+/// A reader's bytes are read in order, up to its end. A writer takes the bytes that it is offered.
 #[test]
 fn adapters_in_memory(rt: HostRuntime) -> Result<(), Fail> {
     let alloc = rt.alloc();
@@ -69,7 +69,7 @@ fn adapters_in_memory(rt: HostRuntime) -> Result<(), Fail> {
     Ok(())
 }
 
-/// Each error, each empty take and each failed flush is a fault.
+/// Each failed call, each write that takes nothing, and each failed flush is a fault.
 #[test]
 fn adapters_that_fail(rt: HostRuntime) -> Result<(), Fail> {
     let manner = Manner::Broken;
@@ -91,7 +91,7 @@ fn adapters_that_fail(rt: HostRuntime) -> Result<(), Fail> {
     Ok(())
 }
 
-/// The whole program over the adapters: answers, the line of a cause, and faults of each side.
+/// The whole program on the adapters: answers, the line for a cause, and faults of each side.
 #[test]
 fn program_over_adapters(rt: HostRuntime) -> Result<(), Fail> {
     let alloc = rt.alloc();

@@ -24,12 +24,12 @@ unfoldable pub last_digits : ℕ → Bool → ℕ → ℕ → List ℕ
 last_digits b upper n zero = []
 last_digits b upper n (suc p) = last_digits b upper (n / b) p ++ digit_glyph upper (n % b) ∷ []
 
--- n / b ^ p with p digits behind the point
+-- n / b ^ p with p digits after the point
 abbrev pub base_text : ℕ → Bool → ℕ → ℕ → List ℕ
 base_text b upper n zero = digits b upper n
 base_text b upper n (suc p) = digits b upper (n / b ^ suc p) ++ 46 ∷ last_digits b upper n (suc p)
 
--- the fewest digits behind the point that are exact of m / 2 ^ f
+-- the fewest digits after the point with which m / 2 ^ f is exact
 abbrev pub exact_places : ℕ → ℕ → ℕ → ℕ
 exact_places b m f = first_of (λ p. m * b ^ p % 2 ^ f == 0) f
 
@@ -37,7 +37,7 @@ exact_places b m f = first_of (λ p. m * b ^ p % 2 ^ f == 0) f
 abbrev pub in_base : ℕ → ℤ → ℕ → ℕ → ℕ
 in_base b a f p = nat_abs (rounded (a *ℤ pos (b ^ p)) (pos (2 ^ f)) Even)
 
--- how many digits behind the point are shown, with that precision
+-- how many digits after the point are shown, with that precision
 abbrev pub shown_places : Option ℕ → ℕ → ℤ → ℕ → ℕ
 shown_places None b a f = exact_places b (nat_abs a) f
 shown_places (Some p) b a f = p
@@ -47,7 +47,7 @@ abbrev pub plain_in : Base → ℤ → ℕ → ℕ → Option (List ℕ)
 plain_in base a f n = let p = exact_places (base_of base) (nat_abs a) f in
     if nat_le f n then Some (after_sign a (base_text (base_of base) (is_upper base) (in_base (base_of base) a f p) p)) else None
 
--- `{:#8.3}` and its kin: laid out as an integer is, with its sign, its prefix and its digits
+-- `{:#8.3}` and the like: laid out as an integer is, with its sign, its prefix and its digits
 abbrev pub styled_in : (Bool → List ℕ → List ℕ → List ℕ) → Option ℕ → Base → ℤ → ℕ → ℕ → Option (List ℕ)
 styled_in layout precision base a f n = let p = shown_places precision (base_of base) a f in
     if nat_le f n then Some (layout (int_lt a (pos 0)) (radix_prefix (base_of base)) (base_text (base_of base) (is_upper base) (in_base (base_of base) a f p) p)) else None

@@ -4,7 +4,7 @@ ghost use Rattle.std.specs.Prelude.{◌≡◌, ◌≤◌, ◌<◌, ◌^◌, leng
 ghost use Rattle.std.specs.Fmt.{char_count, digit_glyph, radix_prefix};
 ghost use Rattle.fixed_radix.specs.Bases.{base_of, is_upper};
 
-/// A base, and how its digits past 9 are written.
+/// A base, and the case of its digits above 9.
 #[derive(Clone, Copy, Debug, PartialEq, Eq)]
 pub enum Base {
     /// Base 2.
@@ -17,7 +17,7 @@ pub enum Base {
     UpperHex,
 }
 
-/// How many bits a digit has.
+/// Returns how many bits a digit has.
 pub(crate) fn digit_bits(base: Base) -> u32
     ensures value { 2 ^ result ≡ base_of base }
     ensures least { 1 ≤ result }
@@ -30,7 +30,7 @@ pub(crate) fn digit_bits(base: Base) -> u32
     }
 }
 
-/// Whether the digits past 9 are capitals.
+/// Returns whether the digits above 9 are capital letters.
 pub(crate) fn is_upper(base: Base) -> bool
     ensures { result ≡ is_upper base }
 {
@@ -40,7 +40,7 @@ pub(crate) fn is_upper(base: Base) -> bool
     }
 }
 
-/// What stands before a number if the formatter is alternate.
+/// Returns the prefix of a number if the formatter is alternate.
 pub(crate) fn prefix_of(base: Base) -> &'static str
     ensures value { result.now ≡ radix_prefix (base_of base) }
     ensures letters { char_count result.now ≡ length result.now }
@@ -52,7 +52,7 @@ pub(crate) fn prefix_of(base: Base) -> &'static str
     }
 }
 
-/// A digit as a letter.
+/// Returns a digit as a character. Precondition: the digit is below 16.
 pub(crate) fn glyph(digit: u8, upper: bool) -> u8
     requires { digit < 16 }
     ensures { result ≡ digit_glyph upper digit }

@@ -1,4 +1,4 @@
-//! The digits of a number in a base of `2^bits`, from the last on.
+//! Writing the digits of a number in a base of `2^bits`, from the last one on.
 
 ghost use Rattle.std.specs.Prelude.{◌≡◌, ◌+◌, ◌-◌, ◌*◌, ◌/◌, ◌%◌, ◌^◌, ◌<◌, ◌≤◌, ◌++◌, drop, length};
 ghost use Rattle.std.specs.Fmt.{digits};
@@ -6,7 +6,7 @@ ghost use Rattle.fixed_radix.specs.Bases.{base_text, last_digits};
 
 use crate::bases::glyph;
 
-/// What is left of a number by `2^bits`.
+/// Returns the remainder of a number by `2^bits`.
 #[inline]
 fn last_digit(number: u128, bits: u32) -> u8
     requires { bits ≤ 4 }
@@ -16,7 +16,7 @@ fn last_digit(number: u128, bits: u32) -> u8
     (number % (1 << bits)) as u8
 }
 
-/// Puts the last digits of a number before a place, so many as are asked for.
+/// Writes the last `count` digits of a number so that they end before `end`.
 fn put_places(number: u128, bits: u32, upper: bool, count: usize, buffer: &mut [u8], end: usize)
     requires bits { bits ≤ 4 }
     requires room { count ≤ end }
@@ -33,7 +33,7 @@ fn put_places(number: u128, bits: u32, upper: bool, count: usize, buffer: &mut [
     }
 }
 
-/// Puts the digits of a number before a place, with no 0 in front, and returns where they begin.
+/// Writes the digits of a number, without leading zeros, so that they end before `end`, and returns where they begin.
 fn put_whole(number: u64, bits: u32, upper: bool, buffer: &mut [u8], end: usize) -> usize
     requires bits { (1 ≤ bits) × (bits ≤ 4) }
     requires room { 64 ≤ end }
@@ -52,7 +52,7 @@ fn put_whole(number: u64, bits: u32, upper: bool, buffer: &mut [u8], end: usize)
     at
 }
 
-/// Puts the text of a number of units of `2^-(bits * places)` at the end of the buffer, and returns where it begins.
+/// Writes the text of a number in units of `2^-(bits * places)` at the end of the buffer, and returns where it begins.
 pub(crate) fn put_number(
     number: u128,
     bits: u32,

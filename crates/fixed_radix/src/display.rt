@@ -1,4 +1,4 @@
-//! A number in a base, as text.
+//! Printing a number in a base.
 
 ghost use Rattle.std.specs.Prelude.{◌≡◌, ◌≤◌, nat_abs};
 ghost use Rattle.std.specs.Fmt.{padded_integral, spec_precision};
@@ -12,9 +12,9 @@ use fixed_num::Fixed;
 use fixed_word::{RawWord, Word};
 use std::{fmt, str};
 
-/// A number that is printed in a base: exactly, or with as many digits behind the point as the precision says, to the
-/// nearest and to the even one of two. Sign, prefix, width and fill are those of integers. A fraction past the width is
-/// an error.
+/// A number that is printed in a base: exactly, or, if the formatter has a precision, with that many digits after the
+/// point, rounded to the nearest, ties to even. Sign, prefix, width and fill are those of integers. Printing fails if
+/// `F` is greater than the width.
 #[derive(Clone, Copy)]
 pub struct InBase<T: RawWord, const F: u32> {
     /// The number.
@@ -42,7 +42,7 @@ impl<T: Word, const F: u32> fmt::Display for InBase<T, F> {
         let mut buffer = [0; 130];
         let start = put_number(units, bits, is_upper(self.base), places, &mut buffer);
         match str::from_utf8(&buffer[start..]) {
-            // Digits past the exact ones are zeros.
+            // Digits after the exact ones are zeros.
             Ok(digits) => pad_number(
                 f,
                 number.is_below_zero(),

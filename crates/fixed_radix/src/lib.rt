@@ -1,4 +1,4 @@
-//! Numbers in the bases 2, 8 and 16, with a point: `InBase` prints one under every option of a formatter.
+//! Numbers in the bases 2, 8 and 16, with a point: `InBase` prints a number with every option of a formatter.
 #![tactic(auto)]
 
 mod bases;

@@ -1,11 +1,11 @@
-//! A number in units of `2^-shift`, and how many digits behind the point it needs.
+//! A number in units of `2^-shift`, and how many digits after the point it needs.
 
 ghost use Rattle.std.specs.Prelude.{◌≡◌, ◌==◌, ◌+◌, ◌*◌, ◌/◌, ◌%◌, ◌^◌, ◌<◌, ◌≤◌, Bool, true};
 ghost use Rattle.fixed_word.specs.declared.rounding.Rounding.TheVariants.{Even};
 ghost use Rattle.fixed_decimal.specs.inside.Stepped.{stepped};
 ghost use Rattle.fixed_radix.specs.Bases.{exact_places};
 
-/// A magnitude in units of `2^-frac` as one in units of `2^-shift`, to the nearest and to the even one of two.
+/// Returns a magnitude of units of `2^-frac` in units of `2^-shift`, rounded to the nearest, ties to even.
 pub(crate) fn in_units(magnitude: u64, frac: u32, shift: u32) -> u128
     requires frac { frac ≤ 64 }
     requires shift { shift ≤ frac + 4 }
@@ -26,7 +26,7 @@ pub(crate) fn in_units(magnitude: u64, frac: u32, shift: u32) -> u128
     }
 }
 
-/// Whether a magnitude in units of `2^-frac` is a whole number of units of `2^-shift`.
+/// Returns whether a magnitude in units of `2^-frac` is a whole number of units of `2^-shift`.
 fn is_exact(magnitude: u64, frac: u32, shift: u32) -> bool
     requires { frac ≤ 64 }
     ensures value { result ≡ (magnitude * 2 ^ shift % 2 ^ frac == 0) }
@@ -35,7 +35,7 @@ fn is_exact(magnitude: u64, frac: u32, shift: u32) -> bool
     shift >= frac || u128::from(magnitude) % (1 << (frac - shift)) == 0
 }
 
-/// How many digits behind the point are exact, in a base of `2^bits`.
+/// Returns how many digits after the point the exact text of a magnitude has, in a base of `2^bits`.
 pub(crate) fn exact_places(magnitude: u64, frac: u32, bits: u32) -> u32
     requires frac { frac ≤ 64 }
     requires bits { (1 ≤ bits) × (bits ≤ 4) }

@@ -1,4 +1,4 @@
--- Numbers as the code holds them: one of 2 ^ 64 or more is held as 2 ^ 64.
+-- Numbers as the code represents them: 2 ^ 64 stands for each one of 2 ^ 64 or more.
 use Rattle.std.specs.Prelude.{suc, ℤ, pos, negsuc, neg_ℤ, if◌then◌else◌, Option, Some, None}
 use Rattle.fixed_digits.specs.Numerals.{cap}
 use Rattle.fixed_word.specs.declared.rounding.Rounding.{Rounding}
@@ -11,7 +11,7 @@ use Rattle.fixed_script.specs.declared.line.Line.TheVariants.{Set, One, Two, Int
 use Rattle.fixed_script.specs.Names.{shape}
 use Rattle.fixed_script.specs.Text.{Operands, OneRegister, TwoRegisters, RegisterAndInt, ThreeRegisters, ScriptLine, SetTo, Apply, may_round}
 
--- a number keeps its sign
+-- a capped number keeps its sign
 abbrev pub cap_whole : ℤ → ℤ
 cap_whole (pos n) = pos (cap n)
 cap_whole (negsuc n) = neg_ℤ (pos (cap (suc n)))
@@ -27,7 +27,7 @@ abbrev pub capped : ScriptLine → ScriptLine
 capped (SetTo dest value) = SetTo (cap dest) (cap_whole value)
 capped (Apply dest policy op operands rounding) = Apply (cap dest) policy op (cap_operands operands) rounding
 
--- the whole number of a literal
+-- the value of a literal
 abbrev pub literal_value : Literal → ℤ
 literal_value l = if l.below_zero then neg_ℤ (pos l.magnitude) else pos l.magnitude
 
@@ -43,7 +43,7 @@ of_shape _ _ line = None
 abbrev pub if_rounds : Op → Option Rounding → Option ScriptLine → Option ScriptLine
 if_rounds op rounding line = if may_round op rounding then line else None
 
--- the abstract line that a line of the code denotes, with its numbers and its rounding as they stand
+-- the abstract line that a line of the code stands for, with the same numbers and rounding
 abbrev pub checked_script_line : Line → Option ScriptLine
 checked_script_line (Set dest literal) = Some (SetTo dest (literal_value literal))
 checked_script_line (One dest policy op a r) = if_rounds op r (of_shape (shape op) Unary (Apply dest policy op (OneRegister a) r))

@@ -1,4 +1,4 @@
--- A header as the code holds it.
+-- A header as the code represents it.
 use Rattle.std.specs.Prelude.{ℕ, List, ◌∷◌, map, Bool}
 use Rattle.std.specs.List.{list_all}
 use Rattle.std.specs.Str.Parse.{digits_value}
@@ -15,7 +15,7 @@ pub record CappedHeader : Type 0 where
 abbrev pub capped_header : ScriptHeader → CappedHeader
 capped_header h = record { word = h.word; fractions = map cap (h.first ∷ h.others) }
 
--- the capped numbers that decimals say
+-- the capped numbers with these decimals
 abbrev pub capped_fractions : List (List ℕ) → List ℕ
 capped_fractions tokens = map (λ t. cap (digits_value 10 t)) tokens
 

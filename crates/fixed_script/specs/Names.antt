@@ -17,7 +17,7 @@ policy_name Wrapping = codes "wrapping"
 policy_name Overflowing = codes "overflowing"
 policy_name Strict = codes "strict"
 
--- an operation's name, the operands that it takes, and its rounding where a line names none, if a line may name one
+-- an operation's name, its operands, and the rounding of a line that names none, if lines may name one
 abbrev pub facts_of_op : Op → List ℕ × Shape × Option Rounding
 facts_of_op Neg = (codes "neg", Unary, None)
 facts_of_op Add = (codes "add", Binary, None)

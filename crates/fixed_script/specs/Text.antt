@@ -1,4 +1,4 @@
--- What a script can say, with numbers of any size, and the bytes that say it.
+-- Lines and headers, with numbers of any size, and their text.
 use Rattle.std.specs.Prelude.{◌≡◌, ℕ, ℤ, Bool, true, List, [], ◌∷◌, ◌++◌, map, is_some, Option, Some, None, option_to_list, codes}
 use Rattle.std.specs.List.{join_with_byte}
 use Rattle.fixed_text.specs.declared.names.WordName.{WordName}
@@ -24,7 +24,7 @@ pub data Operands : Type 0 where
   RegisterAndInt : ℕ → ℤ → Operands
   ThreeRegisters : ℕ → ℕ → ℕ → Operands
 
--- `set` with a destination and a number, or a destination, a policy, an operation, its operands and a rounding or none
+-- `set` with a destination and a number, or a destination, a policy, an operation, its operands and perhaps a rounding
 pub data ScriptLine : Type 0 where
   SetTo : ℕ → ℤ → ScriptLine
   Apply : ℕ → Policy → Op → Operands → Option Rounding → ScriptLine
@@ -44,7 +44,7 @@ abbrev pub may_round : Op → Option Rounding → Bool
 may_round op None = true
 may_round op (Some rounding) = takes_rounding op
 
--- the operands are those of the operation, and so is the rounding
+-- the operands are those of the operation, which may name that rounding
 abbrev pub IsLine : ScriptLine → Type 0
 IsLine (SetTo dest value) = Unit {0}
 IsLine (Apply dest policy op operands rounding) = (shape op ≡ shape_of operands) × (may_round op rounding ≡ true)
@@ -66,7 +66,7 @@ line_tokens (Apply dest policy op operands rounding) =
 abbrev pub header_tokens : ScriptHeader → List (List ℕ)
 header_tokens h = word_name h.word ∷ natural_text h.first ∷ map natural_text h.others
 
--- one space between two tokens
+-- the tokens, joined by single spaces
 abbrev pub line_text : ScriptLine → List ℕ
 line_text line = join_with_byte 32 (line_tokens line)
 

@@ -1,4 +1,4 @@
--- The laws of the text: each text says one thing.
+-- The laws of the text: different lines, headers and numbers have different texts.
 use Rattle.std.specs.Prelude.{◌≡◌, ℕ, ℤ, List}
 use Rattle.std.specs.List.{concat}
 use Rattle.fixed_word.specs.Decimal.{whole_text}
@@ -14,6 +14,6 @@ OneLine = (x y : ScriptLine) → line_text x ≡ line_text y → x ≡ y
 abbrev pub OneHeader : Type 0
 OneHeader = (x y : ScriptHeader) → header_text x ≡ header_text y → x ≡ y
 
--- the pieces of a script, one after another, are the script
+-- the pieces of a script, joined in order, are the script
 abbrev pub PiecesJoin : Type 0
 PiecesJoin = (script : List ℕ) → concat (pieces script) ≡ script

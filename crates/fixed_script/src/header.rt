@@ -10,8 +10,8 @@ use fixed_digits::{is_decimal, value_of};
 use fixed_text::{Tokens, WordName, cut, word_of};
 use std::marker::Model;
 
-/// A header, which borrows its text. Contracts see it as its word and its fractions, of which one of
-/// `2^64` or more is held as `2^64`.
+/// A header, which borrows its text. Contracts see it as its word and its numbers of fraction bits, of which `2^64`
+/// stands for each one of `2^64` or more.
 #[derive(Drop)]
 pub struct Header<'a> {
     word: WordName,
@@ -31,14 +31,14 @@ impl<'a> Model for Header<'a> {
 }
 
 impl<'a> Header<'a> {
-    /// The word.
+    /// Returns the word.
     pub fn word(&self) -> WordName
         ensures { result ≡ self.now.word }
     {
         self.word
     }
 
-    /// The fractions in order, one for each register.
+    /// Returns the numbers of fraction bits in order, one for each register.
     pub fn fractions(&self) -> Fractions<'_>
         ensures { result ≡ self.now.fractions }
     {
@@ -48,7 +48,7 @@ impl<'a> Header<'a> {
     }
 }
 
-/// The fractions of a header that are still to come.
+/// The remaining numbers of fraction bits of a header.
 #[derive(Drop)]
 pub struct Fractions<'a> {
     tokens: Tokens<'a>,
@@ -82,7 +82,7 @@ impl<'a> Iterator for Fractions<'a> {
     }
 }
 
-/// Whether each token is a decimal.
+/// Returns whether each token is a decimal.
 fn all_decimal(bytes: &[u8]) -> bool
     ensures { result ≡ all_decimal (tokens_of bytes.now) }
 {
@@ -95,11 +95,11 @@ fn all_decimal(bytes: &[u8]) -> bool
     true
 }
 
-/// The header whose text the piece is, without its newline; None exactly where no header has that text.
+/// Returns the header whose text the piece is, without its newline, or `None` if no header has that text.
 pub fn parse_header(piece: &[u8]) -> Option<Header<'_>>
-    // None exactly where the piece is no header's text.
+    // None: no header has the piece as its text.
     ensures none { IfNone result ((header : ScriptHeader) → header_text header ≡ piece.now → ⊥) }
-    // Otherwise the capped form of the header whose text it is.
+    // Otherwise: the capped form of the header whose text it is.
     ensures found { IfSome result (λ read. (header : ScriptHeader)
         × (header_text header ≡ piece.now) × (read ≡ capped_header header)) }
 {

@@ -1,9 +1,8 @@
-//! The text of a script: names of words, policies, operations and roundings, lines and headers, read and
-//! written.
+//! The text of scripts: reading names of words, policies, operations and roundings, lines and headers.
 //!
-//! [`parse_line`] and [`parse_header`] read a piece without its newline, each saying which text it read and
-//! that there is none where it answers None. Numbers of `2^64` or more are held as `2^64`. All of this is
-//! this project's own.
+//! [`parse_line`] and [`parse_header`] read a piece without its newline. Their contracts state which line or header has
+//! the piece as its text, and that none has if they return `None`. `2^64` stands for each number of `2^64` or more. The
+//! Rust crate `fixed` does not have these functions.
 #![tactic(auto)]
 
 mod header;

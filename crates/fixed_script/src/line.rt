@@ -13,7 +13,7 @@ use crate::taking::{take_literal, take_op, take_policy, take_register};
 use fixed_text::Tokens;
 use fixed_word::Rounding;
 
-/// Which operands an operation takes.
+/// The operands that an operation takes.
 #[derive(Clone, Copy, Debug, PartialEq, Eq)]
 pub enum Shape {
     Unary,
@@ -22,9 +22,9 @@ pub enum Shape {
     Ternary,
 }
 
-/// A line after the header. Registers and literals stand in the order of the text; a number of `2^64` or
-/// more is held as `2^64`, which is no declared register and no value of any word. Products, quotients and
-/// their kin may name a rounding.
+/// A line after the header. Registers and literals are in the order of the text. `2^64` stands for each number of
+/// `2^64` or more, which is not a declared register and not the value of any word. Operations that round may name a
+/// rounding.
 #[derive(Clone, Copy, Debug, PartialEq, Eq)]
 pub enum Line {
     Set {
@@ -65,7 +65,7 @@ pub enum Line {
     },
 }
 
-/// Which operands the operation takes.
+/// Returns which operands the operation takes.
 pub fn shape_of(op: Op) -> Shape
     ensures { result ≡ shape op }
 {
@@ -86,7 +86,7 @@ pub fn shape_of(op: Op) -> Shape
     }
 }
 
-/// Whether the operation may name its rounding.
+/// Returns whether the operation may name its rounding.
 pub fn takes_rounding(op: Op) -> bool
     ensures { result ≡ rounds op }
 {
@@ -96,7 +96,7 @@ pub fn takes_rounding(op: Op) -> bool
     }
 }
 
-/// The line, where no token is left.
+/// Returns the line if no token remains, and otherwise `None`.
 fn at_end(tokens: &Tokens<'_>, line: Line) -> Option<Line>
     ensures { result ≡ at_end tokens.now line }
 {
@@ -111,7 +111,7 @@ fn set_of(dest: u128, tokens: &mut Tokens<'_>) -> Option<Line>
     at_end(tokens, Line::Set { dest, literal })
 }
 
-/// The rounding that the last token names. The tokens come by value, so that those of the lines without a
+/// Returns the rounding that the last token names. The tokens are passed by value, so that those of the lines without a
 /// rounding stay in registers.
 #[inline(never)]
 fn named_rounding(op: Op, mut tokens: Tokens<'_>) -> Option<Rounding>
@@ -125,7 +125,7 @@ fn named_rounding(op: Op, mut tokens: Tokens<'_>) -> Option<Rounding>
     }
 }
 
-/// The rounding that the last token names, or none where no token is left.
+/// Returns the rounding that the last token names, or none if no token remains.
 #[inline(always)]
 #[tactic(auto, unfolding(crate::specs::inside::Parser::rounding_at))]
 fn rounding_at_end(op: Op, tokens: Tokens<'_>) -> Option<Option<Rounding>>
@@ -203,7 +203,7 @@ fn apply_of(dest: u128, policy: Policy, mut tokens: Tokens<'_>) -> Option<Line>
     operands_of(dest, policy, op, a, tokens)
 }
 
-/// The line that the tokens are.
+/// Returns the line with these tokens, or `None` if no line has them.
 #[tactic(auto, unfolding(crate::specs::inside::Parser::line_at))]
 fn line_from(mut tokens: Tokens<'_>) -> Option<Line>
     ensures { result ≡ line_at tokens.entry }
@@ -222,12 +222,12 @@ fn line_from(mut tokens: Tokens<'_>) -> Option<Line>
     apply_of(dest, policy, tokens)
 }
 
-/// The line whose text the piece is, without its newline; None exactly where no line has that text.
+/// Returns the line whose text the piece is, without its newline, or `None` if no line has that text.
 pub fn parse_line(piece: &[u8]) -> Option<Line>
-    // None exactly where the piece is no line's text.
+    // None: no line has the piece as its text.
     ensures none { IfNone result
         ((line : ScriptLine) → IsLine line → line_text line ≡ piece.now → ⊥) }
-    // Otherwise the capped form of the line whose text it is.
+    // Otherwise: the capped form of the line whose text it is.
     ensures found { IfSome result (λ read. (line : ScriptLine)
         × IsLine line × (line_text line ≡ piece.now) × (checked_script_line read ≡ Some (capped line))) }
 {

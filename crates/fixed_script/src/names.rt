@@ -1,4 +1,4 @@
-//! The names that a script gives to policies and operations.
+//! The names of policies, roundings and operations in a script.
 
 ghost use Rattle.std.specs.Prelude.{◌≡◌, ◌∷◌, ◌++◌, IfSome, Some, length, true};
 ghost use Rattle.fixed_text.specs.Words.{named};
@@ -8,7 +8,7 @@ ghost use Rattle.fixed_text.specs.Tokens.{tokens_of, next_by};
 
 use fixed_word::Rounding;
 
-/// A policy, by its name: `checked saturating wrapping overflowing strict`.
+/// A policy. The names are `checked saturating wrapping overflowing strict`.
 #[derive(Clone, Copy, Debug, PartialEq, Eq)]
 pub enum Policy {
     Checked,
@@ -18,7 +18,7 @@ pub enum Policy {
     Strict,
 }
 
-/// An operation, by its name, which is the variant's in snake case.
+/// An operation. Its name is that of the variant in snake case.
 #[derive(Clone, Copy, Debug, PartialEq, Eq)]
 pub enum Op {
     Neg,
@@ -45,7 +45,7 @@ pub enum Op {
     NextPowerOfTwo,
 }
 
-/// The policy of that name.
+/// Returns the policy with this name, or `None` if there is none.
 pub(crate) fn policy_of(token: &[u8]) -> Option<Policy>
     ensures { result ≡ policy_named token.now }
 {
@@ -64,7 +64,7 @@ pub(crate) fn policy_of(token: &[u8]) -> Option<Policy>
     }
 }
 
-/// The rounding of that name.
+/// Returns the rounding with this name, or `None` if there is none.
 pub(crate) fn rounding_of(token: &[u8]) -> Option<Rounding>
     ensures { result ≡ rounding_named token.now }
 {
@@ -79,7 +79,7 @@ pub(crate) fn rounding_of(token: &[u8]) -> Option<Rounding>
     }
 }
 
-/// Whether the bytes are those of the name. All are looked at, so that they are compared at once.
+/// Returns whether the bytes are those of the name. All bytes are read, so that the compiler compares them at once.
 #[inline(always)]
 fn is_name(bytes: &[u8], name: &[u8]) -> bool
     requires { length bytes.now ≡ length name.now }
@@ -92,7 +92,7 @@ fn is_name(bytes: &[u8], name: &[u8]) -> bool
     same
 }
 
-/// What comes after a name that stands in front.
+/// Returns the bytes after the name, if it is at the front.
 #[inline(always)]
 fn after<'a>(bytes: &'a [u8], name: &[u8]) -> Option<&'a [u8]>
     ensures { IfSome result (λ rest. bytes.now ≡ name.now ++ rest.now) }
@@ -104,8 +104,8 @@ fn after<'a>(bytes: &'a [u8], name: &[u8]) -> Option<&'a [u8]>
     }
 }
 
-/// The policy that is the first token, and what comes after its space. None also where no space comes
-/// after it.
+/// Returns the policy that is the first token, and the bytes after its space. `None` decides nothing: the token may be
+/// a policy that no space follows.
 #[inline(always)]
 pub(crate) fn front_policy(bytes: &[u8]) -> Option<(Policy, &[u8])>
     ensures { IfSome result (λ found. tokens_of bytes.now
@@ -126,7 +126,7 @@ pub(crate) fn front_policy(bytes: &[u8]) -> Option<(Policy, &[u8])>
     }
 }
 
-/// The operation of that name, among sums, products, quotients and their kin.
+/// Returns the operation with this name, among sums, products, quotients and the like.
 fn arithmetic_op_of(token: &[u8]) -> Option<Op>
     ensures { result ≡ named op_name arithmetic_ops token.now }
 {
@@ -151,7 +151,7 @@ fn arithmetic_op_of(token: &[u8]) -> Option<Op>
     }
 }
 
-/// The operation of that name, among those by an integer and those of whole quotients.
+/// Returns the operation with this name, among those by an integer and those of whole quotients.
 fn whole_op_of(token: &[u8]) -> Option<Op>
     ensures { result ≡ named op_name whole_ops token.now }
 {
@@ -172,7 +172,7 @@ fn whole_op_of(token: &[u8]) -> Option<Op>
     }
 }
 
-/// The operation of that name, among distances, roots, signs, remainders and powers.
+/// Returns the operation with this name, among distances, roots, signs, remainders and powers.
 fn other_op_of(token: &[u8]) -> Option<Op>
     ensures { result ≡ named op_name other_ops token.now }
 {
@@ -197,7 +197,7 @@ fn other_op_of(token: &[u8]) -> Option<Op>
     }
 }
 
-/// The operation of that name.
+/// Returns the operation with this name, or `None` if there is none.
 pub(crate) fn op_of(token: &[u8]) -> Option<Op>
     ensures { result ≡ op_named token.now }
 {
@@ -210,7 +210,7 @@ pub(crate) fn op_of(token: &[u8]) -> Option<Op>
     }
 }
 
-/// The operation that is the first token, if its name has so many bytes, and what comes after its space.
+/// Returns the operation that is the first token, if its name has `length` bytes, and the bytes after its space.
 #[inline(always)]
 fn front_op_of(bytes: &[u8], length: usize) -> Option<(Op, &[u8])>
     ensures { IfSome result (λ found. next_by op_named (tokens_of bytes.now)
@@ -223,8 +223,8 @@ fn front_op_of(bytes: &[u8], length: usize) -> Option<(Op, &[u8])>
     Some((op, &bytes[length + 1..]))
 }
 
-/// The operation that is the first token, and what comes after its space. None also where the name has
-/// another length than the most common ones.
+/// Returns the operation that is the first token, and the bytes after its space. `None` decides nothing: the name may
+/// have another length than the most common ones.
 #[inline(always)]
 pub(crate) fn front_op(bytes: &[u8]) -> Option<(Op, &[u8])>
     ensures { IfSome result (λ found. next_by op_named (tokens_of bytes.now)

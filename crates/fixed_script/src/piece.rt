@@ -1,4 +1,4 @@
-//! The line, and the header, of a piece, which ends in a newline.
+//! The line and the header of a piece, which ends in a newline.
 
 ghost use Rattle.fixed_script.specs.ReadPieces.{ReadsLine, ReadsHeader};
 
@@ -6,7 +6,7 @@ use crate::header::{Header, parse_header};
 use crate::line::{Line, parse_line};
 use fixed_text::body_of;
 
-/// The line of a piece.
+/// Returns the line of a piece, or `None` if the piece is not the text of a line and a newline.
 pub fn line_of_piece(piece: &[u8]) -> Option<Line>
     ensures { ReadsLine piece.now result }
 {
@@ -16,7 +16,7 @@ pub fn line_of_piece(piece: &[u8]) -> Option<Line>
     }
 }
 
-/// The header of a piece.
+/// Returns the header of a piece, or `None` if the piece is not the text of a header and a newline.
 pub fn header_of_piece(piece: &[u8]) -> Option<Header<'_>>
     ensures { ReadsHeader piece.now result }
 {

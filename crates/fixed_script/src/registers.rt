@@ -6,7 +6,7 @@ ghost use Rattle.fixed_script.specs.inside.Parser.{register_at};
 
 use fixed_digits::natural_of;
 
-/// The number of a register.
+/// Returns the number of a register, or `None` if the token does not name one.
 #[tactic(auto, unfolding(crate::specs::inside::Parser::register_at))]
 pub(crate) fn register_of(token: &[u8]) -> Option<u128>
     ensures { result ≡ register_at token.now }
@@ -17,8 +17,8 @@ pub(crate) fn register_of(token: &[u8]) -> Option<u128>
     }
 }
 
-/// The register of one digit that is the first token, and what comes after its space. None also where the
-/// token is another.
+/// Returns the register of one digit that is the first token, and the bytes after its space. `None` decides nothing:
+/// the token may be another register.
 #[inline(always)]
 pub(crate) fn front_short_register(bytes: &[u8]) -> Option<(u8, Option<&[u8]>)>
     ensures { IfSome result (λ found. next_by register_at (tokens_of bytes.now)

@@ -1,4 +1,4 @@
-//! The tokens of a line, taken one after another.
+//! Taking the tokens of a line one after another.
 
 ghost use Rattle.std.specs.Prelude.{◌≡◌, ◌∷◌, IfSome, IfNone, Some, None};
 ghost use Rattle.fixed_text.specs.Tokens.{tokens_of, tokens_left, next_by};
@@ -10,7 +10,8 @@ use crate::names::{Op, Policy, front_op, front_policy, op_of};
 use crate::registers::{front_short_register, register_of};
 use fixed_text::{Tokens, cut};
 
-/// The register that is the first token, and what comes after its space.
+/// Returns the register that is the first token, and the bytes after its space, or `None` if the token is not a
+/// register.
 #[inline(never)]
 fn register_in(piece: &[u8]) -> Option<(u128, Option<&[u8]>)>
     ensures some { IfSome result
@@ -22,7 +23,8 @@ fn register_in(piece: &[u8]) -> Option<(u128, Option<&[u8]>)>
     Some((number, rest))
 }
 
-/// The whole number that is the first token, and what comes after its space.
+/// Returns the whole number that is the first token, and the bytes after its space, or `None` if the token is not a
+/// whole number.
 #[inline(never)]
 fn literal_in(piece: &[u8]) -> Option<(Literal, Option<&[u8]>)>
     ensures some { IfSome result
@@ -34,7 +36,7 @@ fn literal_in(piece: &[u8]) -> Option<(Literal, Option<&[u8]>)>
     Some((literal, rest))
 }
 
-/// Takes the next token, a register.
+/// Takes the next token and returns its register, or returns `None` if there is no token or it is not a register.
 #[inline(always)]
 pub(crate) fn take_register(tokens: &mut Tokens<'_>) -> Option<u128>
     ensures some { IfSome result (λ n. next_by register_at tokens.old ≡ Some (n, tokens.new)) }
@@ -50,7 +52,8 @@ pub(crate) fn take_register(tokens: &mut Tokens<'_>) -> Option<u128>
     Some(number)
 }
 
-/// Takes the next token, a whole number.
+/// Takes the next token and returns its whole number, or returns `None` if there is no token or it is not a whole
+/// number.
 #[inline(always)]
 pub(crate) fn take_literal(tokens: &mut Tokens<'_>) -> Option<Literal>
     ensures some { IfSome result (λ n. next_by literal_at tokens.old ≡ Some (n, tokens.new)) }
@@ -62,7 +65,7 @@ pub(crate) fn take_literal(tokens: &mut Tokens<'_>) -> Option<Literal>
     Some(literal)
 }
 
-/// Takes the next token, if it is a policy.
+/// Takes the next token if it is a policy, and returns that. If it returns `None`, it took no token.
 #[inline(always)]
 pub(crate) fn take_policy(tokens: &mut Tokens<'_>) -> Option<Policy>
     ensures some { IfSome result (λ policy. tokens.old ≡ policy_name policy ∷ tokens.new) }
@@ -74,7 +77,7 @@ pub(crate) fn take_policy(tokens: &mut Tokens<'_>) -> Option<Policy>
     Some(policy)
 }
 
-/// Takes the next token, an operation.
+/// Takes the next token and returns its operation, or returns `None` if there is no token or it is not an operation.
 #[inline(always)]
 pub(crate) fn take_op(tokens: &mut Tokens<'_>) -> Option<Op>
     ensures some { IfSome result (λ n. next_by op_named tokens.old ≡ Some (n, tokens.new)) }

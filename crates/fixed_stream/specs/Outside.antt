@@ -1,20 +1,20 @@
--- What contracts see of a source and of a sink, and what a read and a write say of it.
+-- What contracts see of a source and of a sink, and how a read and a write change it.
 use Rattle.std.specs.Prelude.{◌≡◌, ℕ, ◌+◌, ◌-◌, ◌^◌, ◌<◌, ◌≤◌, ◌⊎◌, min, List, Option, Result, Ok, Err}
 use Rattle.fixed_stream.specs.declared.outside.Refusal.{Refusal}
 use Rattle.fixed_stream.specs.declared.outside.Refusal.TheVariants.{Failed as RefusedFailed, Memory}
 
--- the bytes left, where it says which they are, and a count of faults
+-- the bytes left, if the source states them, and a count of faults
 pub record SourceState : Type 0 where
   pub left : Option (List ℕ)
   pub faults : ℕ
 
--- the bytes taken, where it says which they are, a count of faults and one of shortages of memory
+-- the bytes taken, if the sink states them, a count of faults and one of shortages of memory
 pub record SinkState : Type 0 where
   pub taken : Option (List ℕ)
   pub faults : ℕ
   pub shortages : ℕ
 
--- the greatest value of a count, at which it stands still
+-- the greatest value of a count, at which it saturates
 abbrev pub last_count : ℕ
 last_count = 2 ^ 64 - 1
 
@@ -22,7 +22,7 @@ last_count = 2 ^ 64 - 1
 abbrev pub next_count : ℕ → ℕ
 next_count n = min (n + 1) last_count
 
--- the count rose, or stands at its last value; it did not fall
+-- the count rose, or is saturated; it did not fall
 abbrev pub RoseOrLast : ℕ → ℕ → Type 0
 RoseOrLast before now = (before ≤ now) × ((before < now) ⊎ (now ≡ last_count))
 

@@ -1,8 +1,8 @@
-//! Bytes into the front of a buffer.
+//! Copying bytes to the front of a buffer.
 
 ghost use Rattle.std.specs.Prelude.{◌≡◌, take, min, length};
 
-/// Copies as many bytes as are there, as fit and as are allowed, and says how many.
+/// Copies as many bytes as there are, as fit and as `most` allows, and returns how many.
 pub(crate) fn copy_front(bytes: &[u8], most: usize, buf: &mut [u8]) -> usize
     ensures count { result ≡ min most (min (length buf.old) (length bytes.now)) }
     ensures front { take result buf.new ≡ take result bytes.now }

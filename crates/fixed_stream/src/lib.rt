@@ -1,5 +1,5 @@
-//! What a program reads from and writes to, for whoever calls the calculator: sources and sinks, and those in
-//! memory, which never fail or fail where they are told to. All of this is this project's own.
+//! Sources and sinks: what a program reads from and writes to. Those in memory do not fail, or fail in the calls that
+//! their creator lists. The Rust crate `fixed` does not have them.
 #![tactic(auto)]
 
 mod copy;

@@ -1,8 +1,8 @@
-//! A source and a sink in memory that may fail, for whoever tries a caller against failing calls.
+//! A source and a sink in memory that may fail, for tests of how a caller handles failing calls.
 //!
-//! Calls are numbered from 1. A call fails exactly where its number is listed, and raises the count of
-//! faults; both numbers stay at the greatest `u64` once they are there. What a call does not refuse it does
-//! for as many bytes as it can, and at most for `most`.
+//! Calls are numbered from 1. A call fails if its number is listed, and then increments the count of faults. The number
+//! of calls and the count of faults saturate at `u64::MAX`. Other calls move as many bytes as they can, at most `most`,
+//! unless a write runs out of memory.
 
 ghost use Rattle.std.specs.Prelude.{◌≡◌, ◌≤◌, ◌<◌, [], length, min, IfOk, IsErr, IsErrOf, IsTrue, ◌↔◌, OnErr, OnOk, Some};
 ghost use Rattle.std.specs.Io.KnownBytes.{ReadConsumes, WriteAppends};
@@ -14,7 +14,7 @@ use crate::outside::{Failed, Refusal, Sink, Source};
 use std::alloc::Global;
 use std::marker::Model;
 
-/// A source in memory that may fail: it gives the bytes that it was made of.
+/// A source in memory that may fail. It returns the bytes that it was created with.
 #[derive(Drop)]
 pub struct MemorySource {
     bytes: Vec<u8>,
@@ -37,8 +37,8 @@ impl Model for MemorySource {
 }
 
 impl MemorySource {
-    /// A source of these bytes that gives at most `most` of them a call, and whose calls fail where their
-    /// numbers are listed. Condition: `most` is at least 1.
+    /// Returns a source of these bytes. Each read returns at most `most` of them, and fails if its number is listed in
+    /// `failing`. Precondition: `most` is at least 1.
     pub fn new(bytes: Vec<u8>, most: usize, failing: Vec<u64>) -> MemorySource
         requires { 1 ≤ most }
         ensures { result ≡ record { left = bytes.items; most = most; failing = failing.items; calls = 0; faults = 0 } }
@@ -83,7 +83,7 @@ impl Source for MemorySource {
     }
 }
 
-/// A sink in memory that may fail, or find no memory.
+/// A sink in memory that may fail, or run out of memory.
 #[derive(Drop)]
 pub struct MemorySink {
     bytes: Vec<u8>,
@@ -106,8 +106,8 @@ impl Model for MemorySink {
 }
 
 impl MemorySink {
-    /// A sink that has taken nothing, takes at most `most` bytes a call, and whose calls fail where their
-    /// numbers are listed. Condition: `most` is at least 1.
+    /// Returns a sink that has taken no bytes. Each write takes at most `most` bytes, and fails if its number is listed
+    /// in `failing`. Precondition: `most` is at least 1.
     pub fn new(alloc: Global, most: usize, failing: Vec<u64>) -> MemorySink
         requires { 1 ≤ most }
         ensures { result ≡ record { taken = []; most = most; failing = failing.items; calls = 0; faults = 0; shortages = 0 } }
@@ -122,7 +122,7 @@ impl MemorySink {
         }
     }
 
-    /// The bytes taken.
+    /// Returns the bytes that the sink has taken.
     pub fn taken(&self) -> &[u8]
         ensures { result.now ≡ self.now.taken }
     {

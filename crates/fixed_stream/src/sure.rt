@@ -1,4 +1,4 @@
-//! A source and a sink in memory that never fail.
+//! A source in memory that never fails, and a sink in memory that fails only if memory runs out.
 
 ghost use Rattle.std.specs.Prelude.{◌≡◌, ◌≤◌, ◌<◌, [], drop, length, IfErr, IfOk, IsErrOf, IsOk, Some};
 ghost use Rattle.std.specs.Io.KnownBytes.{ReadConsumes, WriteAppends};
@@ -8,7 +8,7 @@ use crate::copy::copy_front;
 use crate::outside::{Failed, Refusal, Sink, Source};
 use std::alloc::Global;
 
-/// A source in memory that never fails: it gives the bytes that it was made of.
+/// A source in memory that never fails. It returns the bytes that it was created with.
 #[derive(Drop)]
 pub struct SureSource {
     bytes: Vec<u8>,
@@ -17,7 +17,7 @@ pub struct SureSource {
 }
 
 impl SureSource {
-    /// A source of these bytes.
+    /// Returns a source of these bytes.
     pub fn new(bytes: Vec<u8>) -> SureSource
         ensures { ⟦<SureSource as Source>⟧.state result
             ≡ record { left = Some bytes.items; faults = 0 } }
@@ -43,7 +43,7 @@ impl Source for SureSource {
     }
 }
 
-/// A sink in memory that never answers `Failed`. Where it finds no memory, its count of shortages rises.
+/// A sink in memory that never returns `Refusal::Failed`. If it runs out of memory, its count of shortages rises.
 #[derive(Drop)]
 pub struct SureSink {
     bytes: Vec<u8>,
@@ -51,7 +51,7 @@ pub struct SureSink {
 }
 
 impl SureSink {
-    /// A sink that has taken nothing.
+    /// Returns a sink that has taken no bytes.
     pub fn new(alloc: Global) -> SureSink
         ensures { ⟦<SureSink as Sink>⟧.state result
             ≡ record { taken = Some []; faults = 0; shortages = 0 } }
@@ -62,7 +62,7 @@ impl SureSink {
         }
     }
 
-    /// The bytes taken.
+    /// Returns the bytes that the sink has taken.
     pub fn taken(&self) -> &[u8]
         ensures { (⟦<SureSink as Sink>⟧.state self.now).taken ≡ Some result.now }
     {

@@ -1,4 +1,4 @@
--- What the calls of a run say.
+-- What the calls of a run return.
 use Rattle.std.specs.Prelude.{◌≡◌, ◌++◌, ℕ, List, Result, Ok, Err}
 use Rattle.fixed_text.specs.declared.fault.Refusal.{Refusal}
 use Rattle.fixed_text.specs.declared.fault.Refusal.TheVariants.{Unformed, Unfit, Wanting}
@@ -6,18 +6,18 @@ use Rattle.fixed_text.specs.declared.fault.RunFault.{RunFault}
 use Rattle.fixed_text.specs.declared.fault.RunFault.TheVariants.{Syntax, OutOfRange, Memory}
 use Rattle.fixed_text.specs.Runs.{Reading, Malformed, Misfit, Read, Ending, Printed, NoForm, NoRange}
 
--- why nothing was read; that memory ran out may be said of any piece
+-- why nothing was read; any piece may be refused because memory ran out
 abbrev pub IsRefusal : {A : Type 0} → Reading A → Refusal → Type 0
 IsRefusal reading Unformed = reading ≡ Malformed
 IsRefusal reading Unfit = reading ≡ Misfit
 IsRefusal reading Wanting = Unit {0}
 
--- what was read, as the view shows it, or why nothing was
+-- what was read, as the view shows it, or why nothing was read
 abbrev pub IsAnswerOfReading : {A B : Type 0} → (B → A) → Reading A → Result B Refusal → Type 0
 IsAnswerOfReading view reading (Ok x) = reading ≡ Read (view x)
 IsAnswerOfReading view reading (Err refusal) = IsRefusal reading refusal
 
--- a line leaves a state and adds what it prints
+-- a line changes the state and adds what it prints
 abbrev pub IsStepOfLine : {S : Type 0} → Reading (S × List ℕ) → Result (Unit {0}) Refusal → S → List ℕ → List ℕ → Type 0
 IsStepOfLine reading (Ok _) state before now = (bytes : List ℕ) × (reading ≡ Read (state, bytes)) × (now ≡ before ++ bytes)
 IsStepOfLine reading (Err refusal) state before now = IsRefusal reading refusal

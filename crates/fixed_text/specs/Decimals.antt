@@ -1,20 +1,20 @@
--- Whole numbers, as the code holds them: a magnitude of 2 ^ 64 or more is held as 2 ^ 64.
+-- Whole numbers as the code represents them: 2 ^ 64 stands for each magnitude of 2 ^ 64 or more.
 use Rattle.std.specs.Prelude.{◌≡◌, ◌≢◌, ℕ, suc, ℤ, pos, negsuc, true, false, List, Option, Some, None}
 use Rattle.fixed_word.specs.Decimal.{whole_text}
 use Rattle.fixed_word.specs.Format.{with_sign}
 use Rattle.fixed_digits.specs.Numerals.{cap}
 use Rattle.fixed_text.specs.declared.decimal.Decimal.{Decimal}
 
--- how a whole number is held
+-- a whole number, capped
 abbrev pub decimal_of : ℤ → Decimal
 decimal_of (pos n) = record { below_zero = false; magnitude = cap n }
 decimal_of (negsuc n) = record { below_zero = true; magnitude = cap (suc n) }
 
--- the whole number that is held
+-- the whole number of a capped one
 abbrev pub decimal_value : Decimal → ℤ
 decimal_value d = with_sign d.below_zero d.magnitude
 
--- the piece is the decimal of a whole number, which is held, or of none
+-- the piece is the decimal of a whole number, which is read capped, or of none
 abbrev pub IsReading : List ℕ → Option Decimal → Type 0
 IsReading piece (Some d) = (x : ℤ) × (whole_text x ≡ piece) × (d ≡ decimal_of x)
 IsReading piece None = (x : ℤ) → whole_text x ≢ piece

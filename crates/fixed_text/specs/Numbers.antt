@@ -1,4 +1,4 @@
--- The number whose decimal a token is, if it is one.
+-- The number whose decimal a token is, if there is one.
 use Rattle.std.specs.Prelude.{ℕ, ℤ, ◌==◌, ◌&&◌, Bool, if◌then◌else◌, List, [], ◌∷◌, Option, Some, None}
 use Rattle.std.specs.Str.Parse.{digits_value}
 use Rattle.fixed_word.specs.Format.{with_sign}
@@ -13,7 +13,7 @@ unfoldable pub numbered_in : ℕ → List ℕ → Option ℕ
 numbered_in letter [] = None
 numbered_in letter (c ∷ cs) = if c == letter then natural_in cs else None
 
--- no minus stands before 0
+-- no minus precedes 0
 abbrev pub signed_by : Bool → Option ℕ → Option ℤ
 signed_by minus None = None
 signed_by minus (Some n) = if minus && n == 0 then None else Some (with_sign minus n)
@@ -21,13 +21,13 @@ signed_by minus (Some n) = if minus && n == 0 then None else Some (with_sign min
 unfoldable pub whole_in : List ℕ → Option ℤ
 whole_in token = signed_by (has_minus token) (natural_in (without_minus token))
 
--- the number that is all that is left
+-- the number of the remaining tokens, if they are one decimal
 unfoldable pub only_number : List (List ℕ) → Option ℤ
 only_number ts = do
   x ← next_by whole_in ts
   at_end x.1 x.0
 
--- the numbers of tokens that are decimals, each of them
+-- the numbers of the tokens, if each one is a decimal
 abbrev pub before_others : Option ℤ → Option (List ℤ) → Option (List ℤ)
 before_others None others = None
 before_others (Some x) None = None

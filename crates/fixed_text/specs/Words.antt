@@ -4,7 +4,7 @@ use Rattle.std.specs.Str.{bytes_eq}
 use Rattle.fixed_text.specs.declared.names.WordName.{WordName}
 use Rattle.fixed_text.specs.declared.names.WordName.TheVariants.{I8, I16, I32, I64, U8, U16, U32, U64}
 
--- a word's name, whether it has numbers below 0, and how many bits it has
+-- a word's name, whether the word is signed, and how many bits it has
 abbrev pub facts_of : WordName → List ℕ × Bool × ℕ
 facts_of I8 = (codes "i8", true, 8)
 facts_of I16 = (codes "i16", true, 16)
@@ -24,7 +24,7 @@ is_signed word = (facts_of word).1
 abbrev pub width : WordName → ℕ
 width word = (facts_of word).2
 
--- the first of the values whose name the text is
+-- the first of the values whose name is the text
 abbrev pub named : {X : Type 0} → (X → List ℕ) → List X → List ℕ → Option X
 named name [] text = None
 named name (x ∷ xs) text = if bytes_eq text (name x) then Some x else named name xs text

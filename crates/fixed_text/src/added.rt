@@ -1,4 +1,4 @@
-//! Bytes and decimals at the end of a buffer that has room for them.
+//! Adding bytes and decimals at the end of a buffer that has room for them.
 
 ghost use Rattle.std.specs.Prelude.{◌≡◌, ◌+◌, ◌++◌, ◌≤◌, length, vec_len};
 ghost use Rattle.std.specs.Vec.{vec_capacity};
@@ -6,7 +6,7 @@ ghost use Rattle.fixed_word.specs.Decimal.{natural_text, whole_text};
 
 use fixed_digits::decimal_into;
 
-/// Adds bytes for which there is room.
+/// Adds the bytes at the end. Precondition: the buffer's capacity has room for them.
 pub fn push_all(out: &mut Vec<u8>, bytes: &[u8])
     requires { vec_len out.old + length bytes.now ≤ vec_capacity out.old }
     ensures items { out.new.items ≡ out.old.items ++ bytes.now }
@@ -16,7 +16,7 @@ pub fn push_all(out: &mut Vec<u8>, bytes: &[u8])
     let _done = out.extend_from_slice(bytes);
 }
 
-/// Adds the decimal of a natural number of 64 bits.
+/// Adds the decimal of a natural number of 64 bits. Precondition: the buffer's capacity has room for it.
 fn push_small(out: &mut Vec<u8>, n: u64)
     requires { vec_len out.old + length (natural_text n) ≤ vec_capacity out.old }
     ensures items { out.new.items ≡ out.old.items ++ natural_text n }
@@ -28,7 +28,7 @@ fn push_small(out: &mut Vec<u8>, n: u64)
     push_all(out, &buffer[start..]);
 }
 
-/// Adds the decimal of a natural number.
+/// Adds the decimal of a natural number at the end. Precondition: the buffer's capacity has room for it.
 pub fn push_natural(out: &mut Vec<u8>, n: u128)
     requires { vec_len out.old + length (natural_text n) ≤ vec_capacity out.old }
     ensures items { out.new.items ≡ out.old.items ++ natural_text n }
@@ -43,7 +43,7 @@ pub fn push_natural(out: &mut Vec<u8>, n: u128)
     }
 }
 
-/// Adds the decimal of a whole number.
+/// Adds the decimal of a whole number at the end. Precondition: the buffer's capacity has room for it.
 pub fn push_whole(out: &mut Vec<u8>, n: i128)
     requires { vec_len out.old + length (whole_text n) ≤ vec_capacity out.old }
     ensures items { out.new.items ≡ out.old.items ++ whole_text n }

@@ -1,4 +1,4 @@
-//! Decimals of whole numbers, held capped.
+//! Decimals of whole numbers, capped at `2^64`.
 
 ghost use Rattle.std.specs.Prelude.{◌≡◌, Some};
 ghost use Rattle.std.specs.Option.{option_map};
@@ -10,18 +10,18 @@ ghost use Rattle.fixed_text.specs.inside.Reader.{whole_at};
 use fixed_digits::{natural_of, sign_of};
 use fixed_word::{Outcome, Side, Word, outcome_of};
 
-/// A whole number: its sign, and its magnitude. A magnitude of `2^64` or more is held as `2^64`, which
-/// is no value of any word.
+/// A whole number, by its sign and its magnitude. The magnitude is capped: `2^64` stands for each one of `2^64` or
+/// more, which no word has as its value.
 #[derive(Clone, Copy, Debug, PartialEq, Eq)]
 pub struct Decimal {
     /// Whether the number is below 0.
     pub below_zero: bool,
-    /// The magnitude, capped.
+    /// The magnitude, or `2^64` if it is larger.
     pub magnitude: u128,
 }
 
-/// The whole number that has this decimal: `0`, or digits with no 0 in front, with a `-` before them for a
-/// number below 0. None exactly where no whole number has it.
+/// Returns the whole number with this decimal: `0`, or digits without a leading 0, after a `-` if the number is below
+/// 0. Returns `None` if no whole number has it.
 pub fn read_decimal(piece: &[u8]) -> Option<Decimal>
     ensures reading { IsReading piece.now result }
     ensures held { result ≡ option_map decimal_of (whole_in piece.now) }
@@ -29,7 +29,7 @@ pub fn read_decimal(piece: &[u8]) -> Option<Decimal>
     whole_of(piece)
 }
 
-/// The word of this number. None exactly where the number does not fit.
+/// Returns the word of this number, or `None` if it does not fit.
 pub fn value_in<T: Word>(number: &Decimal) -> Option<T>
     ensures { option_map T.value result
         ≡ checked T.SIGNED T.BITS (Some (decimal_value number.now)) }
@@ -41,7 +41,7 @@ pub fn value_in<T: Word>(number: &Decimal) -> Option<T>
     }
 }
 
-/// A whole number, which may have a minus, but no minus before 0.
+/// Returns the whole number that the token writes, or `None` if it is not a decimal, such as `-0`.
 fn whole_of(token: &[u8]) -> Option<Decimal>
     ensures { result ≡ whole_at token.now }
 {

@@ -1,4 +1,4 @@
-//! Laws of the definitions. These functions do nothing: each contract is the law.
+//! Laws of the definitions. These functions do nothing: the contract of each is the law.
 
 ghost use Rattle.std.specs.Prelude.{◌≡◌, ◌∷◌, Bool, List, Some, true, ℕ, ℤ};
 ghost use Rattle.std.specs.List.{list_all};
@@ -11,15 +11,14 @@ ghost use Rattle.fixed_text.specs.Texts.{IsReader, no_space, numbered_text, spac
 ghost use Rattle.fixed_text.specs.Tokens.{tokens_of};
 ghost use Rattle.fixed_text.specs.Words.{word_name, word_named};
 
-/// A whole number as it is held fits the words that the number fits, and is the number there: what is capped
-/// fits none.
+/// A capped number fits the same words as the number, with the same value: a number that is changed fits no word.
 pub fn cap_law()
     ensures { (signed : Bool) (n : ℕ) (x : ℤ) → IsWidth n
         → checked signed n (Some (decimal_value (decimal_of x))) ≡ checked signed n (Some x) }
 {}
 
-/// What is read of a token is what has the token as its text. The tokens of a piece are those that, with one
-/// space between two, are the piece.
+/// Reading a token returns the value whose text the token is. The tokens of a piece, joined by single spaces, are the
+/// piece. The tokens of joined tokens without spaces are those tokens.
 pub fn reading_law()
     ensures naturals { IsReader natural_text natural_in }
     ensures wholes { IsReader whole_text whole_in }

@@ -1,7 +1,7 @@
-//! What the runs over text share: a script's pieces, the tokens of a piece, decimals, read and written, the
-//! bytes of an output, and one loop over the pieces of a script.
+//! Text for the runs: cutting a script into pieces and a piece into tokens, reading and writing decimals, the bytes of
+//! an output, and one loop over the pieces of a script.
 //!
-//! All of this is this project's own. Contracts speak of the decimals and pieces that
+//! The Rust crate `fixed` does not have these functions. Contracts use the decimals and pieces that
 //! [`fixed_word`](fixed_word) defines.
 #![tactic(auto)]
 

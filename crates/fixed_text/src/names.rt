@@ -1,9 +1,9 @@
-//! The names that a script gives to words.
+//! The names of words in a script.
 
 ghost use Rattle.std.specs.Prelude.{◌≡◌};
 ghost use Rattle.fixed_text.specs.Words.{word_named};
 
-/// The word of a script, by its name: `i8 i16 i32 i64 u8 u16 u32 u64`.
+/// A word of a script. The names are `i8 i16 i32 i64 u8 u16 u32 u64`.
 #[derive(Clone, Copy, Debug, PartialEq, Eq)]
 pub enum WordName {
     I8,
@@ -16,7 +16,7 @@ pub enum WordName {
     U64,
 }
 
-/// The word of that name.
+/// Returns the word with this name, or `None` if there is none.
 pub fn word_of(token: &[u8]) -> Option<WordName>
     ensures { result ≡ word_named token.now }
 {

@@ -1,4 +1,4 @@
-//! The numbers that tokens are, and their words.
+//! Reading tokens as numbers and as words.
 
 ghost use Rattle.std.specs.Prelude.{◌≡◌, Some, map};
 ghost use Rattle.std.specs.Option.{option_map};
@@ -15,16 +15,15 @@ use fixed_digits::natural_of;
 use fixed_word::{RawWord, Word};
 use std::alloc::Global;
 
-/// The natural number that has this decimal. One of `2^64` or more is held as `2^64`. None exactly where no
-/// natural number has it.
+/// Returns the natural number with this decimal, or `2^64` if it is larger. Returns `None` if no natural number has it.
 pub fn read_natural(token: &[u8]) -> Option<u128>
     ensures { result ≡ option_map cap (natural_in token.now) }
 {
     natural_of(token)
 }
 
-/// The natural number whose decimal stands after this letter. One of `2^64` or more is held as `2^64`. None
-/// exactly where the token is no such letter and decimal.
+/// Returns the natural number whose decimal follows the letter, or `2^64` if it is larger. Returns `None` if the token
+/// is not this letter and a decimal.
 #[tactic(auto, unfolding(crate::specs::Numbers::numbered_in))]
 pub fn read_numbered(letter: u8, token: &[u8]) -> Option<u128>
     ensures { result ≡ option_map cap (numbered_in letter token.now) }
@@ -41,8 +40,7 @@ pub fn read_numbered(letter: u8, token: &[u8]) -> Option<u128>
     }
 }
 
-/// The whole number of the tokens that are left, which are one decimal and nothing else. None exactly
-/// where they are anything else.
+/// Returns the whole number that the remaining tokens write, or `None` unless they are one decimal and nothing else.
 #[tactic(auto, unfolding(crate::specs::Numbers::only_number))]
 pub fn read_only_number(mut tokens: Tokens<'_>) -> Option<Decimal>
     ensures { result ≡ option_map decimal_of (only_number tokens.entry) }
@@ -55,7 +53,7 @@ pub fn read_only_number(mut tokens: Tokens<'_>) -> Option<Decimal>
     }
 }
 
-/// The word of a number. Refused as unfit exactly where the number does not fit.
+/// Returns the word of a number. Fails with `Refusal::Unfit` if the number does not fit.
 pub fn fitting<T: Word>(number: &Decimal) -> Result<T, Refusal>
     ensures { IsAnswerOfReading T.value
         (fitting_number T.SIGNED T.BITS (Some (decimal_value number.now))) result }
@@ -66,8 +64,8 @@ pub fn fitting<T: Word>(number: &Decimal) -> Result<T, Refusal>
     }
 }
 
-/// The word of the number that has this decimal. Refused as unformed exactly where no number has it, and
-/// as unfit where the number does not fit.
+/// Returns the word of the number with this decimal. Fails with `Refusal::Unformed` if no number has it, and with
+/// `Refusal::Unfit` if the number does not fit.
 pub fn read_word<T: Word>(token: &[u8]) -> Result<T, Refusal>
     ensures { IsAnswerOfReading T.value (fitting_number T.SIGNED T.BITS (whole_in token.now)) result }
 {
@@ -77,9 +75,9 @@ pub fn read_word<T: Word>(token: &[u8]) -> Result<T, Refusal>
     }
 }
 
-/// The words of the numbers of these tokens, in order. Refused as unformed where a token is no
-/// decimal, and otherwise as unfit where a number does not fit. In place of any answer it may say
-/// that memory ran out.
+/// Returns the words of the numbers with these decimals, in order. Fails with `Refusal::Unformed` if a token is not a
+/// decimal, and otherwise with `Refusal::Unfit` if a number does not fit. Whatever the tokens are, it may fail with
+/// `Refusal::Wanting`, if memory runs out.
 pub fn read_words<T: Word>(alloc: Global, mut tokens: Tokens<'_>) -> Result<Vec<T>, Refusal>
     ensures { IsAnswerOfReading (λ words. map T.value words.items)
         (fitting_numbers T.SIGNED T.BITS (wholes_in tokens.entry)) result }

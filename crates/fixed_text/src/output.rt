@@ -1,4 +1,4 @@
-//! The text that a run writes.
+//! The bytes that a run writes.
 
 ghost use Rattle.std.specs.Prelude.{◌≡◌, ◌++◌, [], OnErr, OnOk};
 ghost use Rattle.fixed_word.specs.Decimal.{natural_text, whole_text};
@@ -23,7 +23,7 @@ impl Model for Output {
 }
 
 impl Output {
-    /// No bytes yet; takes no memory.
+    /// Returns an output without bytes. This does not allocate.
     pub fn new(alloc: Global) -> Self
         ensures { result ≡ [] }
     {
@@ -32,8 +32,7 @@ impl Output {
         }
     }
 
-    /// Adds the bytes at the end. AllocError says that memory ran out, and the bytes are then as
-    /// before.
+    /// Adds the bytes at the end. Fails if memory runs out; the bytes are then unchanged.
     pub fn append(&mut self, bytes: &[u8]) -> Result<(), AllocError>
         ensures added { OnOk result (self.new ≡ self.old ++ bytes.now) }
         ensures kept { OnErr result (self.new ≡ self.old) }
@@ -41,8 +40,7 @@ impl Output {
         self.bytes.extend_from_slice(bytes)
     }
 
-    /// Adds the decimal of a natural number at the end. AllocError says that memory ran out, and
-    /// the bytes are then as before.
+    /// Adds the decimal of a natural number at the end. Fails if memory runs out; the bytes are then unchanged.
     pub fn append_natural(&mut self, n: u64) -> Result<(), AllocError>
         ensures added { OnOk result (self.new ≡ self.old ++ natural_text n) }
         ensures kept { OnErr result (self.new ≡ self.old) }
@@ -52,8 +50,7 @@ impl Output {
         self.append(&buffer[start..])
     }
 
-    /// Adds the decimal of a word's value at the end. AllocError says that memory ran out, and a
-    /// minus may stand at the end then.
+    /// Adds the decimal of a word's value at the end. Fails if memory runs out; a minus may then have been added.
     pub fn append_word<T: Word>(&mut self, word: T) -> Result<(), AllocError>
         ensures { OnOk result (self.new ≡ self.old ++ whole_text (T.value word)) }
     {
@@ -63,7 +60,7 @@ impl Output {
         self.append_natural(word.magnitude())
     }
 
-    /// The bytes.
+    /// Returns the bytes.
     pub fn as_bytes(&self) -> &[u8]
         ensures { result.now ≡ self.now }
     {

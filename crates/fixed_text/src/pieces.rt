@@ -1,4 +1,4 @@
-//! A script, cut after each newline.
+//! Cutting a script after each newline.
 
 ghost use Rattle.std.specs.Prelude.{◌≡◌, ◌∷◌, ◌<◌, ◌≤◌, drop, length, take};
 ghost use Rattle.std.specs.Option.{option_copied};
@@ -6,7 +6,7 @@ ghost use Rattle.fixed_word.specs.Pieces.{pieces, body};
 
 use crate::tokens::first_place;
 
-/// Where the first piece ends.
+/// Returns where the first piece ends. Precondition: the script is not empty.
 pub fn piece_end(script: &[u8]) -> usize
     requires { 0 < length script.now }
     ensures some { 0 < result }
@@ -19,7 +19,7 @@ pub fn piece_end(script: &[u8]) -> usize
     }
 }
 
-/// What stands before the newline of a piece that ends in one.
+/// Returns the bytes before the newline of a piece, or `None` if the piece does not end in one.
 pub fn body_of(piece: &[u8]) -> Option<&[u8]>
     ensures { option_copied result ≡ body piece.now }
 {

@@ -1,4 +1,4 @@
-//! One loop for every run.
+//! The loop that all runs share.
 
 ghost use Rattle.std.specs.Prelude.{◌≡◌, List, MatchOption, None, Some, ℕ};
 ghost use Rattle.fixed_word.specs.Pieces.{body, pieces};
@@ -11,20 +11,20 @@ use crate::output::Output;
 use crate::pieces::{body_of, piece_end};
 use std::alloc::Global;
 
-/// The state of a run, which each line moves.
+/// The state of a run, which each line changes.
 pub trait Run: Sized + Drop {
-    // What a line is to a state: the state that it leaves and the bytes that it prints, or its cause.
+    // What a line means in a state: the next state and the bytes that the line prints, or its cause.
     ghost line: { Self → List ℕ → Reading (Self × List ℕ) };
 
-    /// Moves by a line, which comes without its newline, and adds what it prints. Refused as
-    /// unformed or unfit exactly where the line is so to the state. In place of any answer it may
-    /// say that memory ran out.
+    /// Takes a line, without its newline: changes the state and adds what the line prints. Fails with
+    /// `Refusal::Unformed` if the line is malformed, and with `Refusal::Unfit` if a number in it is out of range.
+    /// Whatever the line is, it may fail with `Refusal::Wanting`, if memory runs out.
     fn step(&mut self, bytes: &[u8], output: &mut Output) -> Result<(), Refusal>
         ensures { IsStepOfLine (line self.old bytes.now) result self.new output.old output.new };
 }
 
-/// The first piece of a script, without its newline, and what comes after it. None exactly where there is
-/// no piece, or no newline.
+/// Returns the first piece of a script, without its newline, and the bytes after it. Returns `None` if the script is
+/// empty or its first piece has no newline.
 pub fn open(script: &[u8]) -> Option<(&[u8], &[u8])>
     ensures { MatchOption result (opened script.now ≡ None)
         (λ found. opened script.now ≡ Some (found.0.now, pieces found.1.now)) }
@@ -39,7 +39,7 @@ pub fn open(script: &[u8]) -> Option<(&[u8], &[u8])>
     }
 }
 
-/// Moves by a piece, which is no line where it has no newline.
+/// Takes a piece as a line. A piece without a newline is malformed.
 fn line_piece<R: Run>(
     run: &mut R,
     piece: &[u8],
@@ -60,8 +60,8 @@ fn line_piece<R: Run>(
     }
 }
 
-/// What the lines of a script print, from piece 2 on, or their first cause. In place of either it
-/// may say that memory ran out.
+/// Returns what the lines of a script print, which are the pieces from 2 on, or their first fault. Whatever the lines
+/// are, it may fail with `RunFault::Memory`, if memory runs out.
 pub fn run_lines<R: Run>(alloc: Global, mut run: R, lines: &[u8]) -> Result<Output, RunFault>
     ensures { IsAnswerOfRun (lines_from R.line run 2 (pieces lines.now)) result }
 {

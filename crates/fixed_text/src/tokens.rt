@@ -7,8 +7,8 @@ ghost use Rattle.fixed_text.specs.Tokens.{tokens_of, tokens_left};
 
 use std::marker::Model;
 
-/// Whether the byte stands among the eight from a place on. All eight are looked at, so that they are
-/// compared at once.
+/// Returns whether the byte is among the eight from `at` on. All eight are read, so that the compiler compares them at
+/// once.
 fn stands_in_eight(bytes: &[u8], at: usize, byte: u8) -> bool
     requires { at + 8 ≤ length bytes.now }
     ensures { result ≡ false → IsFreeUntil bytes.now byte at → IsFreeUntil bytes.now byte (at + 8) }
@@ -20,7 +20,7 @@ fn stands_in_eight(bytes: &[u8], at: usize, byte: u8) -> bool
     stands
 }
 
-/// A place before which the byte does not stand, by eights.
+/// Returns a place before which the byte does not occur. Eight bytes are compared at once.
 fn free_eights(bytes: &[u8], byte: u8) -> usize
     ensures within { result ≤ length bytes.now }
     ensures free { IsFreeUntil bytes.now byte result }
@@ -35,7 +35,7 @@ fn free_eights(bytes: &[u8], byte: u8) -> usize
     at
 }
 
-/// Where the byte stands first.
+/// Returns the first place of the byte, or `None` if it does not occur.
 pub(crate) fn first_place(bytes: &[u8], byte: u8) -> Option<usize>
     ensures { result ≡ position (λ b. b == byte) bytes.now }
 {
@@ -49,7 +49,7 @@ pub(crate) fn first_place(bytes: &[u8], byte: u8) -> Option<usize>
     None
 }
 
-/// The first token of a piece, and what comes after its space, if it has one.
+/// Returns the first token of a piece, and the bytes after its space, or `None` if no space follows it.
 pub fn cut(piece: &[u8]) -> (&[u8], Option<&[u8]>)
     ensures { tokens_of piece.now ≡ result.0.now ∷ tokens_left result.1 }
 {
@@ -59,7 +59,7 @@ pub fn cut(piece: &[u8]) -> (&[u8], Option<&[u8]>)
     }
 }
 
-/// The tokens of a piece that are still to come. Contracts see them as a list.
+/// The remaining tokens of a piece. Contracts see them as a list.
 #[derive(Drop)]
 pub struct Tokens<'a> {
     rest: Option<&'a [u8]>,
@@ -81,7 +81,7 @@ impl<'a> Tokens<'a> {
         Tokens { rest: Some(piece) }
     }
 
-    /// Takes the next token.
+    /// Removes the next token and returns it, or returns `None` if no token remains.
     pub fn take(&mut self) -> Option<&'a [u8]>
         ensures { MatchOption result
             ((self.old ≡ []) × (self.new ≡ [])) (λ t. self.old ≡ t.now ∷ self.new) }
@@ -92,21 +92,21 @@ impl<'a> Tokens<'a> {
         Some(token)
     }
 
-    /// What is left of the piece, if a token is left: the next token stands in front.
+    /// Returns the rest of the piece, at whose front the next token is, or `None` if no token remains.
     pub fn rest(&self) -> Option<&'a [u8]>
         ensures { tokens_left result ≡ self.now }
     {
         self.rest
     }
 
-    /// Goes on with the tokens of these bytes, or with none.
+    /// Replaces the remaining tokens by those of these bytes, or by none.
     pub fn go_on(&mut self, rest: Option<&'a [u8]>)
         ensures { self.new ≡ tokens_left rest.entry }
     {
         self.rest = rest;
     }
 
-    /// Whether no token is left.
+    /// Returns whether no token remains.
     pub fn is_empty(&self) -> bool
         ensures { result ≡ (length self.now == 0) }
     {

@@ -1,3 +1,4 @@
+pub mod Angles
 pub mod Series
 pub mod Sines
 pub mod inside

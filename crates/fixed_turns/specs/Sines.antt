@@ -1,5 +1,5 @@
 -- Sines and cosines of angles in turns, rounded to the nearest up to a small part.
-use Rattle.std.specs.Prelude.{◌≡◌, ◌+◌, ◌*◌, ◌^◌, ◌≤◌, ◌+ℤ◌, ◌*ℤ◌, ℕ, zero, suc, ℤ, Bool, pos, neg_ℤ, nat_le, if◌then◌else◌}
+use Rattle.std.specs.Prelude.{◌≡◌, ◌+◌, ◌*◌, ◌^◌, ◌≤◌, ◌+ℤ◌, ◌*ℤ◌, ℕ, zero, suc, ℤ, Bool, pos, neg_ℤ, nat_le, if◌then◌else◌, Option, Some, None}
 use Rattle.fixed_word.specs.Format.{with_sign}
 use Rattle.fixed_turns.specs.Series.{Fraction, cosine_series, sine_series}
 
@@ -54,3 +54,9 @@ pub record IsCosine (k : ℕ) (a : ℤ) (f : ℕ) (r : ℤ) : Type 0 where
   pub rest : ℕ
   pub angle : IsAngle a f q below rest
   pub sine : IsSineAt k (q + 1) below rest f r
+
+-- both numbers, and nothing where one is missing
+abbrev pub both : Option ℤ → Option ℤ → Option (ℤ × ℤ)
+both None y = None
+both (Some x) None = None
+both (Some x) (Some y) = Some (x, y)

@@ -1,16 +1,18 @@
-//! The `checked_` calls of sines and cosines. They are this project's own.
+//! The `checked_` calls of sines, cosines and angles of points. They are this project's own.
 
-ghost use Rattle.std.specs.Prelude.{◌≡◌, ◌≤◌, ℤ, Some, option_map};
+ghost use Rattle.std.specs.Prelude.{◌≡◌, ◌≤◌, ◌≢◌, ℤ, Some, option_map, None, pos};
 ghost use Rattle.fixed_word.specs.Policies.{checked};
-ghost use Rattle.fixed_turns.specs.Sines.{IsCosine, IsSine, sine_room};
+ghost use Rattle.fixed_turns.specs.Angles.{IsAngleOf, turn_room};
+ghost use Rattle.fixed_turns.specs.Sines.{IsCosine, IsSine, both, sine_room};
 
-use crate::numbers::checked_number;
-use crate::sines::{cos_turns_of, sin_turns_of};
+use crate::numbers::{both_numbers, checked_number, is_origin};
+use crate::points::atan2_turns_of;
+use crate::sines::{cos_turns_of, sin_cos_turns_of, sin_turns_of};
 use fixed_num::{Fixed, Held, Number};
 use fixed_word::{RawWord, Word};
 
-/// The `checked_` calls of sines and cosines. Operands are bits, in units of `2^-F` turns, and results are in units of
-/// `2^-F`. The fraction has to be at most the width.
+/// The `checked_` calls of sines, cosines and angles of points. Operands of sines are bits, in units of `2^-F` turns, and
+/// angles are in the same units. The fraction has to be at most the width.
 pub trait CheckedTurns: Number {
     /// The sine of an angle in turns, rounded to the nearest; None exactly if that does not fit.
     ///
@@ -29,6 +31,29 @@ pub trait CheckedTurns: Number {
         requires { Self.FRACTION ≤ Self.BITS }
         ensures { (r : ℤ) × IsCosine (sine_room Self.BITS) (Self.number self) Self.FRACTION r
             × (option_map Self.number result ≡ checked Self.SIGNED Self.BITS (Some r)) };
+
+    /// Returns the sine and the cosine of an angle in turns, rounded to the nearest, or `None` if one of both does not fit.
+    ///
+    /// Each result differs from its exact value by half a unit and `2^-k` at most; k is 41 on words of up to 32 bits,
+    /// and 61 on words of 64 bits. Results at 0, 1/4, 1/2 and 3/4 are exact.
+    fn checked_sin_cos_turns(self) -> Option<(Self, Self)>
+        requires { Self.FRACTION ≤ Self.BITS }
+        ensures { (s c : ℤ) × IsSine (sine_room Self.BITS) (Self.number self) Self.FRACTION s
+            × IsCosine (sine_room Self.BITS) (Self.number self) Self.FRACTION c
+            × (option_map (λ pair. (Self.number pair.0, Self.number pair.1)) result
+            ≡ both (checked Self.SIGNED Self.BITS (Some s)) (checked Self.SIGNED Self.BITS (Some c))) };
+
+    /// Returns the angle of the point `(x, self)` in turns, from -1/2 to 1/2, rounded to the nearest, or `None` if it does
+    /// not fit or both coordinates are 0.
+    ///
+    /// The result differs from the angle by half a unit and `2^-k` radians at most; k is 40 on words of up to 32 bits, and
+    /// 60 on words of 64 bits. Multiples of 1/8 are exact if they are whole numbers of units.
+    fn checked_atan2_turns(self, x: Self) -> Option<Self>
+        requires { Self.FRACTION ≤ Self.BITS }
+        ensures none { Self.number x ≡ pos 0 → Self.number self ≡ pos 0 → result ≡ None }
+        ensures angle { (Self.number x ≡ pos 0 → Self.number self ≢ pos 0)
+            → (r : ℤ) × IsAngleOf (turn_room Self.BITS) (Self.number x) (Self.number self) Self.FRACTION r
+            × (option_map Self.number result ≡ checked Self.SIGNED Self.BITS (Some r)) };
 }
 
 impl<T: Word, const F: u32> CheckedTurns for Fixed<T, F> {
@@ -38,5 +63,17 @@ impl<T: Word, const F: u32> CheckedTurns for Fixed<T, F> {
 
     fn checked_cos_turns(self) -> Option<Self> {
         checked_number(cos_turns_of(self.bits, F))
+    }
+
+    fn checked_sin_cos_turns(self) -> Option<(Self, Self)> {
+        let (sine, cosine) = sin_cos_turns_of(self.bits, F);
+        both_numbers(checked_number(sine), checked_number(cosine))
+    }
+
+    fn checked_atan2_turns(self, x: Self) -> Option<Self> {
+        if is_origin(self.bits, x.bits) {
+            return None;
+        }
+        checked_number(atan2_turns_of(self.bits, x.bits, F))
     }
 }

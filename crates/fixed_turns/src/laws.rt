@@ -1,7 +1,8 @@
 //! Laws of sines and cosines. These functions do nothing: each contract is the law.
 
-ghost use Rattle.std.specs.Prelude.{◌≡◌, ◌+◌, ◌*◌, ◌^◌, ◌<◌, ◌+ℤ◌, ◌*ℤ◌, ◌≤ℤ◌, ℕ, ℤ, true, pos, neg_ℤ};
+ghost use Rattle.std.specs.Prelude.{◌≡◌, ◌≢◌, ◌+◌, ◌*◌, ◌^◌, ◌<◌, ◌+ℤ◌, ◌*ℤ◌, ◌≤ℤ◌, ℕ, ℤ, true, pos, neg_ℤ};
 ghost use Rattle.fixed_word.specs.Format.{InRange};
+ghost use Rattle.fixed_turns.specs.Angles.{IsAngleOf};
 ghost use Rattle.fixed_turns.specs.Sines.{IsCosine, IsSine};
 
 /// Sines of quarter turns are exact. A whole turn more changes nothing, and the sine of minus the angle is minus the
@@ -23,4 +24,13 @@ pub fn sine_law()
 pub fn cosine_law()
     ensures as_sine { (k f : ℕ) (a b r : ℤ) → pos 4 *ℤ b ≡ pos 4 *ℤ a +ℤ pos (2 ^ f) → IsCosine k a f r → IsSine k b f r }
     ensures fits { (k n f : ℕ) (a r : ℤ) → f + 1 < n → IsCosine k a f r → InRange true n r }
+{}
+
+/// Angles of points lie from -1/2 to 1/2. The angle of `(x, -y)` is minus that of `(x, y)`, unless y is 0. On signed words
+/// each angle fits, unless F is the width.
+pub fn angle_law()
+    ensures least { (k f : ℕ) (x y r : ℤ) → IsAngleOf k x y f r → neg_ℤ (pos (2 ^ f)) ≤ℤ (pos 2 *ℤ r) }
+    ensures most { (k f : ℕ) (x y r : ℤ) → IsAngleOf k x y f r → (pos 2 *ℤ r) ≤ℤ pos (2 ^ f) }
+    ensures minus { (k f : ℕ) (x y r : ℤ) → y ≢ pos 0 → IsAngleOf k x y f r → IsAngleOf k x (neg_ℤ y) f (neg_ℤ r) }
+    ensures fits { (k n f : ℕ) (x y r : ℤ) → f < n → IsAngleOf k x y f r → InRange true n r }
 {}

@@ -1,16 +1,18 @@
-//! The `saturating_` calls of sines and cosines. They are this project's own.
+//! The `saturating_` calls of sines, cosines and angles of points. They are this project's own.
 
-ghost use Rattle.std.specs.Prelude.{◌≡◌, ◌≤◌, ℤ, Some};
+ghost use Rattle.std.specs.Prelude.{◌≡◌, ◌≤◌, ◌≢◌, ℤ, Some, pos};
 ghost use Rattle.fixed_word.specs.Policies.{saturating};
+ghost use Rattle.fixed_turns.specs.Angles.{IsAngleOf, turn_room};
 ghost use Rattle.fixed_turns.specs.Sines.{IsCosine, IsSine, sine_room};
 
 use crate::numbers::saturating_number;
-use crate::sines::{cos_turns_of, sin_turns_of};
+use crate::points::atan2_turns_of;
+use crate::sines::{cos_turns_of, sin_cos_turns_of, sin_turns_of};
 use fixed_num::{Fixed, Held, Number};
 use fixed_word::{RawWord, Word};
 
-/// The `saturating_` calls of sines and cosines. Operands are bits, in units of `2^-F` turns, and results are in units of
-/// `2^-F`. The fraction has to be at most the width.
+/// The `saturating_` calls of sines, cosines and angles of points. Operands of sines are bits, in units of `2^-F` turns, and
+/// angles are in the same units. The fraction has to be at most the width.
 pub trait SaturatingTurns: Number {
     /// The sine of an angle in turns, rounded to the nearest, or the nearest number if that does not fit.
     ///
@@ -29,6 +31,29 @@ pub trait SaturatingTurns: Number {
         requires { Self.FRACTION ≤ Self.BITS }
         ensures { (r : ℤ) × IsCosine (sine_room Self.BITS) (Self.number self) Self.FRACTION r
             × (Some (Self.number result) ≡ saturating Self.SIGNED Self.BITS (Some r)) };
+
+    /// Returns the sine and the cosine of an angle in turns, rounded to the nearest, each one the nearest number if it does
+    /// not fit.
+    ///
+    /// Each result differs from its exact value by half a unit and `2^-k` at most; k is 41 on words of up to 32 bits,
+    /// and 61 on words of 64 bits. Results at 0, 1/4, 1/2 and 3/4 are exact.
+    fn saturating_sin_cos_turns(self) -> (Self, Self)
+        requires { Self.FRACTION ≤ Self.BITS }
+        ensures sine { (r : ℤ) × IsSine (sine_room Self.BITS) (Self.number self) Self.FRACTION r
+            × (Some (Self.number result.0) ≡ saturating Self.SIGNED Self.BITS (Some r)) }
+        ensures cosine { (r : ℤ) × IsCosine (sine_room Self.BITS) (Self.number self) Self.FRACTION r
+            × (Some (Self.number result.1) ≡ saturating Self.SIGNED Self.BITS (Some r)) };
+
+    /// Returns the angle of the point `(x, self)` in turns, from -1/2 to 1/2, rounded to the nearest, or the nearest number
+    /// if it does not fit. Precondition: the coordinates are not both 0.
+    ///
+    /// The result differs from the angle by half a unit and `2^-k` radians at most; k is 40 on words of up to 32 bits, and
+    /// 60 on words of 64 bits. Multiples of 1/8 are exact if they are whole numbers of units.
+    fn saturating_atan2_turns(self, x: Self) -> Self
+        requires fraction { Self.FRACTION ≤ Self.BITS }
+        requires some { Self.number x ≡ pos 0 → Self.number self ≢ pos 0 }
+        ensures { (r : ℤ) × IsAngleOf (turn_room Self.BITS) (Self.number x) (Self.number self) Self.FRACTION r
+            × (Some (Self.number result) ≡ saturating Self.SIGNED Self.BITS (Some r)) };
 }
 
 impl<T: Word, const F: u32> SaturatingTurns for Fixed<T, F> {
@@ -38,5 +63,14 @@ impl<T: Word, const F: u32> SaturatingTurns for Fixed<T, F> {
 
     fn saturating_cos_turns(self) -> Self {
         saturating_number(cos_turns_of(self.bits, F))
+    }
+
+    fn saturating_sin_cos_turns(self) -> (Self, Self) {
+        let (sine, cosine) = sin_cos_turns_of(self.bits, F);
+        (saturating_number(sine), saturating_number(cosine))
+    }
+
+    fn saturating_atan2_turns(self, x: Self) -> Self {
+        saturating_number(atan2_turns_of(self.bits, x.bits, F))
     }
 }

@@ -10,7 +10,7 @@ const QUARTER: u64 = 0xc90f_daa2_2168_c234;
 
 /// The higher half of a product.
 #[inline(always)]
-fn high(a: u64, b: u64) -> u64
+pub(crate) fn high(a: u64, b: u64) -> u64
     ensures below { result * 2 ^ 64 ≤ a * b }
     ensures above { a * b < (result + 1) * 2 ^ 64 }
 {

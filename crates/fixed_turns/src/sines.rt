@@ -1,11 +1,11 @@
 //! Sines and cosines of angles in turns.
 
-ghost use Rattle.std.specs.Prelude.{◌≡◌, ◌≤◌, ◌-◌, ◌*◌, ◌/◌, ◌^◌, ℕ, ℤ, not};
+ghost use Rattle.std.specs.Prelude.{◌≡◌, ◌≤◌, ◌+◌, ◌-◌, ◌*◌, ◌/◌, ◌^◌, ℕ, ℤ, not};
 ghost use Rattle.fixed_word.specs.Standing.{StandsFor};
 ghost use Rattle.fixed_turns.specs.Series.{cosine_series, sine_series};
 ghost use Rattle.fixed_turns.specs.Sines.{IsCosine, IsSine, IsSineAt, IsSumOf, sine_room};
 
-use crate::angles::{part_of_turn, parted};
+use crate::angles::{Angle, part_of_turn, parted};
 use crate::series::{cosine, radians_of, rounded, sine};
 use fixed_word::{Outcome, RawWord, Word, outcome_of};
 
@@ -75,4 +75,41 @@ pub fn cos_turns_of<T: Word>(a: T, frac: u32) -> Outcome<T>
 {
     let angle = parted(part_of_turn(a, frac));
     outcome_at(angle.quarter + 1, angle.below, angle.rest, frac)
+}
+
+/// Returns the sine and the cosine of an angle, of which it uses the quarter and the rest.
+#[inline(always)]
+fn outcomes_at<T: Word>(angle: Angle, frac: u32) -> (Outcome<T>, Outcome<T>)
+    requires quarter { angle.quarter ≤ 3 }
+    requires rest { angle.rest ≤ 2 ^ 63 }
+    requires frac { frac ≤ 64 }
+    ensures sine { (x : ℕ) → angle.rest ≡ x * 2 ^ (64 - frac)
+        → (r : ℤ) × IsSineAt (sine_room T.BITS) angle.quarter angle.below x frac r
+        × StandsFor T.value T.SIGNED T.BITS r result.0 }
+    ensures cosine { (x : ℕ) → angle.rest ≡ x * 2 ^ (64 - frac)
+        → (r : ℤ) × IsSineAt (sine_room T.BITS) (angle.quarter + 1) angle.below x frac r
+        × StandsFor T.value T.SIGNED T.BITS r result.1 }
+{
+    let sine = sine_of_rest(angle.rest, T::BITS, frac);
+    let cosine = cosine_of_rest(angle.rest, T::BITS, frac);
+    let next = angle.quarter + 1;
+    if angle.quarter % 2 == 0 {
+        let first = outcome_of(turned(angle.quarter, angle.below), sine);
+        (first, outcome_of(turned(next, false), cosine))
+    } else {
+        let first = outcome_of(turned(angle.quarter, false), cosine);
+        (first, outcome_of(turned(next, angle.below), sine))
+    }
+}
+
+/// Returns the sine and the cosine of `a 2^-frac` turns, as `sin_turns_of` and `cos_turns_of` do.
+#[inline(always)]
+pub fn sin_cos_turns_of<T: Word>(a: T, frac: u32) -> (Outcome<T>, Outcome<T>)
+    requires { frac ≤ T.BITS }
+    ensures sine { (r : ℤ) × IsSine (sine_room T.BITS) (T.value a) frac r
+        × StandsFor T.value T.SIGNED T.BITS r result.0 }
+    ensures cosine { (r : ℤ) × IsCosine (sine_room T.BITS) (T.value a) frac r
+        × StandsFor T.value T.SIGNED T.BITS r result.1 }
+{
+    outcomes_at(parted(part_of_turn(a, frac)), frac)
 }

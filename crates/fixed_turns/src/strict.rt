@@ -1,15 +1,17 @@
-//! The `strict_` calls of sines and cosines. They are this project's own.
+//! The `strict_` calls of sines, cosines and angles of points. They are this project's own.
 
-ghost use Rattle.std.specs.Prelude.{◌≤◌, ℤ};
+ghost use Rattle.std.specs.Prelude.{◌≤◌, ◌≡◌, ◌≢◌, ℤ, pos};
 ghost use Rattle.fixed_word.specs.Format.{InRange};
+ghost use Rattle.fixed_turns.specs.Angles.{IsAngleOf, turn_room};
 ghost use Rattle.fixed_turns.specs.Sines.{IsCosine, IsSine, sine_room};
 
-use crate::sines::{cos_turns_of, sin_turns_of};
+use crate::points::atan2_turns_of;
+use crate::sines::{cos_turns_of, sin_cos_turns_of, sin_turns_of};
 use fixed_num::{Fixed, Held, Number, exact_number};
 use fixed_word::{RawWord, Word};
 
-/// The `strict_` calls of sines and cosines. Operands are bits, in units of `2^-F` turns, and results are in units of
-/// `2^-F`. The fraction has to be at most the width.
+/// The `strict_` calls of sines, cosines and angles of points. Operands of sines are bits, in units of `2^-F` turns, and
+/// angles are in the same units. The fraction has to be at most the width.
 pub trait StrictTurns: Number {
     /// The sine of an angle in turns, rounded to the nearest, which has to fit.
     ///
@@ -30,6 +32,31 @@ pub trait StrictTurns: Number {
         requires fits { (r : ℤ) → IsCosine (sine_room Self.BITS) (Self.number self) Self.FRACTION r
             → InRange Self.SIGNED Self.BITS r }
         ensures { IsCosine (sine_room Self.BITS) (Self.number self) Self.FRACTION (Self.number result) };
+
+    /// Returns the sine and the cosine of an angle in turns, rounded to the nearest. Precondition: both fit.
+    ///
+    /// Each result differs from its exact value by half a unit and `2^-k` at most; k is 41 on words of up to 32 bits,
+    /// and 61 on words of 64 bits. Results at 0, 1/4, 1/2 and 3/4 are exact.
+    fn strict_sin_cos_turns(self) -> (Self, Self)
+        requires fraction { Self.FRACTION ≤ Self.BITS }
+        requires sine { (r : ℤ) → IsSine (sine_room Self.BITS) (Self.number self) Self.FRACTION r
+            → InRange Self.SIGNED Self.BITS r }
+        requires cosine { (r : ℤ) → IsCosine (sine_room Self.BITS) (Self.number self) Self.FRACTION r
+            → InRange Self.SIGNED Self.BITS r }
+        ensures sine { IsSine (sine_room Self.BITS) (Self.number self) Self.FRACTION (Self.number result.0) }
+        ensures cosine { IsCosine (sine_room Self.BITS) (Self.number self) Self.FRACTION (Self.number result.1) };
+
+    /// Returns the angle of the point `(x, self)` in turns, from -1/2 to 1/2, rounded to the nearest. Precondition: it
+    /// fits, and the coordinates are not both 0.
+    ///
+    /// The result differs from the angle by half a unit and `2^-k` radians at most; k is 40 on words of up to 32 bits, and
+    /// 60 on words of 64 bits. Multiples of 1/8 are exact if they are whole numbers of units.
+    fn strict_atan2_turns(self, x: Self) -> Self
+        requires fraction { Self.FRACTION ≤ Self.BITS }
+        requires some { Self.number x ≡ pos 0 → Self.number self ≢ pos 0 }
+        requires fits { (r : ℤ) → IsAngleOf (turn_room Self.BITS) (Self.number x) (Self.number self) Self.FRACTION r
+            → InRange Self.SIGNED Self.BITS r }
+        ensures { IsAngleOf (turn_room Self.BITS) (Self.number x) (Self.number self) Self.FRACTION (Self.number result) };
 }
 
 impl<T: Word, const F: u32> StrictTurns for Fixed<T, F> {
@@ -39,5 +66,14 @@ impl<T: Word, const F: u32> StrictTurns for Fixed<T, F> {
 
     fn strict_cos_turns(self) -> Self {
         exact_number(cos_turns_of(self.bits, F))
+    }
+
+    fn strict_sin_cos_turns(self) -> (Self, Self) {
+        let (sine, cosine) = sin_cos_turns_of(self.bits, F);
+        (exact_number(sine), exact_number(cosine))
+    }
+
+    fn strict_atan2_turns(self, x: Self) -> Self {
+        exact_number(atan2_turns_of(self.bits, x.bits, F))
     }
 }

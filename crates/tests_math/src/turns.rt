@@ -1,11 +1,12 @@
-//! Known sines and cosines, computed apart with 400 bits, and each call at a concrete type.
+//! Known sines, cosines and angles, computed apart with 400 bits, and each call at a concrete type.
 
-ghost use Rattle.std.specs.Prelude.{◌≤◌};
+ghost use Rattle.std.specs.Prelude.{◌≡◌, ◌≢◌, ◌≤◌, pos};
 
-use crate::turns_fitting::sine_and_cosine;
+use crate::turns_fitting::{angle_of, sine_and_cosine};
 use fixed_num::{Fixed, FixedI32};
 use fixed_turns::{
-    CheckedTurns, OverflowingTurns, SaturatingTurns, WrappingTurns, cos_turns_of, sin_turns_of,
+    CheckedTurns, OverflowingTurns, SaturatingTurns, WrappingTurns, atan2_turns_of, cos_turns_of,
+    sin_turns_of,
 };
 use fixed_word::{Outcome, Side, Word};
 
@@ -106,4 +107,52 @@ fn turn_calls(rt: HostRuntime) {
             FixedI32::<16> { bits: 24748 }
         )
     );
+}
+
+#[test]
+fn angles(rt: HostRuntime) {
+    for (y, x, frac, angle) in [
+        (0_i32, 1, 16, 0),
+        (5, 5, 16, 8192),
+        (7, 0, 16, 16384),
+        (0, -1, 16, 32768),
+        (-9, -9, 16, -24576),
+        (3, -4, 16, 26056),
+        (-3, -4, 16, -26056),
+        (-1, 2, 31, -158466703),
+        (1, -1, 1, 1),
+    ] {
+        if frac <= 32 && (x != 0 || y != 0) {
+            assert_eq!(rt; atan2_turns_of(y, x, frac), outcome(angle, Side::Fits));
+        }
+    }
+}
+
+/// The calls of each policy at one point.
+fn calls_at<N: CheckedTurns + OverflowingTurns + SaturatingTurns + WrappingTurns>(
+    y: N,
+    x: N,
+) -> (Option<N>, (N, bool), N, N)
+    requires fraction { N.FRACTION ≤ N.BITS }
+    requires some { N.number x ≡ pos 0 → N.number y ≢ pos 0 }
+{
+    (
+        y.checked_atan2_turns(x),
+        y.overflowing_atan2_turns(x),
+        y.saturating_atan2_turns(x),
+        y.wrapping_atan2_turns(x),
+    )
+}
+
+#[test]
+fn angle_calls(rt: HostRuntime) {
+    let angle = Fixed::<i8, 4> { bits: 6 };
+    assert_eq!(rt;
+        calls_at(Fixed::<i8, 4> { bits: 48 }, Fixed::<i8, 4> { bits: -64 }),
+        (Some(angle), (angle, false), angle, angle)
+    );
+    let none = Fixed::<i8, 4> { bits: 0 };
+    assert_eq!(rt; none.checked_atan2_turns(none), None);
+    let number = FixedI32::<16> { bits: 12345 };
+    assert_eq!(rt; angle_of(number, number), FixedI32::<16> { bits: 8192 });
 }

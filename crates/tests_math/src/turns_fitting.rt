@@ -1,9 +1,11 @@
-//! A caller that knows that each sine fits.
+//! Callers that know that each sine and each angle fits.
 
+ghost use Rattle.std.specs.Prelude.{◌≡◌, ◌≢◌, pos};
+ghost use Rattle.fixed_turns.specs.Angles.{IsAngleOf};
 ghost use Rattle.fixed_turns.specs.Sines.{IsCosine, IsSine};
 
 use fixed_num::FixedI32;
-use fixed_turns::laws::{cosine_law, sine_law};
+use fixed_turns::laws::{angle_law, cosine_law, sine_law};
 use fixed_turns::{StrictTurns, UnwrappedTurns};
 
 /// The sine and the cosine of an angle with 16 fraction bits, in 32 bits.
@@ -14,4 +16,13 @@ pub fn sine_and_cosine(angle: FixedI32<16>) -> (FixedI32<16>, FixedI32<16>)
     sine_law();
     cosine_law();
     (angle.strict_sin_turns(), angle.unwrapped_cos_turns())
+}
+
+/// The angle of a point with 16 fraction bits, in 32 bits.
+pub fn angle_of(y: FixedI32<16>, x: FixedI32<16>) -> FixedI32<16>
+    requires { x.bits ≡ pos 0 → y.bits ≢ pos 0 }
+    ensures { IsAngleOf 40 x.bits y.bits 16 result.bits }
+{
+    angle_law();
+    y.strict_atan2_turns(x)
 }

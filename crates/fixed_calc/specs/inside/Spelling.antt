@@ -1,4 +1,4 @@
--- What the parts of the spelling say.
+-- What the parts of the spelling return.
 use Rattle.std.specs.Prelude.{◌≡◌, ◌<◌, ◌≤◌, ◌+◌, ◌-◌, ◌++◌, ℕ, List, [], ◌∷◌, length, take, drop, Option, Some, None, Result, Ok, Err}
 use Rattle.std.specs.Bool.{⊤}
 use Rattle.fixed_word.specs.declared.rounding.Rounding.{Rounding}
@@ -9,7 +9,7 @@ use Rattle.fixed_calc.specs.Spelled.{Spelling, Written, NoForm, in_front, spelle
 use Rattle.fixed_calc.specs.declared.spelled.ExplicitFault.{ExplicitFault}
 use Rattle.fixed_calc.specs.declared.spelled.ExplicitFault.TheVariants.{Syntax, Memory}
 
--- the rounding that is added to a line, if any is
+-- the rounding that is added to a line, if there is one
 abbrev pub added_to : ScriptLine → Option Rounding
 added_to (SetTo dest k) = None
 added_to (Apply dest policy op xs None) = default_rounding op
@@ -30,7 +30,8 @@ abbrev pub SpellsAll : Spelling → Result (Unit {0}) ExplicitFault → List ℕ
 SpellsAll spelling (Ok u) bytes = spelling ≡ Written bytes
 SpellsAll spelling (Err fault) bytes = StopsSpelling spelling fault
 
--- the first line of the rest was spelled: the spelling from there, after what is written, is the spelling from before
+-- the first line of the rest was spelled out: the spelling from there, after what is written, is the spelling from
+-- before
 pub record HasSpelled (k : ℕ) (rest : List ℕ) (end : ℕ) (old new : List ℕ) : Type 0 where
   pub some : 0 < end
   pub within : end ≤ length rest

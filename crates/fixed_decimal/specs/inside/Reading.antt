@@ -1,4 +1,4 @@
--- What the reader's steps answer.
+-- What the steps of the reader return.
 use Rattle.std.specs.Prelude.{◌≡◌, ◌<◌, ◌≤◌, ◌+◌, ◌%◌, ◌^◌, ◌==◌, ℕ, ℤ, Bool, true, nat_lt, List, drop, slice_index, Option, Some, None, Result, Ok, Err, if◌then◌else◌}
 use Rattle.std.specs.Char.{is_ascii_digit}
 use Rattle.std.specs.List.{list_all, position_or_len, prefix_len}
@@ -8,26 +8,26 @@ use Rattle.fixed_decimal.specs.declared.error.DecimalError.{DecimalError}
 use Rattle.std.specs.Str.Parse.{digits_value}
 use Rattle.fixed_decimal.specs.Decimal.{digits_in, fault_of, is_point, lead, places_in}
 
--- a number below 2 ^ 64, or one from there on that ends in the same 64 bits
+-- n if it is below 2 ^ 64, and otherwise a number of at least 2 ^ 64 with the same lowest 64 bits
 abbrev pub held : ℕ → ℕ
 held n = if nat_lt n (2 ^ 64) then n else 2 ^ 64 + n % 2 ^ 64
 
--- where the digits end that stand behind a point at a place, or that place if there is none
+-- where the digits after a point at `at` end, or `at` if no point is there
 abbrev pub part_end : List ℕ → ℕ → ℕ
 part_end bytes at = if slice_index bytes at == 46 then at + 1 + prefix_len is_ascii_digit (drop (at + 1) bytes) else at
 
--- digits alone, and where the point stands or they end
+-- digits alone, with at most one point, which is at `at`, or they end there
 pub record IsPointAt (bytes : List ℕ) (at : ℕ) : Type 0 where
   pub place : position_or_len is_point bytes ≡ at
   pub digits : list_all is_ascii_digit (digits_in bytes) ≡ true
   pub free : (place : ℕ) → fault_of place (digits_in bytes) ≡ None
 
--- the same, or why not, of bytes that stand behind so many others
+-- the same, or why not, for bytes that `before` others precede
 abbrev pub IsPoint : ℕ → List ℕ → Result ℕ DecimalError → Type 0
 IsPoint before bytes (Ok at) = IsPointAt bytes at
 IsPoint before bytes (Err e) = fault_of (before + lead bytes) (digits_in bytes) ≡ Some e
 
--- the number of all digits, and how many of them stand behind the point
+-- the number that all digits write, and how many of them follow the point
 pub record IsShort (bytes : List ℕ) (value places : ℕ) : Type 0 where
   pub free : (place : ℕ) → fault_of place (digits_in bytes) ≡ None
   pub number : value ≡ digits_value 10 (digits_in bytes)
@@ -39,7 +39,7 @@ pub record IsShort (bytes : List ℕ) (value places : ℕ) : Type 0 where
 abbrev pub within : Bool → ℕ → ℤ → Option ℤ
 within signed n x = if fits signed n x then Some x else None
 
--- the row's number, or another that each word of at most 64 bits keeps alike; or the row's error
+-- the row's number, or another that each word of at most 64 bits treats alike; or the row's error
 abbrev pub IsReadAs : Result ℤ DecimalError → Result (Bool × ℕ) DecimalError → Type 0
 IsReadAs (Ok x) (Ok r) = Alike (2 ^ 64) x (with_sign r.0 r.1)
 IsReadAs (Err e) (Err fault) = fault ≡ e

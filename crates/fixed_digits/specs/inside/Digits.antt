@@ -1,4 +1,4 @@
--- The digits of a number, with zeros in front.
+-- The digits of a number, with leading zeros.
 use Rattle.std.specs.Prelude.{ℕ, ◌+◌, ◌/◌, ◌%◌, List, [], ◌∷◌, ◌++◌}
 
 -- of a number below 100

@@ -1,8 +1,8 @@
--- The digits of a logarithm that were read.
+-- The digits of a logarithm that were found.
 use Rattle.std.specs.Prelude.{◌≡◌, ◌+◌, ◌*◌, ◌^◌, ◌≤◌, ◌<◌, ℕ}
 use Rattle.fixed_elementary.specs.Log2.{IsLog2}
 
--- i digits were read: of the power a^(2^i) the digits d and the mantissa m are left, in 2^i - 1 steps
+-- i digits were found: the digits d and the mantissa m are left of the power a^(2^i), after 2^i - 1 steps
 pub record IsRead (w a i d m : ℕ) : Type 0 where
   pub turns : ℕ
   pub turns_are : turns + 1 ≡ 2 ^ i
@@ -13,7 +13,7 @@ pub record IsRead (w a i d m : ℕ) : Type 0 where
   pub digits : d + 1 ≤ 64 * 2 ^ i
   pub exact : (j : ℕ) → a ≡ 2 ^ j → (m ≡ w) × (d ≡ j * 2 ^ i)
 
--- s is the logarithm of a in units of 2^-g, as near as a mantissa of that unit tells; exactly so of a power of two
+-- s is the logarithm of a in units of 2^-g, as near as a mantissa of that unit allows; that of a power of two is exact
 pub record IsFound (room a g s : ℕ) : Type 0 where
   pub near : (k : ℕ) → g + k ≤ room → IsLog2 a g k s
   pub exact : (j : ℕ) → a ≡ 2 ^ j → s ≡ j * 2 ^ g

@@ -1,7 +1,7 @@
 -- Powers of 2 with a fractional exponent, in units of 1/w.
 use Rattle.std.specs.Prelude.{◌≡◌, ◌+◌, ◌*◌, ◌^◌, ◌≤◌, ◌<◌, ◌<ℤ◌, ℕ, ℤ, pos, Option, Some, None}
 
--- p / w is at most 2 ^ (z / q), and less by a factor of (w / (w + 1)) ^ (i / q) at most
+-- p / w is at most 2 ^ (z / q), and at least that times (w / (w + 1)) ^ (i / q)
 pub record IsPower (w q z i p : ℕ) : Type 0 where
   pub below : p ^ q ≤ 2 ^ z * w ^ q
   pub above : 2 ^ z * w ^ q * w ^ i ≤ p ^ q * (w + 1) ^ i
@@ -25,7 +25,7 @@ pub record IsFloored (w p c n : ℕ) : Type 0 where
   pub below : n * w ≤ p * c
   pub above : p * c ≤ (n + 1) * w
 
--- b digits of the exponent, z, were read: p is their power
+-- p is the power of b digits of the exponent, which are z
 pub record IsPart (w b z p : ℕ) : Type 0 where
   pub digits : z < 2 ^ b
   pub least : w ≤ p
@@ -33,7 +33,7 @@ pub record IsPart (w b z p : ℕ) : Type 0 where
   pub power : IsPower w (2 ^ b) z (3 * b * 2 ^ b) p
   pub unit : z ≡ 0 → p ≡ w
 
--- the exponent x, which is below 0 where there is none
+-- the exponent is x, or there is none and x is below 0
 abbrev pub IsExponent : ℤ → Option ℕ → Type 0
 IsExponent x (Some e) = x ≡ pos e
 IsExponent x None = x <ℤ pos 0

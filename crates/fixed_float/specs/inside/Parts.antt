@@ -1,4 +1,4 @@
--- A float taken apart.
+-- The parts of a float.
 use Rattle.std.specs.Prelude.{◌≡◌, ◌*◌, ◌<◌, ◌^◌, false, Option, Some, None}
 use Rattle.std.specs.Float.{Float, float_is_finite}
 use Rattle.std.specs.Float.Ieee.Exact.{HasValue}

@@ -1,4 +1,4 @@
--- Headers and lines, as the code holds them.
+-- Headers and lines as the code represents them.
 use Rattle.fixed_text.specs.Decimals.{decimal_of}
 use Rattle.fixed_digits.specs.Numerals.{cap}
 use Rattle.fixed_interval.specs.declared.header.Header.{Header}

@@ -1,7 +1,7 @@
--- Intervals that have a quotient by them.
+-- Intervals that can be divisors.
 use Rattle.std.specs.Prelude.{◌⊎◌, ◌<ℤ◌, pos}
 use Rattle.fixed_interval.specs.Ends.{Ends}
 
--- 0 lies outside e
+-- 0 is outside e
 abbrev pub IsOffZero : Ends → Type 0
 IsOffZero e = (pos 0 <ℤ e.low) ⊎ (e.high <ℤ pos 0)

@@ -1,4 +1,4 @@
--- The operations by the operands that decide whether they have a number.
+-- The operations, by the operands that decide whether their row is defined.
 use Rattle.fixed_script.specs.declared.names.Op.{Op}
 use Rattle.fixed_script.specs.declared.names.Op.TheVariants.{Neg, Add, Sub, Mul, Div, Recip, MulAdd, AddProd, MulInt, DivInt, DivEuclid, DivEuclidInt, RemEuclidInt, NextMultipleOf, Dist, Sqrt, Abs, Signum, Rem, RemInt, RemEuclid, NextPowerOfTwo}
 pub use Rattle.fixed_machine.specs.declared.rows.Group.{Group}

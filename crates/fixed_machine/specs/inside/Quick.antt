@@ -1,4 +1,4 @@
--- A line that was read quickly, and what its parts say.
+-- A line that the fast path read, and the text of its parts.
 use Rattle.std.specs.Prelude.{◌≡◌, ◌≤◌, ◌<◌, ◌+◌, ◌++◌, ℕ, ℤ, List, ◌∷◌, length, take, drop, Option, Some, None}
 use Rattle.std.specs.List.{join_with_byte}
 use Rattle.fixed_word.specs.Format.{with_sign}
@@ -15,7 +15,7 @@ use Rattle.fixed_machine.specs.declared.quick.QuickLine.{QuickLine}
 abbrev pub quick_number : QuickLine → ℤ
 quick_number line = with_sign line.below_zero line.magnitude
 
--- the operands of a line, of which there are as many as a shape says
+-- the operands of a line, as many as a shape has
 abbrev pub quick_operands : Shape → QuickLine → Operands
 quick_operands Unary line = OneRegister line.a
 quick_operands Binary line = TwoRegisters line.a line.b
@@ -30,12 +30,14 @@ applied_or_set (Some applied) line = Apply line.dest applied.policy applied.op (
 abbrev pub script_line_of_quick : QuickLine → ScriptLine
 script_line_of_quick line = applied_or_set line.applied line
 
--- The text stands at a place before a separator. What comes after that begins at `end`, which is at most so many bytes on.
+-- The text is at a place, before a separator. The bytes after that begin at `end`, which is at most `most` bytes
+-- further on.
 pub record Stands (bytes : List ℕ) (at : ℕ) (text : List ℕ) (separator most end : ℕ) : Type 0 where
   pub reads : drop at bytes ≡ text ++ (separator ∷ drop end bytes)
   pub within : end ≤ at + most
 
--- Operands of that shape stand at a place before a newline. They were put into a line, and all its registers are among the first so many.
+-- Operands of that shape are at a place, before a newline. They were stored in a line, and all its registers are among
+-- the first `count`.
 pub record HasOperands (kind : Shape) (count : ℕ) (bytes : List ℕ) (at : ℕ) (line read : QuickLine) (end : ℕ) : Type 0 where
   pub dest : read.dest ≡ line.dest
   pub applied : read.applied ≡ line.applied
@@ -45,7 +47,7 @@ pub record HasOperands (kind : Shape) (count : ℕ) (bytes : List ℕ) (at : ℕ
   pub text : drop at bytes ≡ join_with_byte 32 (operand_tokens (quick_operands kind read)) ++ (10 ∷ drop end bytes)
   pub within : end ≤ at + 25
 
--- The first piece is that line, ends there, and all its registers are among the first so many.
+-- The first piece is that line, ends there, and all its registers are among the first `count`.
 pub record IsQuickLine (count : ℕ) (bytes : List ℕ) (line : QuickLine) (end : ℕ) : Type 0 where
   pub reads : line_of_piece (take end bytes) ≡ Some (script_line_of_quick line)
   pub cut : pieces bytes ≡ take end bytes ∷ pieces (drop end bytes)

@@ -1,4 +1,4 @@
--- The text of a number that is given by its sign and its magnitude.
+-- The text of a number with a given sign and magnitude.
 use Rattle.std.specs.Prelude.{ℕ, Bool, if◌then◌else◌, List, ◌∷◌}
 use Rattle.fixed_word.specs.Decimal.{natural_text}
 

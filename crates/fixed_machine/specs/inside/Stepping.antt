@@ -1,4 +1,4 @@
--- What the parts of a step say.
+-- What the parts of a step return.
 use Rattle.std.specs.Prelude.{◌≡◌, ℕ, ℤ, Bool, List, Option, Some, None, Result, Ok, Err, ⊤}
 use Rattle.fixed_word.specs.declared.rounding.Rounding.{Rounding}
 use Rattle.fixed_script.specs.declared.names.Policy.{Policy}
@@ -41,12 +41,12 @@ abbrev pub IsOutcomeOfRow : {T : Type 0} → (T → ℤ) → Bool → ℕ → Op
 IsOutcomeOfRow value signed n row None = row ≡ None
 IsOutcomeOfRow value signed n row (Some outcome) = (x : ℤ) × (row ≡ Some x) × StandsFor value signed n x outcome
 
--- what the policy makes of a row, or the row's cause
+-- the answer of the policy for a row, or the row's cause
 abbrev pub IsAnswerOfRow : Bool → ℕ → Policy → Op → Option ℤ → ℕ → Result Answer Cause → Type 0
 IsAnswerOfRow signed n policy op row k (Ok a) = (row_cause signed n policy row op k ≡ None) × (a ≡ project policy signed n row)
 IsAnswerOfRow signed n policy op row k (Err c) = row_cause signed n policy row op k ≡ Some c
 
--- the abstract line with the numbers of a line as they stand
+-- the abstract line of a line, with the same numbers
 abbrev pub script_line_of : Line → ScriptLine
 script_line_of (Set dest literal) = SetTo dest (literal_value literal)
 script_line_of (One dest policy op a rounding) = Apply dest policy op (OneRegister a) rounding

@@ -1,4 +1,4 @@
--- The operations in the order of their names, in groups that are looked through one after another.
+-- The operations in the order of their names, in groups that are searched one after another.
 use Rattle.std.specs.Prelude.{List, [], ◌∷◌}
 use Rattle.fixed_script.specs.declared.names.Op.{Op}
 use Rattle.fixed_script.specs.declared.names.Op.TheVariants.{Neg, Add, Sub, Mul, Div, Recip, MulAdd, AddProd, MulInt, DivInt, DivEuclid, DivEuclidInt, RemEuclidInt, NextMultipleOf, Dist, Sqrt, Abs, Signum, Rem, RemInt, RemEuclid, NextPowerOfTwo}

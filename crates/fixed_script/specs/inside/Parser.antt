@@ -1,4 +1,4 @@
--- What the parser answers, as functions of the tokens.
+-- What the parser returns, as a function of the tokens.
 use Rattle.std.specs.Prelude.{ℕ, ◌==◌, ◌&&◌, if◌then◌else◌, List, [], ◌∷◌, Option, Some, None, codes}
 use Rattle.std.specs.Str.{bytes_eq}
 use Rattle.fixed_text.specs.Tokens.{◌>>=◌, next_by, at_end}

@@ -1,34 +1,12 @@
-use Rattle.std.proofs.Common.{◌≡◌, ◌+◌, ◌-◌, ◌*◌, ◌%◌, ◌^◌, ◌<◌, ℕ, ℤ, min, pos, ap, sym, ◌∙◌, subst, arith, lt_of_lt_of_le, mod-eq_of_lt, pow_mono}
-use Rattle.std.proofs.lemmas.Nat.{shl_below}
+use Rattle.std.proofs.Common.{◌+◌, ◌*◌, ◌^◌, pos}
 use Rattle.fixed_word.specs.Format.{with_sign}
-use Rattle.fixed_word.specs.Standing.{StandsFor}
 use Rattle.fixed_kernel.specs.Rounded.{rounded}
-use Rattle.fixed_kernel.specs.inside.Alike.{Alike}
 use Rattle.fixed_kernel.proofs.Alikes.{stands_alike}
-use Rattle.fixed_kernel.proofs.Stepped.{stepped}
-use Rattle.fixed_float.proofs.Far.{moved_down, moved_up}
 use Rattle.fixed_float.proofs.incoming.outcome_of_parts.Goals as goal
 
-pub returns-then-up : goal.returns-then-up
-returns-then-up g c =
+pub returns : goal.returns
+returns g c =
     let p = c.args.parts in
-    let up = p.scale + c.args.frac in
-    let digits : p.digits * 512 % 2 ^ 64 ≡ p.digits * 512 = omega (arith, c.requires.digits) in
-    let by : c.min-by.result ≡ min (1083 - up) 63 = c.min-by.ensures in
-    subst (λ (x : ℤ). StandsFor g.T.Valued.value g.T.RawWord.SIGNED g.T.Valued.BITS x c.outcome_of.result)
-    (ap (with_sign p.below_zero) (c.lowered-magnitude.ensures ∙ (λ i. stepped c.args.rounding p.below_zero (digits i) (2 ^ by i)))
-    ∙ moved_down c.args.rounding p.below_zero p.digits up c.requires.digits c.if-up.true)
-    c.outcome_of.ensures
-
-pub returns-else-up : goal.returns-else-up
-returns-else-up g c =
-    let p = c.args.parts in
-    let up = p.scale + c.args.frac in
-    let by = c.min-by-else-up.result in
-    let x = rounded (with_sign p.below_zero (p.digits * 2 ^ up)) (pos (2 ^ 1074)) c.args.rounding in
-    let is : by ≡ min (up - 1074) 64 = c.min-by-else-up.ensures in
-    let room : p.digits * 2 ^ by < 2 ^ 128 = lt_of_lt_of_le (shl_below p.digits 53 by c.requires.digits) (pow_mono {i = 53 + by} {j = 128} (omega arith)) in
-    let kept : p.digits * 2 ^ min (up - 1074) 64 ≡ p.digits * 2 ^ by % 2 ^ 128 = ap (λ (j : ℕ). p.digits * 2 ^ j) (sym is) ∙ sym (mod-eq_of_lt room) in
-    stands_alike g.T.Valued.value g.T.RawWord.SIGNED g.T.Valued.BITS x (with_sign p.below_zero (p.digits * 2 ^ by % 2 ^ 128)) c.outcome_of-else-up.result g.met.T.RawWord.width_law
-    (subst (λ (z : ℕ). Alike (2 ^ 64) x (with_sign p.below_zero z)) kept (moved_up c.args.rounding p.below_zero p.digits up (omega (arith, c.if-up.false))))
-    c.outcome_of-else-up.ensures
+    stands_alike g.T.Valued.value g.T.RawWord.SIGNED g.T.Valued.BITS
+    (rounded (with_sign p.below_zero (p.digits * 2 ^ (p.scale + c.args.frac))) (pos (2 ^ 1074)) c.args.rounding) (with_sign p.below_zero c.magnitude_of_parts.result)
+    c.outcome_of.result g.met.T.RawWord.width_law c.magnitude_of_parts.ensures c.outcome_of.ensures

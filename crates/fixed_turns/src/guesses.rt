@@ -1,0 +1,96 @@
+//! A guess at the angle of a point. No contract says how near it is: the search that begins there finds the result
+//! wherever it begins.
+
+ghost use Rattle.std.specs.Prelude.{◌≤◌, ◌<◌, ◌*◌, ◌^◌};
+
+use crate::series::{cosine, high, radians_of, sine};
+
+/// 2 over pi, in units of `2^-64`: how many quarter turns a radian is.
+const QUARTERS: u64 = 0xa2f9_836e_4e44_1529;
+
+/// The most that a rest is, in units of `2^-64` quarter turns: an eighth of a turn.
+const EIGHTH: u64 = 1 << 63;
+
+/// The coefficients of the polynomial that is nearest to the angle of a slope, the highest first: of odd degrees up to
+/// 13, with signs in turn, in units of `2^-64` quarter turns.
+const COEFFICIENTS: [u64; 7] = [
+    0x011c_32ec_0a13_e5f6,
+    0x057a_055a_ae55_3afd,
+    0x0cfa_05cb_be43_be7c,
+    0x1591_26f1_cbe3_8275,
+    0x2048_1ef1_4d8e_96aa,
+    0x364c_829e_91b1_c786,
+    0xa2f9_59e6_6139_3c66,
+];
+
+/// Returns the angle of a slope in units of `2^-64` quarter turns, up to some `2^-22` quarter turns. The slope is in units
+/// of `2^-64`.
+#[inline(always)]
+fn angle_of_slope(slope: u64) -> u64 {
+    let square = high(slope, slope);
+    let mut sum = 0_u64;
+    for coefficient in COEFFICIENTS {
+        sum = coefficient.wrapping_sub(high(square, sum));
+    }
+    high(slope, sum)
+}
+
+/// Returns `part` over `whole`, in units of `2^-64`, if `part` has at most `64-scale` bits.
+#[inline(always)]
+fn quotient(part: u64, whole: u64, scale: u32) -> u64
+    requires { scale ≤ 32 }
+{
+    let divisor = (whole >> 32).max(1);
+    ((part << scale) / divisor) << (32 - scale)
+}
+
+/// Returns a nearer angle by a step of Newton's method: the part of the point across the direction of the rest, over
+/// the part along it.
+#[inline(always)]
+fn nearer(a: u64, b: u64, rest: u64, bits: u32, scale: u32) -> u64
+    requires rest { rest ≤ 2 ^ 63 }
+    requires scale { scale ≤ 32 }
+    ensures { result ≤ 2 ^ 63 }
+{
+    let x = radians_of(rest);
+    let (sine, cosine) = (sine(x, bits), cosine(x, bits).min((1 << 64) - 1) as u64);
+    let along = high(a, cosine).wrapping_add(high(b, sine));
+    let (ahead, behind) = (high(b, cosine), high(a, sine));
+    let moved = if behind <= ahead {
+        rest.wrapping_add(high(quotient(ahead - behind, along, scale), QUARTERS))
+    } else {
+        rest.saturating_sub(high(quotient(behind - ahead, along, scale), QUARTERS))
+    };
+    moved.min(EIGHTH)
+}
+
+/// Returns a rest in units of `2^-64` quarter turns, for an angle of some `2^-frac` turns.
+#[inline(always)]
+fn rest_near(a: u64, b: u64, bits: u32, frac: u32) -> u64
+    requires { 0 < a }
+    ensures { result ≤ 2 ^ 63 }
+{
+    let zeros = a.leading_zeros() % 64;
+    let (a, b) = ((a << zeros) >> 1, (b << zeros) >> 1);
+    let slope = (b / (a >> 32).max(1)).min((1 << 32) - 1) << 32;
+    let first = angle_of_slope(slope).min(EIGHTH);
+    if frac <= 20 {
+        return first;
+    }
+    let second = nearer(a, b, first, bits, 20);
+    if frac <= 48 {
+        second
+    } else {
+        nearer(a, b, second, bits, 32)
+    }
+}
+
+/// Returns about how many units of `2^-frac` turns the angle of `(a, b)` is.
+#[inline(always)]
+pub(crate) fn guess(a: u64, b: u64, bits: u32, frac: u32) -> u64
+    requires some { 0 < a }
+    requires least { 2 ≤ frac }
+    requires most { frac ≤ 64 }
+{
+    ((rest_near(a, b, bits, frac) >> (65 - frac)) + 1) / 2
+}

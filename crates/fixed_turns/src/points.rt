@@ -1,0 +1,69 @@
+//! Angles of points, in turns.
+
+ghost use Rattle.std.specs.Prelude.{◌≡◌, ◌≢◌, ◌≤◌, ◌<◌, ◌+◌, ◌-◌, ◌*◌, ◌^◌, ℤ, pos};
+ghost use Rattle.fixed_word.specs.Format.{with_sign};
+ghost use Rattle.fixed_word.specs.Standing.{StandsFor};
+ghost use Rattle.fixed_turns.specs.Angles.{IsAngleOf, IsByQuarters, IsUpperAngle, is_below, turn_room};
+
+use crate::octants::{power, rest_of};
+use fixed_word::{Outcome, RawWord, Word, outcome_of};
+
+/// Returns the angle of a point, from 0 to 1/2, in units of `2^-frac` turns. The point is `x` to the right of the
+/// origin or, if `below`, to its left, and `y` above it.
+#[inline(always)]
+fn by_quarters(below: bool, x: u64, y: u64, bits: u32, frac: u32) -> u64
+    requires some { 0 < x + y }
+    requires least { 2 ≤ frac }
+    requires most { frac ≤ 64 }
+    ensures { (v : ℤ) → v ≡ with_sign below x → IsByQuarters (turn_room bits) v y (frac - 2) result }
+{
+    let quarter = power(frac - 2);
+    if y <= x {
+        let rest = rest_of(x, y, bits, frac);
+        if below { 2 * quarter - rest } else { rest }
+    } else {
+        let rest = rest_of(y, x, bits, frac);
+        if below {
+            quarter + rest
+        } else {
+            quarter - rest
+        }
+    }
+}
+
+/// Returns that angle for each fraction. Units of a turn, or of half a turn, are larger than a quarter turn.
+#[inline(always)]
+fn upper_angle(below: bool, x: u64, y: u64, bits: u32, frac: u32) -> u64
+    requires some { 0 < x + y }
+    requires most { frac ≤ 64 }
+    ensures { (v : ℤ) → v ≡ with_sign below x → below ≡ is_below v
+        → IsUpperAngle (turn_room bits) v y frac result }
+{
+    if frac == 0 {
+        0
+    } else if frac == 1 {
+        u64::from(below)
+    } else {
+        by_quarters(below, x, y, bits, frac)
+    }
+}
+
+/// Returns the angle of the point `(x, y)` in units of `2^-frac` turns, from -1/2 to 1/2 turns, rounded to the nearest.
+/// It differs from the angle by half a unit and `2^-k` radians at most; k is 40 on words of up to 32 bits, and 60 on words
+/// of 64 bits. Multiples of 1/8 are exact if they are whole numbers of units.
+#[inline(always)]
+pub fn atan2_turns_of<T: Word>(y: T, x: T, frac: u32) -> Outcome<T>
+    requires fraction { frac ≤ T.BITS }
+    requires some { T.value x ≡ pos 0 → T.value y ≢ pos 0 }
+    ensures { (r : ℤ) × IsAngleOf (turn_room T.BITS) (T.value x) (T.value y) frac r
+        × StandsFor T.value T.SIGNED T.BITS r result }
+{
+    let magnitude = upper_angle(
+        x.is_below_zero(),
+        x.magnitude(),
+        y.magnitude(),
+        T::BITS,
+        frac,
+    );
+    outcome_of(y.is_below_zero(), u128::from(magnitude))
+}
