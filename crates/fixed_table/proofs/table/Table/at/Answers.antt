@@ -1,7 +1,6 @@
-use Rattle.std.proofs.Common.{◌≡◌, ◌+◌, ◌-◌, ◌*◌, ◌/◌, ◌^◌, ◌<◌, ℕ, ℤ, pos, length, map, get_or, sym, ap, ◌∙◌, arith}
+use Rattle.std.proofs.Common.{◌-◌, pos, length, map, sym, ap, ◌∙◌, arith}
 use Rattle.std.proofs.lemmas.List.{length-map}
-use Rattle.fixed_word.specs.Quotient.{floor_quotient}
-use Rattle.fixed_table.specs.Interpolation.{interpolated, on_line}
+use Rattle.fixed_table.specs.Interpolation.{interpolated}
 use Rattle.fixed_table.proofs.Points.{at_inner, at_last}
 use Rattle.fixed_table.proofs.table.Table.at.Goals as goal
 
