@@ -8,7 +8,7 @@ use zugyelmas::{Binary, Enclosure};
 use zugyelmas::prelude::*;
 use zugyelmas::{
     bits, block, elementary, filter, float, interval, kernel, logs, natural, num, ops, policy, poly, root, strict,
-    turns, word,
+    table, turns, word,
 };
 
 type Byte = FixedI8<4>;
@@ -21,6 +21,29 @@ fn byte(bits: i8) -> Byte {
 /// The enclosure of the numbers with 4 fraction bits and bits from `low` to `high`.
 fn enclosure(low: i8, high: i8) -> Enclosure<i8, 4> {
     Enclosure::from_interval(interval::Interval::from_ends(low, high))
+}
+
+/// The fractions of a filter: that of outputs, and 4.
+fn shape(out_frac: u32) -> filter::Shape {
+    filter::Shape {
+        out_frac,
+        coef_frac: 4,
+        sample_frac: 4,
+    }
+}
+
+/// A filter with 4 fraction bits in each place.
+fn fir<'t, 'p>(taps: &'t [Byte], past: &'p mut [Byte]) -> filter::Fir<'t, 'p, i8, 4, 4, 4> {
+    filter::Fir::new(taps, past)
+}
+
+/// A table from 0 on.
+fn table(values: &[Byte], step: u32) -> table::Table<'_, i8, 4, i8, 4> {
+    table::Table {
+        first: byte(0),
+        step,
+        values,
+    }
 }
 
 /// The interval from 1 to 4 bits.
@@ -197,6 +220,24 @@ stops! {
     ops_root, "the number is not below 0", byte(-1).sqrt();
     ops_product_of_none, "the number 1 fits", ops::product::<i8, 7>(&[]);
     filter_past, "there is a past sample", filter::put_in_front(1_i8, &mut []);
+    filter_lengths, "both slices have the same length",
+        filter::filter_block(&shape(8), &[1_i8], &mut [], &[], &mut []);
+    filter_outputs, "both slices have the same length",
+        filter::filter_block(&shape(8), &[1_i8], &mut [0], &[1], &mut []);
+    filter_fraction, "each fraction is at most the width",
+        filter::filter_block(&shape(9), &[1_i8], &mut [0], &[], &mut []);
+    filter_taps, "there is a tap", fir(&[], &mut []);
+    filter_typed_lengths, "both slices have the same length", fir(&[byte(1)], &mut []);
+    filter_typed_outputs, "both slices have the same length",
+        fir(&[byte(1)], &mut [byte(0)]).push_block(&[byte(1)], &mut []);
+    table_value, "there is a value", table(&[], 0).at(byte(1));
+    table_step, "the step is below the width", table(&[byte(1)], 8).at(byte(1));
+    table_checked_value, "there is a value", table(&[], 0).checked_at(byte(1));
+    table_checked_step, "the step is below the width", table(&[byte(1)], 8).checked_at(byte(1));
+    table_contained_value, "there is a value", table(&[], 0).contains(byte(1));
+    table_contained_step, "the step is below the width", table(&[byte(1)], 8).contains(byte(1));
+    line_step, "the step is below the width", table::interpolate_of(1_i8, 2, 0, 8);
+    line_part, "the part is below the step", table::interpolate_of(1_i8, 2, 8, 3);
     poly_coefficient, "there is a coefficient", poly::horner_of(&[] as &[i8], 1, 4);
     poly_fraction, "the fraction frac is at most the width", poly::horner_of(&[1_u16], 1, 17);
     poly_typed_coefficient, "there is a coefficient", poly::horner(&[], byte(1));

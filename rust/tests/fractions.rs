@@ -6,7 +6,7 @@ use std::time::SystemTime;
 use std::{env, fs};
 
 /// Each call that does not compile, and the condition in words.
-const REFUSED: [(&str, &str); 23] = [
+const REFUSED: [(&str, &str); 26] = [
     ("Past::int_nbits()", "the fraction F is at most the width"),
     ("past * past", "the fraction F is at most the width"),
     (
@@ -45,6 +45,18 @@ const REFUSED: [(&str, &str); 23] = [
         "the fraction F is at most the width",
     ),
     (
+        "Fir::<i8, 9, 4, 4>::new(&[byte], &mut [byte])",
+        "the fraction OUT is at most the width",
+    ),
+    (
+        "Fir::<i8, 4, 9, 4>::new(&[past], &mut [byte])",
+        "the fraction TAP is at most the width",
+    ),
+    (
+        "Fir::<i8, 4, 4, 9>::new(&[byte], &mut [past])",
+        "the fraction IN is at most the width",
+    ),
+    (
         "past.to_float::<f32>()",
         "the fraction is at most the width",
     ),
@@ -74,7 +86,7 @@ const REFUSED: [(&str, &str); 23] = [
     ("f64::from(past)", "the fraction F is at most the width"),
 ];
 
-const START: &str = "use zugyelmas::{horner, prelude::*};
+const START: &str = "use zugyelmas::{filter::Fir, horner, prelude::*};
 type Past = FixedI8<9>;
 fn main() {
     let past = Past::from_bits(1);

@@ -3,7 +3,6 @@ use Rattle.std.proofs.Common.{◌≡◌, ◌+◌, ◌-◌, ◌<◌, ◌≤◌, �
 use Rattle.std.specs.Prelude.{IfErr, Result, Ok, Err, reverse, slice_get, slice_range}
 use Rattle.std.specs.List.{zip}
 use Rattle.std.specs.Option.{option_map}
-use Rattle.std.proofs.Math.Seq.{take-suc}
 use Rattle.std.proofs.lemmas.Bool.{cases_lt}
 use Rattle.std.proofs.lemmas.List.{length-take-le, length-append, length-drop, length-reverse, length-set, length-map, take-append-drop, take-append-le, take-take, take_all, take_at, take_more, take-map, drop-drop, drop-take, drop-set-lt, map-append, reverse-append, get_or_default, get_or-set_same, get_or-set_other}
 use Rattle.std.proofs.lemmas.Option.{slice_get-get_or}

@@ -16,6 +16,7 @@ use std::marker::Model;
 /// A finite filter of taps with TAP fraction bits over samples with IN fraction bits; its outputs have OUT fraction
 /// bits. It keeps the past samples in a slice of the caller's, and takes no memory. Contracts see it as the channel of a
 /// [`Bank`](crate::Bank) with the same words.
+#[derive(Drop)]
 pub struct Fir<'t, 'p, T: Word, const OUT: u32, const TAP: u32, const IN: u32> {
     taps: &'t [Fixed<T, TAP>],
     past: &'p mut [Fixed<T, IN>],

@@ -1,5 +1,5 @@
 -- A function by its values at points that are 2 ^ k units apart, with straight lines between them.
-use Rattle.std.specs.Prelude.{◌+◌, ◌-◌, ◌*◌, ◌^◌, ◌<◌, ◌≤◌, ◌&&◌, ◌+ℤ◌, ◌*ℤ◌, ℕ, ℤ, pos, negsuc, Bool, List, [], ◌∷◌, length, int_le, nat_lt, nat_le, if◌then◌else◌}
+use Rattle.std.specs.Prelude.{◌-◌, ◌*◌, ◌^◌, ◌&&◌, ◌+ℤ◌, ◌*ℤ◌, ℕ, ℤ, pos, negsuc, Bool, List, [], ◌∷◌, int_le, nat_lt, if◌then◌else◌}
 use Rattle.fixed_word.specs.Quotient.{floor_quotient}
 
 -- 2 ^ k times the height of the line from a to b, at part units past a

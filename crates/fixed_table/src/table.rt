@@ -1,6 +1,6 @@
 //! Tables of values.
 
-ghost use Rattle.std.specs.Prelude.{◌≡◌, ◌*◌, ◌^◌, ◌<◌, ◌-ℤ◌, Some, None, length, map, nat_le, if◌then◌else◌};
+ghost use Rattle.std.specs.Prelude.{◌≡◌, ◌-◌, ◌*◌, ◌/◌, ◌^◌, ◌<◌, ◌-ℤ◌, Some, None, get_or, length, map, nat_le, pos, if◌then◌else◌};
 ghost use Rattle.std.specs.Option.{option_map};
 ghost use Rattle.fixed_table.specs.Interpolation.{above_zero, interpolated, is_between_ends};
 
@@ -35,17 +35,15 @@ impl<'a, X: Word, const G: u32, T: Word, const F: u32> Table<'a, X, G, T, F> {
         let index = units >> self.step;
         let last = self.values.len() - 1;
         if index >= last as u64 {
-            return self.values[last];
+            return Fixed {
+                bits: value_at(self.values, last),
+            };
         }
         let at = index as usize;
-        let part = units - (index << self.step);
+        let start = value_at(self.values, at);
+        let end = value_at(self.values, at + 1);
         Fixed {
-            bits: interpolate_of(
-                self.values[at].bits,
-                self.values[at + 1].bits,
-                part,
-                self.step,
-            ),
+            bits: interpolate_of(start, end, part_past(units, self.step), self.step),
         }
     }
 
@@ -87,4 +85,23 @@ fn reaches(last: u64, step: u32, units: u64) -> bool
 {
     let index = units >> step;
     index < last || (index == last && index << step == units)
+}
+
+/// Returns the value at the point `at`.
+#[inline]
+fn value_at<T: Word, const F: u32>(values: &[Fixed<T, F>], at: usize) -> T
+    requires { at < length values.now }
+    ensures { T.value result ≡ get_or (map (λ v. T.value v.bits) values.now) at (pos 0) }
+{
+    values[at].bits
+}
+
+/// Returns how many units are left over from whole steps.
+#[inline]
+fn part_past(units: u64, step: u32) -> u64
+    requires { step < 64 }
+    ensures rest { result ≡ units - units / 2 ^ step * 2 ^ step }
+    ensures small { result < 2 ^ step }
+{
+    units - (units >> step << step)
 }

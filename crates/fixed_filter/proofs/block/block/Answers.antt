@@ -1,5 +1,5 @@
-use Rattle.std.proofs.Common.{length, take, ap, sym, ◌∙◌}
-use Rattle.fixed_filter.specs.Blocks.{past_after, taken_of}
+use Rattle.std.proofs.Common.{length, take}
+use Rattle.fixed_filter.specs.Blocks.{taken_of}
 use Rattle.fixed_filter.proofs.Blocks.{newest_kept}
 use Rattle.fixed_filter.proofs.block.block.Goals as goal
 

@@ -1,4 +1,4 @@
-use Rattle.std.proofs.Common.{ℤ, List, map, ap, sym, ◌∙◌}
+use Rattle.std.proofs.Common.{List, map, ap, ◌∙◌}
 use Rattle.fixed_filter.specs.Banks.{Filter, places_of, shape_with, with_sample}
 use Rattle.fixed_filter.specs.Replies.{as_result, filter_reply}
 use Rattle.fixed_filter.proofs.Blocks.{pairs_map, pushed_map}

@@ -1,4 +1,4 @@
-use Rattle.std.proofs.Common.{◌≡◌, ℤ, List, Some, length, map, take, ap, subst, sym, ◌∙◌}
+use Rattle.std.proofs.Common.{ℤ, Some, length, map, take, ap, subst, sym, ◌∙◌}
 use Rattle.std.specs.Prelude.{IfErr}
 use Rattle.std.proofs.lemmas.List.{take-map}
 use Rattle.fixed_num.specs.declared.format.Fixed.{Fixed}
