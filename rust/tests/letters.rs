@@ -195,19 +195,41 @@ fn expected(krate: &str, file: &str, out: &mut Vec<Sign>) {
     out.extend(signs(&path, &messages(&text)));
 }
 
-/// What the library has of an error beside its source: each variant's message, as `thiserror` writes it.
+/// What the library has of errors beside their source: the message of each variant or struct, as `thiserror` writes it.
 fn messages(text: &str) -> String {
-    let Some((_, of_enum)) = text.split_once(", Error)]\npub enum ") else {
-        return String::new();
-    };
-    let (name, body) = of_enum.split_once(" {\n").expect("a body");
-    let (variants, _) = body.split_once("\n}").expect("its end");
-    let arms: String = variants.split("#[error(").skip(1).map(message).collect();
+    let mut structs: String = text
+        .split(", Error)]\n#[error(")
+        .skip(1)
+        .map(of_struct)
+        .collect();
+    if let Some((_, of_enum)) = text.split_once(", Error)]\npub enum ") {
+        let (name, body) = of_enum.split_once(" {\n").expect("a body");
+        let (variants, _) = body.split_once("\n}").expect("its end");
+        let arms: String = variants.split("#[error(").skip(1).map(message).collect();
+        structs.push_str(&error(name, &arms));
+    }
+    structs
+}
+
+/// The impls of an error, with the arms that write its message.
+fn error(name: &str, arms: &str) -> String {
     let display = "fn fmt(&self, f: &mut core::fmt::Formatter<'_>) -> core::fmt::Result";
     format!(
         "impl core::fmt::Display for {name} {{ {display} {{ match self {{ {arms} }} }} }}
         impl core::error::Error for {name} {{}}"
     )
+}
+
+/// The impls of a struct, from its message on, which names its fields.
+fn of_struct(text: &str) -> String {
+    let (message, rest) = text.split_once(")]\npub struct ").expect("a struct");
+    let (name, _) = rest.split_once(" {").expect("a body");
+    let fields = message
+        .split('{')
+        .skip(1)
+        .map(|rest| rest.split('}').next().expect("a name"));
+    let fields: String = fields.map(|field| format!("{field}, ")).collect();
+    error(name, &format!("Self {{ {fields}.. }} => write!(f, {message}),"))
 }
 
 /// The arm of a variant, from its message on.
