@@ -19,8 +19,8 @@
 //! ```
 //!
 //! [`Enclosure`] and [`interval`] have intervals whose ends are rounded outward, [`poly`] polynomials by Horner's rule, and
-//! [`filter`] steps of a filter, each with a proved bound on its rounding. [`math`],
-//! [`natural`] and [`turns`] have lengths, logarithms, powers, sines and cosines.
+//! [`filter`] filters, each with a proved bound on its rounding. [`math`], [`natural`] and [`turns`] have lengths,
+//! logarithms, powers, sines and angles, [`table`] functions by their values, and [`block`] operations on slices.
 //!
 //! ```
 //! use zugyelmas::{Interval, PolyReply, div_in, horner_of};
