@@ -35,7 +35,7 @@ impl Draws {
         let most = 1 << (T::BITS - 1 - less).min(40);
         let word = |_| {
             T::residue(
-                T::SIGNED && self.next().is_multiple_of(2),
+                T::SIGNED && self.next() % 2 == 0,
                 u128::from(self.next() % most),
             )
         };
