@@ -8,5 +8,4 @@ pub mod Roundings
 pub mod Texts
 pub mod Blocks
 pub mod Near
-pub mod Dots
 pub mod inside

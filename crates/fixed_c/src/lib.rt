@@ -15,7 +15,6 @@ mod arrays;
 mod blocks;
 mod calls;
 mod conversions;
-mod dots;
 mod elementary;
 mod intervals;
 mod one_sign;

@@ -19,8 +19,6 @@ ghost use Rattle.fixed_c.specs.Answers.{ValueAnswers, at_fraction, row_or};
 ghost use Rattle.fixed_c.specs.Blocks.{BlockAnswers, at_policy};
 ghost use Rattle.fixed_c.specs.inside.Calls.{IsResultOf, given};
 ghost use Rattle.fixed_c.specs.Filters.{filter_of, fractions, output_in, past_after};
-ghost use Rattle.fixed_c.specs.Dots.{IsDot};
-ghost use Rattle.fixed_c.specs.Near.{allowed};
 ghost use Rattle.fixed_c.specs.Intervals.{difference_in, from_to, product_in, quotient_in, root_in, sum_in};
 ghost use Rattle.fixed_c.specs.Places.{PlaceAnswers, with_as_many};
 ghost use Rattle.fixed_c.specs.Polynomials.{horner_in};
@@ -30,7 +28,7 @@ ghost use Rattle.fixed_c.specs.Words.{AnswersI64, EndsI64Answers};
 
 use crate::answer::{Code, side_of};
 use crate::calls::{Call, result_of};
-use crate::{arrays, blocks, conversions, dots, intervals, one_sign, texts};
+use crate::{arrays, blocks, conversions, intervals, one_sign, texts};
 use fixed_filter::Shape;
 use fixed_word::Outcome;
 
@@ -743,14 +741,4 @@ pub extern "C" fn fixed_i64_mul_add_block(
         (block.old, place.old) (block.new, place.new) result }
 {
     blocks::mul_add(block, others, by, frac, policy, place)
-}
-
-/// The sum of the products of the numbers at the same places, over `2^frac` and rounded down once.
-#[unsafe(no_mangle)]
-pub extern "C" fn fixed_i64_dot(a: &[i64], b: &[i64], frac: u32, answer: &mut AnswerI64) -> i32
-    ensures { (found : Result ℤ Code)
-        × IsDot true (at_fraction 64 frac (with_as_many a.now b.now allowed)) (map (λ x. x) a.now) (map (λ x. x) b.now) frac found
-        × AnswersI64 found answer.old answer.new result }
-{
-    answer.leave(dots::dot(a, b, frac))
 }
