@@ -1,4 +1,4 @@
-/* Each call over a block of 4,096 numbers, and the dot product, beside the same loop by hand, which it has to answer
+/* Each call over a block of 4,096 numbers, beside the same loop by hand, which it has to answer
  * alike. bench/face.py compiles this by gcc -O3, and runs it. */
 #include "draws.h"
 #include "fixed.h"
@@ -71,42 +71,6 @@
   ROW(name, W, operation, wrapping, FIXED_WRAPPING, __VA_ARGS__)                                                   \
   ROW(name, W, operation, checked, FIXED_CHECKED, __VA_ARGS__)
 
-/* The sum of the products by hand, in an integer that holds it. */
-#define DOT(name, W, TOTAL)                                                                                        \
-  __attribute__((noipa)) static TOTAL name##_hand_dot(const W *a, const W *b, size_t count) {                      \
-    TOTAL sum = 0;                                                                                                 \
-    for (size_t i = 0; i < count; i++) sum += (TOTAL)a[i] * b[i];                                                  \
-    return sum;                                                                                                    \
-  }                                                                                                                \
-  static void dot_##name(const W *a, const W *b, uint32_t frac) {                                                  \
-    double least = 1e18, least_by_hand = 1e18;                                                                     \
-    for (int pass = 0; pass < PASSES; pass++) {                                                                    \
-      name result = {0, 0};                                                                                        \
-      double start = now();                                                                                        \
-      const int32_t got = name##_dot(a, COUNT, b, COUNT, frac, &result);                                           \
-      double taken = now() - start;                                                                                \
-      if (taken < least) least = taken;                                                                            \
-      start = now();                                                                                               \
-      const TOTAL sum = name##_hand_dot(a, b, COUNT);                                                              \
-      taken = now() - start;                                                                                       \
-      if (taken < least_by_hand) least_by_hand = taken;                                                            \
-      if (got != FIXED_OK || result.bits != (W)(sum >> frac)) {                                                    \
-        printf(#name "_dot: the answers differ\n");                                                                \
-        exit(1);                                                                                                   \
-      }                                                                                                            \
-    }                                                                                                              \
-    printf(#name "_dot %.4f %.4f\n", least / COUNT, least_by_hand / COUNT);                                        \
-  }
-
-DOT(fixed_i8, int8_t, int64_t)
-DOT(fixed_i16, int16_t, int64_t)
-DOT(fixed_i32, int32_t, __int128)
-DOT(fixed_i64, int64_t, __int128)
-DOT(fixed_u8, uint8_t, uint64_t)
-DOT(fixed_u16, uint16_t, uint64_t)
-DOT(fixed_u32, uint32_t, unsigned __int128)
-DOT(fixed_u64, uint64_t, unsigned __int128)
-
 /* SUM holds sums, and PRODUCT products, of two numbers of the word; MORE also a product and a number. */
 #define WORD(name, W, SUM, PRODUCT, MORE, least, greatest, shift)                                                  \
   LOOPS(name##_hand_neg, W, SUM, least, greatest, -x)                                                              \
@@ -130,7 +94,6 @@ DOT(fixed_u64, uint64_t, unsigned __int128)
     POLICIES(name, W, mul, block, COUNT, others, COUNT, frac)                                                      \
     POLICIES(name, W, mul_add, block, COUNT, others, COUNT, k, frac)                                               \
     POLICIES(name, W, convert, block, COUNT, 2, 4, FIXED_DOWN)                                                     \
-    dot_##name(small, small + 1, frac);                                                                            \
   }
 
 WORD(fixed_i8, int8_t, int32_t, int32_t, int32_t, INT8_MIN, INT8_MAX, 3)

@@ -666,51 +666,6 @@ CHECK_ELEMENTARY(fixed_u64, uint64_t, 64, 0, UINT64_MAX)
     }                                                                                                              \
   }
 
-/* The sum of the products, beside single sums and products in a wider integer. */
-#define CHECK_DOTS(name, word, width, down, from_end, to_end)                                                      \
-  static void check_dots_##name(void) {                                                                            \
-    enum { most = 37 };                                                                                            \
-    const int64_t least = from_end, greatest = (int64_t)to_end;                                                    \
-    word a[most], b[most];                                                                                         \
-    for (int tried = 0; tried < 3000; tried++) {                                                                   \
-      const size_t count = (size_t)draw(0, most);                                                                  \
-      const uint32_t drawn = (uint32_t)draw(0, width + 1), f = drawn == 63 || drawn == 64 ? 62 : drawn;            \
-      const int by_bits = (int)draw(down, width - 1);                                                              \
-      int64_t sum = 0;                                                                                             \
-      for (size_t i = 0; i < count; i++) {                                                                         \
-        a[i] = (word)((word)draw(INT64_MIN / 2, INT64_MAX / 2) >> by_bits);                                        \
-        b[i] = (word)((word)draw(INT64_MIN / 2, INT64_MAX / 2) >> by_bits);                                        \
-        sum += (int64_t)a[i] * (int64_t)b[i];                                                                      \
-      }                                                                                                            \
-      const struct exact want = f > width ? code(FIXED_FRACTION_PAST_WIDTH) : number(floor_of(sum, power(f)));     \
-      const struct exact differ = f > width ? want : code(FIXED_COUNTS_DIFFER);                                    \
-      word bits = 77;                                                                                              \
-      name result = {bits, 99};                                                                                    \
-      int32_t got = name##_dot(a, count, b, count, f, &result);                                                    \
-      compared++;                                                                                                  \
-      if (want.code == FIXED_OK) bits = (word)want.number;                                                         \
-      const int32_t side = want.code != FIXED_OK ? 99                                                              \
-                           : want.number < least ? FIXED_BELOW                                                     \
-                           : want.number > greatest ? FIXED_ABOVE                                                  \
-                                                    : FIXED_FITS;                                                  \
-      const int good = got == want.code && result.bits == bits && result.side == side;                             \
-      got = name##_dot(a, count, b, count + 1, f, &result);                                                        \
-      if (!good || got != differ.code || result.bits != bits || result.side != side) {                             \
-        printf(#name "_dot: code %d, bits %lld, side %d\n", (int)got, (long long)result.bits, (int)result.side);   \
-        exit(1);                                                                                                   \
-      }                                                                                                            \
-    }                                                                                                              \
-  }
-
-CHECK_DOTS(fixed_i8, int8_t, 8, 0, INT8_MIN, INT8_MAX)
-CHECK_DOTS(fixed_i16, int16_t, 16, 0, INT16_MIN, INT16_MAX)
-CHECK_DOTS(fixed_i32, int32_t, 32, 4, INT32_MIN, INT32_MAX)
-CHECK_DOTS(fixed_i64, int64_t, 64, 36, INT64_MIN, INT64_MAX)
-CHECK_DOTS(fixed_u8, uint8_t, 8, 0, 0, UINT8_MAX)
-CHECK_DOTS(fixed_u16, uint16_t, 16, 0, 0, UINT16_MAX)
-CHECK_DOTS(fixed_u32, uint32_t, 32, 4, 0, UINT32_MAX)
-CHECK_DOTS(fixed_u64, uint64_t, 64, 36, 0, INT64_MAX)
-
 #define convert_SIGNED(name, x, from, to, r) name##_convert(x, from, to, r, &result)
 #define convert_UNSIGNED(name, x, from, to, r) name##_convert_unsigned(x, from, to, r, &result)
 #define SIGNED_BLOCKS(name) \
@@ -757,13 +712,10 @@ static void compare_code(const char *call, int32_t want, int32_t got) {
     compare_code(#name "_neg_block", FIXED_OK, name##_neg_block(NULL, 0, FIXED_CHECKED, &place));                  \
     compare_code(#name "_add_block", FIXED_OK, name##_add_block(NULL, 0, NULL, 0, FIXED_WRAPPING, &place));        \
     compare_code(#name "_add_block", FIXED_COUNTS_DIFFER, name##_add_block(past, 1, NULL, 0, 0, &place));          \
-    compare_code(#name "_dot", FIXED_COUNTS_DIFFER, name##_dot(taps, 1, NULL, 0, 4, &answer));                     \
     if (past[0] != 5 || left != 77 || place != 78 || answer.bits != 1 || answer.side != 2) {                       \
       printf(#name ": a call that returned a code has written\n");                                                 \
       exit(1);                                                                                                     \
     }                                                                                                              \
-    compare_code(#name "_dot", FIXED_OK, name##_dot(NULL, 0, NULL, 0, 4, &answer));                                \
-    compare_code(#name "_dot: bits", 0, (int32_t)answer.bits);                                                     \
   }
 
 CHECK_NULL(fixed_i8, int8_t)
@@ -789,8 +741,6 @@ int main(void) {
   check_elementary_fixed_u8(), check_elementary_fixed_u16(), check_elementary_fixed_u32(), check_elementary_fixed_u64();
   check_blocks_fixed_i8(), check_blocks_fixed_i16(), check_blocks_fixed_i32(), check_blocks_fixed_i64();
   check_blocks_fixed_u8(), check_blocks_fixed_u16(), check_blocks_fixed_u32(), check_blocks_fixed_u64();
-  check_dots_fixed_i8(), check_dots_fixed_i16(), check_dots_fixed_i32(), check_dots_fixed_i64();
-  check_dots_fixed_u8(), check_dots_fixed_u16(), check_dots_fixed_u32(), check_dots_fixed_u64();
   check_horner_fixed_i8(), check_horner_fixed_u8();
   check_filter_fixed_i8(), check_filter_fixed_u8();
   printf("%ld calls answer as plain C does\n", compared);

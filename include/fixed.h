@@ -254,11 +254,7 @@ enum {
                            uint32_t policy, size_t *place);                                                        \
   /* x + y by / 2^frac, the product rounded down */                                                                \
   int32_t name##_mul_add_block(word *block, size_t count, const word *others, size_t others_count, word by,        \
-                               uint32_t frac, uint32_t policy, size_t *place);                                     \
-  /* the sum of the products of two arrays, number by number, over 2^frac and rounded down once. A fraction that is\
-   * too large returns FIXED_FRACTION_PAST_WIDTH, and then another count of the other array FIXED_COUNTS_DIFFER. In\
-   * words of 64 bits FIXED_OUT_OF_RANGE, only if the sum of some products at the front does not fit in 128 bits */\
-  int32_t name##_dot(const word *a, size_t a_count, const word *b, size_t b_count, uint32_t frac, name *result);
+                               uint32_t frac, uint32_t policy, size_t *place);
 
 /* The calls of signed words alone: the magnitude of a, and of each number of a block; one by the sign of a, 2^frac, 0
  * or -2^frac. */
