@@ -20,8 +20,9 @@
  *
  * Nothing checks pointers. The program must guarantee that a pointer to a result points to a whole, aligned object that
  * nothing else reads or writes during the call; it may hold anything before. An array must be aligned, have as many
- * elements as its count states, and overlap neither an array that is written nor a result. The pointer to an array may
- * be null if its count is 0. No call allocates, locks or keeps a pointer. */
+ * elements as its count states, and overlap neither an array that is written nor a result. During the call nothing else
+ * may write an array, nor read one that the call writes. The pointer to an array may be null if its count is 0. No call
+ * allocates, locks or keeps a pointer. */
 #ifndef FIXED_H
 #define FIXED_H
 
