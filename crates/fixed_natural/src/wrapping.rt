@@ -10,8 +10,8 @@ use fixed_num::{Fixed, Held, Number};
 use fixed_word::{RawWord, Word};
 
 /// The `wrapping_` calls of logarithms. If the result does not fit, they return it wrapped. `exp` and `pow` have no
-/// such form, since powers of `2^64` units and more are not computed. Operands and results are in units of `2^-F`.
-/// Precondition of each call: F is at most the width.
+/// such form, since the lowest bits of a power above the range are not known. Operands and results are in units of
+/// `2^-F`. Precondition of each call: F is at most the width.
 pub trait WrappingNatural: Number {
     /// Returns the natural logarithm, rounded down and wrapped. Precondition: the number is above 0.
     ///
