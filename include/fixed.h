@@ -47,7 +47,7 @@ enum {
   FIXED_ENDS_EXCHANGED = 4,      /* the low end of an interval is above its high one */
   FIXED_OUT_OF_RANGE = 5,        /* an end, a number, the value of a step or a partial sum does not fit */
   FIXED_NO_ELEMENT = 6,          /* there is no coefficient, or no tap */
-  FIXED_COUNTS_DIFFER = 7,       /* there are not as many past samples as taps */
+  FIXED_COUNTS_DIFFER = 7,       /* there are not as many past samples as taps, or one array is longer than the other */
   FIXED_NO_ROUNDING = 8,         /* no rounding has the number */
   FIXED_NOT_FINITE = 9,          /* the double is a NaN or an infinity */
   FIXED_NO_DIGITS = 10,          /* the text has no digit */
@@ -56,7 +56,8 @@ enum {
   FIXED_TOO_MANY_PLACES = 13,    /* more than 64 digits after the point are requested */
   FIXED_NO_ROOM = 14,            /* the text and its '\0' do not fit into the buffer */
   FIXED_NO_POLICY = 15,          /* no policy of blocks has the number */
-  FIXED_NOT_POSITIVE = 16        /* the operand of a reciprocal root, a logarithm or a power is not above 0 */
+  FIXED_NOT_POSITIVE = 16,       /* the operand of a reciprocal root, a logarithm or a power is not above 0 */
+  FIXED_NO_ANGLE = 17            /* both coordinates of a point are 0 */
 };
 
 /* How a number between two units is rounded, where a call takes a rounding. */
@@ -170,8 +171,10 @@ enum {
  *   exp, pow     the next unit, if the power lies less than a factor of 2^(2^-k) below it; k is 61 for exp, and 55 for
  *                pow. In words of 64 bits that may be several units: at most 6 for exp, and 355 for pow
  *
- * Sines and cosines are rounded to the nearest: they differ from the exact value by half a unit and 2^-k units at most; k
- * is 41, or 61 in words of 64 bits. The sines of 0, 1/4, 1/2 and 3/4 are exact. */
+ * Sines and cosines are rounded to the nearest: they differ from the exact value by half a unit and 2^-k at most; k is 41,
+ * or 61 in words of 64 bits. The sines of 0, 1/4, 1/2 and 3/4 are exact. Angles of points are rounded to the nearest too:
+ * they differ by half a unit and 2^-k radians at most; k is 40, or 60 in words of 64 bits. Multiples of 1/8 that are whole
+ * numbers of units are exact. */
 #define FIXED_ELEMENTARY(name, word)                                                                               \
   /* the root of a^2 + b^2 */                                                                                      \
   int32_t name##_hypot(word a, word b, word *number);                                                              \
@@ -187,7 +190,11 @@ enum {
   int32_t name##_pow(word a, word b, uint32_t frac, word *number);                                                 \
   /* the sine and the cosine of an angle of a turns: 1/4 is a right angle */                                       \
   int32_t name##_sin_turns(word a, uint32_t frac, word *number);                                                   \
-  int32_t name##_cos_turns(word a, uint32_t frac, word *number);
+  int32_t name##_cos_turns(word a, uint32_t frac, word *number);                                                   \
+  /* both, FIXED_OUT_OF_RANGE if one of both does not fit */                                                       \
+  int32_t name##_sin_cos_turns(word angle, uint32_t frac, word *sine, word *cosine);                               \
+  /* the angle of the point (x, y) in turns, from -1/2 to 1/2; FIXED_NO_ANGLE if x and y are 0 */                  \
+  int32_t name##_atan2_turns(word y, word x, uint32_t frac, word *number);
 
 /* Decimal text. A fraction that is too large returns FIXED_FRACTION_PAST_WIDTH, then more than 64 places
  * FIXED_TOO_MANY_PLACES, and then a number that no rounding has FIXED_NO_ROUNDING. The longest text has 86 bytes. */
@@ -230,7 +237,16 @@ enum {
    * FIXED_OUT_OF_RANGE where a partial sum does not fit: *tap is the place of its tap, from 0, and the sample     \
    * stands in front all the same */                                                                               \
   int32_t name##_filter(const word *taps, size_t taps_count, word *past, size_t past_count, word sample,           \
-                        uint32_t out_frac, uint32_t coef_frac, uint32_t sample_frac, word *output, size_t *tap);
+                        uint32_t out_frac, uint32_t coef_frac, uint32_t sample_frac, word *output, size_t *tap);   \
+  /* filters a block of samples, the oldest first: as many steps, each of which writes its output at the index of  \
+   * its sample. FIXED_FRACTION_PAST_WIDTH, then FIXED_NO_ELEMENT if there is no tap, then FIXED_COUNTS_DIFFER if  \
+   * there are not as many past samples as taps, or not as many outputs as samples: nothing is written.            \
+   * FIXED_OUT_OF_RANGE if a partial sum does not fit: *sample is the index of the first such sample, which is in  \
+   * front of the past ones, *tap that of its first such tap, and the outputs from there on are unchanged */       \
+  int32_t name##_filter_block(const word *taps, size_t taps_count, word *past, size_t past_count,                  \
+                              const word *input, size_t input_count, word *output, size_t output_count,            \
+                              uint32_t out_frac, uint32_t coef_frac, uint32_t sample_frac, size_t *sample,         \
+                              size_t *tap);
 
 /* Blocks: arrays whose numbers have one fraction. The result for each number of the block is written over it, by a policy.
  * By FIXED_CHECKED the first result that does not fit ends the call: FIXED_OUT_OF_RANGE is returned, its place, from 0, is
@@ -254,7 +270,11 @@ enum {
                            uint32_t policy, size_t *place);                                                        \
   /* x + y by / 2^frac, the product rounded down */                                                                \
   int32_t name##_mul_add_block(word *block, size_t count, const word *others, size_t others_count, word by,        \
-                               uint32_t frac, uint32_t policy, size_t *place);
+                               uint32_t frac, uint32_t policy, size_t *place);                                     \
+  /* the sum of the products of two arrays, number by number, over 2^frac and rounded down once. A fraction that is\
+   * too large returns FIXED_FRACTION_PAST_WIDTH, and then another count of the other array FIXED_COUNTS_DIFFER. In\
+   * words of 64 bits FIXED_OUT_OF_RANGE, only if the sum of some products at the front does not fit in 128 bits */\
+  int32_t name##_dot(const word *a, size_t a_count, const word *b, size_t b_count, uint32_t frac, name *result);
 
 /* The calls of signed words alone: the magnitude of a, and of each number of a block; one by the sign of a, 2^frac, 0
  * or -2^frac. */

@@ -11,9 +11,10 @@ ghost use Rattle.fixed_elementary.specs.Log2.{IsLog2Of, log2_room};
 ghost use Rattle.fixed_natural.specs.Exps.{IsExp};
 ghost use Rattle.fixed_natural.specs.Logs.{IsLn, IsLog10, log_room};
 ghost use Rattle.fixed_natural.specs.Pows.{IsPow};
+ghost use Rattle.fixed_turns.specs.Angles.{IsAngleOf, turn_room};
 ghost use Rattle.fixed_turns.specs.Sines.{IsCosine, IsSine, sine_room};
 ghost use Rattle.fixed_c.specs.Answers.{at_fraction};
-ghost use Rattle.fixed_c.specs.Near.{NearAnswers, allowed, positive};
+ghost use Rattle.fixed_c.specs.Near.{NearAnswers, NearPairAnswers, allowed, off_origin, positive};
 
 use crate::elementary;
 
@@ -124,4 +125,31 @@ pub extern "C" fn fixed_i8_cos_turns(a: i8, frac: u32, number: &mut i8) -> i32
         number.old number.new result }
 {
     elementary::cos_turns(a, frac, number)
+}
+
+/// Writes the sine and the cosine of `angle / 2^frac` turns, as `fixed_i8_sin_turns` and `fixed_i8_cos_turns` do. Fails
+/// with `FractionPastWidth`, or with `OutOfRange` if one of both does not fit: both numbers are then unchanged.
+#[unsafe(no_mangle)]
+pub extern "C" fn fixed_i8_sin_cos_turns(
+    angle: i8,
+    frac: u32,
+    sine: &mut i8,
+    cosine: &mut i8,
+) -> i32
+    ensures { NearPairAnswers (λ x. x) true 8
+        (at_fraction 8 frac allowed) (IsSine (sine_room 8) angle frac) (IsCosine (sine_room 8) angle frac)
+        (sine.old, cosine.old) (sine.new, cosine.new) result }
+{
+    elementary::sin_cos_turns(angle, frac, sine, cosine)
+}
+
+/// Writes the angle of the point `(x, y)` in units of `2^-frac` turns, from -1/2 to 1/2 turns, rounded to the nearest
+/// within the bound of `IsAngleOf`. Fails with `FractionPastWidth`, `NoAngle` or `OutOfRange`.
+#[unsafe(no_mangle)]
+pub extern "C" fn fixed_i8_atan2_turns(y: i8, x: i8, frac: u32, number: &mut i8) -> i32
+    ensures { NearAnswers (λ x. x) true 8
+        (at_fraction 8 frac (off_origin y x)) (IsAngleOf (turn_room 8) x y frac)
+        number.old number.new result }
+{
+    elementary::atan2_turns(y, x, frac, number)
 }

@@ -23,8 +23,11 @@ ghost use Rattle.fixed_block.specs.Blocks.{of_pairs};
 ghost use Rattle.fixed_c.specs.Answers.{ValueAnswers, at_fraction, row_or};
 ghost use Rattle.fixed_c.specs.Blocks.{BlockAnswers, at_policy};
 ghost use Rattle.fixed_c.specs.inside.Calls.{IsResultOf, given};
+ghost use Rattle.fixed_c.specs.Dots.{IsDot};
+ghost use Rattle.fixed_c.specs.FilterBlocks.{FilterBlockAnswers, left_of};
 ghost use Rattle.fixed_c.specs.Filters.{filter_of, fractions, output_in, past_after};
 ghost use Rattle.fixed_c.specs.Intervals.{difference_in, from_to, product_in, quotient_in, root_in, sum_in};
+ghost use Rattle.fixed_c.specs.Near.{allowed};
 ghost use Rattle.fixed_c.specs.Places.{PlaceAnswers, with_as_many};
 ghost use Rattle.fixed_c.specs.Polynomials.{horner_in};
 ghost use Rattle.fixed_c.specs.Roundings.{at_rounding};
@@ -33,7 +36,7 @@ ghost use Rattle.fixed_c.specs.Words.{AnswersU64, EndsU64Answers};
 
 use crate::answer::{Code, side_of};
 use crate::calls::{Call, result_of};
-use crate::{arrays, blocks, conversions, intervals, one_sign, texts};
+use crate::{arrays, blocks, conversions, dots, intervals, one_sign, texts};
 use fixed_filter::Shape;
 use fixed_word::Outcome;
 
@@ -630,6 +633,33 @@ pub extern "C" fn fixed_u64_filter(
     arrays::filter(taps, past, sample, shape, output, tap)
 }
 
+/// Filters a block of samples, the oldest first, and writes the output after each: as many steps of
+/// `fixed_u64_filter`. Fails with `FractionPastWidth`, `NoElement` or `CountsDiffer`, and nothing is written; or with
+/// `OutOfRange`, and writes the index of the first sample whose output does not fit, and of its tap: that sample is in
+/// front of the past samples, and the outputs from there on are unchanged.
+#[unsafe(no_mangle)]
+pub extern "C" fn fixed_u64_filter_block(
+    taps: &[u64],
+    past: &mut [u64],
+    input: &[u64],
+    output: &mut [u64],
+    out_frac: u32,
+    coef_frac: u32,
+    sample_frac: u32,
+    sample: &mut usize,
+    tap: &mut usize,
+) -> i32
+    ensures { FilterBlockAnswers pos false 64 (fractions out_frac coef_frac sample_frac) taps.now input.now
+        (left_of past.old output.old sample.old tap.old) (left_of past.new output.new sample.new tap.new) result }
+{
+    let shape = Shape {
+        out_frac,
+        coef_frac,
+        sample_frac,
+    };
+    arrays::filter_block(taps, past, input, output, shape, sample, tap)
+}
+
 /// Writes `-x` over each x of the block. Fails with `NoPolicy` or `OutOfRange`.
 #[unsafe(no_mangle)]
 pub extern "C" fn fixed_u64_neg_block(block: &mut [u64], policy: u32, place: &mut usize) -> i32
@@ -756,4 +786,15 @@ pub extern "C" fn fixed_u64_mul_add_block(
         (block.old, place.old) (block.new, place.new) result }
 {
     blocks::mul_add(block, others, by, frac, policy, place)
+}
+
+/// Writes the sum of the products of the numbers at the same index, over `2^frac` and rounded down once. Fails with
+/// `FractionPastWidth` or `CountsDiffer`; or with `OutOfRange` if a partial sum is far too large, as [`dots`] states.
+#[unsafe(no_mangle)]
+pub extern "C" fn fixed_u64_dot(a: &[u64], b: &[u64], frac: u32, answer: &mut AnswerU64) -> i32
+    ensures { (found : Result ℤ Code)
+        × IsDot false (at_fraction 64 frac (with_as_many a.now b.now allowed)) (map pos a.now) (map pos b.now) frac found
+        × AnswersU64 found answer.old answer.new result }
+{
+    answer.leave(dots::dot(a, b, frac))
 }

@@ -11,9 +11,10 @@ ghost use Rattle.fixed_elementary.specs.Log2.{IsLog2Of, log2_room};
 ghost use Rattle.fixed_natural.specs.Exps.{IsExp};
 ghost use Rattle.fixed_natural.specs.Logs.{IsLn, IsLog10, log_room};
 ghost use Rattle.fixed_natural.specs.Pows.{IsPow};
+ghost use Rattle.fixed_turns.specs.Angles.{IsAngleOf, turn_room};
 ghost use Rattle.fixed_turns.specs.Sines.{IsCosine, IsSine, sine_room};
 ghost use Rattle.fixed_c.specs.Answers.{at_fraction};
-ghost use Rattle.fixed_c.specs.Near.{NearAnswers, allowed, positive};
+ghost use Rattle.fixed_c.specs.Near.{NearAnswers, NearPairAnswers, allowed, off_origin, positive};
 
 use crate::elementary;
 
@@ -124,4 +125,31 @@ pub extern "C" fn fixed_u64_cos_turns(a: u64, frac: u32, number: &mut u64) -> i3
         number.old number.new result }
 {
     elementary::cos_turns(a, frac, number)
+}
+
+/// Writes the sine and the cosine of `angle / 2^frac` turns, as `fixed_u64_sin_turns` and `fixed_u64_cos_turns` do. Fails
+/// with `FractionPastWidth`, or with `OutOfRange` if one of both does not fit: both numbers are then unchanged.
+#[unsafe(no_mangle)]
+pub extern "C" fn fixed_u64_sin_cos_turns(
+    angle: u64,
+    frac: u32,
+    sine: &mut u64,
+    cosine: &mut u64,
+) -> i32
+    ensures { NearPairAnswers pos false 64
+        (at_fraction 64 frac allowed) (IsSine (sine_room 64) (pos angle) frac) (IsCosine (sine_room 64) (pos angle) frac)
+        (sine.old, cosine.old) (sine.new, cosine.new) result }
+{
+    elementary::sin_cos_turns(angle, frac, sine, cosine)
+}
+
+/// Writes the angle of the point `(x, y)` in units of `2^-frac` turns, from -1/2 to 1/2 turns, rounded to the nearest
+/// within the bound of `IsAngleOf`. Fails with `FractionPastWidth`, `NoAngle` or `OutOfRange`.
+#[unsafe(no_mangle)]
+pub extern "C" fn fixed_u64_atan2_turns(y: u64, x: u64, frac: u32, number: &mut u64) -> i32
+    ensures { NearAnswers pos false 64
+        (at_fraction 64 frac (off_origin (pos y) (pos x))) (IsAngleOf (turn_room 64) (pos x) (pos y) frac)
+        number.old number.new result }
+{
+    elementary::atan2_turns(y, x, frac, number)
 }
