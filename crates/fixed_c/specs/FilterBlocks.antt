@@ -5,7 +5,6 @@ use Rattle.fixed_filter.specs.declared.reply.Reply.{Reply}
 use Rattle.fixed_filter.specs.declared.shape.Shape.{Shape}
 use Rattle.fixed_filter.specs.Banks.{places_of}
 use Rattle.fixed_filter.specs.Blocks.{AreReplies, StopsAt, outputs_of, past_after, reply_to, taken_of}
-use Rattle.fixed_c.specs.declared.answer.Code.{Code}
 use Rattle.fixed_c.specs.declared.answer.Code.TheVariants.{OutOfRange}
 use Rattle.fixed_c.specs.Answers.{code_number}
 use Rattle.fixed_c.specs.Filters.{filter_of, taking}

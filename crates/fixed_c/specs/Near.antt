@@ -1,6 +1,6 @@
--- What a call answers that leaves one number, of which the contract knows a property.
+-- What a call answers that leaves one number, or two, of which the contract knows a property.
 -- signed and n are the word.
-use Rattle.std.specs.Prelude.{◌≡◌, ◌<ℤ◌, ◌&&◌, ℕ, ℤ, Bool, pos, int_lt, Option, Some, None, Result, Ok, Err, if◌then◌else◌}
+use Rattle.std.specs.Prelude.{◌≡◌, ◌&&◌, ℕ, ℤ, Bool, pos, int_lt, Option, Some, None, Result, Ok, Err, if◌then◌else◌}
 use Rattle.std.specs.Ordering.{int_eq}
 use Rattle.std.specs.Bool.{⊤}
 use Rattle.fixed_word.specs.Policies.{checked}
