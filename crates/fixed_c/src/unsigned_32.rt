@@ -24,20 +24,16 @@ ghost use Rattle.fixed_c.specs.Answers.{ValueAnswers, at_fraction, row_or};
 ghost use Rattle.fixed_c.specs.Blocks.{BlockAnswers, at_policy};
 ghost use Rattle.fixed_c.specs.inside.Calls.{IsResultOf, given};
 ghost use Rattle.fixed_c.specs.Dots.{IsDot};
-ghost use Rattle.fixed_c.specs.FilterBlocks.{FilterBlockAnswers, left_of};
-ghost use Rattle.fixed_c.specs.Filters.{filter_of, fractions, output_in, past_after};
 ghost use Rattle.fixed_c.specs.Intervals.{difference_in, from_to, product_in, quotient_in, root_in, sum_in};
 ghost use Rattle.fixed_c.specs.Near.{allowed};
-ghost use Rattle.fixed_c.specs.Places.{PlaceAnswers, with_as_many};
-ghost use Rattle.fixed_c.specs.Polynomials.{horner_in};
+ghost use Rattle.fixed_c.specs.Places.{with_as_many};
 ghost use Rattle.fixed_c.specs.Roundings.{at_rounding};
 ghost use Rattle.fixed_c.specs.Texts.{TextAnswers, at_places, or_code};
 ghost use Rattle.fixed_c.specs.Words.{AnswersU32, EndsU32Answers};
 
 use crate::answer::{Code, side_of};
 use crate::calls::{Call, result_of};
-use crate::{arrays, blocks, conversions, dots, intervals, one_sign, texts};
-use fixed_filter::Shape;
+use crate::{blocks, conversions, dots, intervals, one_sign, texts};
 use fixed_word::Outcome;
 
 /// The result of an operation.
@@ -588,76 +584,6 @@ pub extern "C" fn fixed_u32_sqrt_in(a_low: u32, a_high: u32, frac: u32, answer: 
     ensures { EndsU32Answers (root_in false 32 (from_to (pos a_low) (pos a_high)) frac) answer.old answer.new result }
 {
     intervals::sqrt(a_low, a_high, frac, &mut answer.low, &mut answer.high)
-}
-
-/// Writes the value at `x` of the polynomial with these coefficients, the lowest first. Fails with `FractionPastWidth`,
-/// `NoElement` or `OutOfRange`, which writes the index of the coefficient whose step does not fit.
-#[unsafe(no_mangle)]
-pub extern "C" fn fixed_u32_horner(
-    coefs: &[u32],
-    x: u32,
-    frac: u32,
-    value: &mut u32,
-    step: &mut usize,
-) -> i32
-    ensures { PlaceAnswers pos (horner_in pos false 32 frac x coefs.now)
-        (value.old, step.old) (value.new, step.new) result }
-{
-    arrays::horner(coefs, x, frac, value, step)
-}
-
-/// Puts the sample in front of the past samples, drops the oldest, and writes the output. Fails with
-/// `FractionPastWidth`, `NoElement` or `CountsDiffer`, and the past samples are unchanged; or with `OutOfRange`, which
-/// takes the sample, and writes the index of the tap whose partial sum does not fit.
-#[unsafe(no_mangle)]
-pub extern "C" fn fixed_u32_filter(
-    taps: &[u32],
-    past: &mut [u32],
-    sample: u32,
-    out_frac: u32,
-    coef_frac: u32,
-    sample_frac: u32,
-    output: &mut u32,
-    tap: &mut usize,
-) -> i32
-    ensures answer { PlaceAnswers pos
-        (output_in pos false 32 (fractions out_frac coef_frac sample_frac) sample (filter_of taps.now past.old))
-        (output.old, tap.old) (output.new, tap.new) result }
-    ensures past { past.new ≡ past_after 32 (fractions out_frac coef_frac sample_frac) sample (filter_of taps.now past.old) }
-{
-    let shape = Shape {
-        out_frac,
-        coef_frac,
-        sample_frac,
-    };
-    arrays::filter(taps, past, sample, shape, output, tap)
-}
-
-/// Filters a block of samples, the oldest first, and writes the output after each: as many steps of
-/// `fixed_u32_filter`. Fails with `FractionPastWidth`, `NoElement` or `CountsDiffer`, and nothing is written; or with
-/// `OutOfRange`, and writes the index of the first sample whose output does not fit, and of its tap: that sample is in
-/// front of the past samples, and the outputs from there on are unchanged.
-#[unsafe(no_mangle)]
-pub extern "C" fn fixed_u32_filter_block(
-    taps: &[u32],
-    past: &mut [u32],
-    input: &[u32],
-    output: &mut [u32],
-    out_frac: u32,
-    coef_frac: u32,
-    sample_frac: u32,
-    sample: &mut usize,
-    tap: &mut usize,
-) -> i32
-    ensures { FilterBlockAnswers pos false 32 (fractions out_frac coef_frac sample_frac) taps.now input.now
-        (left_of past.old output.old sample.old tap.old) (left_of past.new output.new sample.new tap.new) result }
-{
-    let shape = Shape {
-        out_frac,
-        coef_frac,
-        sample_frac,
-    };
-    arrays::filter_block(taps, past, input, output, shape, sample, tap)
 }
 
 /// Writes `-x` over each x of the block. Fails with `NoPolicy` or `OutOfRange`.
