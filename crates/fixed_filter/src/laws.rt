@@ -29,6 +29,18 @@ pub fn output_law()
         → v ≡ products ps *ℤ pos (2 ^ suc t) }
 {}
 
+/// If each output of a run of a second-order section fits, it lies within `5 (S - 1) / (S - A)` units of the output of
+/// the exact run, which begins with the same samples and outputs, and rounds no product. S is `2^g`, and A, which is below
+/// S, is the sum of the magnitudes of the bits of `a1` and `a2`. The clause has this bound times `S^k (S - A)`, where k
+/// is the number of samples.
+pub fn run_law()
+    ensures { (signed : Bool) (n g : ℕ) (c : Coefficients) (start last : SectionPast) (samples : List ℤ)
+        → computed_past signed n g c start samples ≡ Some last
+        → feedback c < 2 ^ g
+        → run_error g c start samples last.y1 * (2 ^ g - feedback c)
+        ≤ 5 * (2 ^ g - 1) * 2 ^ (g * length samples) }
+{}
+
 /// The replies to the samples of one channel are those of a bank that has only this channel and takes only these
 /// samples.
 pub fn channel_law()
@@ -55,16 +67,4 @@ pub fn script_law()
 pub fn text_law()
     ensures headers { IsReader header_text header_of }
     ensures lines { IsReader line_text line_of }
-{}
-
-/// If each output of a run of a second-order section fits, it lies within `5 (S - 1) / (S - A)` units of that of the
-/// exact run, which begins with the same samples and outputs and rounds no product. S is `2^g`, and A, which is below S,
-/// is the sum of the magnitudes of the bits of `a1` and `a2`. The clause has this bound times `S^k (S - A)`, where k is
-/// the number of samples.
-pub fn run_law()
-    ensures { (signed : Bool) (n g : ℕ) (c : Coefficients) (start last : SectionPast) (samples : List ℤ)
-        → computed_past signed n g c start samples ≡ Some last
-        → feedback c < 2 ^ g
-        → run_error g c start samples last.y1 * (2 ^ g - feedback c)
-        ≤ 5 * (2 ^ g - 1) * 2 ^ (g * length samples) }
 {}

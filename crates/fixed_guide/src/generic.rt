@@ -28,14 +28,14 @@ pub fn saturating_sum_of_three<N: Saturating>(a: N, b: N, c: N) -> N
     a.saturating_add(b).saturating_add(c)
 }
 
-/// Returns the sum of three numbers, wrapped once: that the first partial sum wraps makes no difference.
+/// Returns the sum of three numbers, wrapped. That the first partial sum wraps makes no difference.
 pub fn wrapping_sum_of_three<N: Wrapping>(a: N, b: N, c: N) -> N
     ensures { N.number result ≡ wrap N.SIGNED N.BITS (N.number a +ℤ N.number b +ℤ N.number c) }
 {
     a.wrapping_add(b).wrapping_add(c)
 }
 
-/// Returns the sum of three numbers, wrapped, and whether a partial sum is out of range. If none is, the sum is exact.
+/// Returns the sum of three numbers, wrapped, and whether a partial sum does not fit. If each fits, the sum is exact.
 pub fn overflowing_sum_of_three<N: Overflowing>(a: N, b: N, c: N) -> (N, bool)
     ensures sum { N.number result.0 ≡ wrap N.SIGNED N.BITS (N.number a +ℤ N.number b +ℤ N.number c) }
     ensures exact { result.1 ≡ false → N.number result.0 ≡ N.number a +ℤ N.number b +ℤ N.number c }
@@ -65,8 +65,8 @@ pub fn unwrapped_sum_of_three<N: Unwrapped>(a: N, b: N, c: N) -> N
     a.unwrapped_add(b).unwrapped_add(c)
 }
 
-/// Returns what is left of a stock, which is not below 0: 0 if more is taken than there is, and `None` if the
-/// difference is out of range.
+/// Returns what is left of a stock: the difference, or 0 if more is taken than there is. Returns `None` if and only if
+/// that does not fit.
 pub fn left_of<N: Checked>(stock: N, taken: N) -> Option<N>
     ensures { option_map N.number result
         ≡ checked N.SIGNED N.BITS (Some (int_max (N.number stock -ℤ N.number taken) (pos 0))) }
