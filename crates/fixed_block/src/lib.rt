@@ -5,6 +5,7 @@
 //! first element whose exact result does not fit. All of this is this project's own.
 #![tactic(auto)]
 
+mod chunks;
 mod dots;
 mod each;
 mod operations;
