@@ -1,4 +1,4 @@
-use Rattle.std.proofs.Common.{◌≡◌, ◌+ℤ◌, ◌∙◌, false, subst, sym}
+use Rattle.std.proofs.Common.{◌+ℤ◌, ◌∙◌, subst, sym}
 use Rattle.std.proofs.lemmas.Bool.{false≢true}
 use Rattle.fixed_word.specs.Format.{IsWidth}
 use Rattle.fixed_guide.proofs.Partials.{exact_sum, overflowed_sum}
