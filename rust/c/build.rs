@@ -1,4 +1,4 @@
-//! Writes the proved source of the face for C as a file of Rust, which `lib.rs` includes, over the library.
+//! Writes the proved source of the calls for C as a Rust file, which `lib.rs` includes.
 
 #[path = "../script/mod.rs"]
 #[allow(dead_code)]
@@ -17,7 +17,7 @@ fn main() -> Result<(), String> {
     println!("cargo::rerun-if-changed=build.rs");
     println!("cargo::rerun-if-changed=pointers.rs");
     let folder = env::var("OUT_DIR").map_err(|error| error.to_string())?;
-    // The script finds the crates from the top of the repository.
+    // The script reads `crates` in the top folder of the repository.
     env::set_current_dir("../..").map_err(|error| error.to_string())?;
     let face = with_pointers(&written(Path::new("crates"), &["c"], &[])?)?;
     fs::write(format!("{folder}/face.rs"), face).map_err(|error| error.to_string())

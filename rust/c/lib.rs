@@ -1,25 +1,26 @@
-//! The face for C, compiled by rustc: the proved source of `crates/fixed_c` over the library. `include/fixed.h`
-//! declares its calls.
+//! The calls for C, compiled by rustc: the proved source of `crates/fixed_c` over the library. `include/fixed.h`
+//! declares them.
 #![no_std]
-// The code below is the proved source's own.
+// The code below is the proved source.
 #![allow(dead_code, unused_imports, clippy::too_many_arguments)]
 
-// What stands behind an assertion of Rust's: no call of the face reaches one. With an operating system that is std's,
-// and without one it is below.
+// Rust requires a handler for assertions that fail, although no call for C reaches an assertion. With an operating
+// system it is that of std, and without one it is below.
 #[cfg(not(target_os = "none"))]
 extern crate std;
 
 use zugyelmas::*;
 
-// The unsafe blocks of these calls pass on to `slice` and `slice_mut` what C has passed, as the header requires it.
+// The unsafe blocks of these calls pass the pointers and counts of C to `slice` and `slice_mut`. The header requires of
+// C what these functions require.
 include!(concat!(env!("OUT_DIR"), "/face.rs"));
 
-/// The array of C that begins at `first`. If `count` is 0, the pointer is not used, and may be null.
+/// Returns the array of C that begins at `first`. If `count` is 0, the pointer is not used, and may be null.
 ///
 /// # Safety
 ///
 /// If `count` is not 0, `first` is aligned and points to `count` elements of one array. Nothing writes them during
-/// `'a`. `include/fixed.h` says so to the caller in C.
+/// `'a`. `include/fixed.h` requires this of C.
 unsafe fn slice<'a, T>(first: *const T, count: usize) -> &'a [T] {
     if count == 0 {
         return &[];
@@ -29,12 +30,13 @@ unsafe fn slice<'a, T>(first: *const T, count: usize) -> &'a [T] {
     unsafe { core::slice::from_raw_parts(first, count) }
 }
 
-/// The array of C that begins at `first` and is written. If `count` is 0, the pointer is not used, and may be null.
+/// Returns the array of C that begins at `first`, to be written. If `count` is 0, the pointer is not used, and may be
+/// null.
 ///
 /// # Safety
 ///
 /// If `count` is not 0, `first` is aligned and points to `count` elements of one array. Nothing else reads or writes
-/// them during `'a`. `include/fixed.h` says so to the caller in C.
+/// them during `'a`. `include/fixed.h` requires this of C.
 unsafe fn slice_mut<'a, T>(first: *mut T, count: usize) -> &'a mut [T] {
     if count == 0 {
         return &mut [];

@@ -1,4 +1,4 @@
-//! The slices of exports as pointers and counts, since Rust does not say how a slice crosses to C.
+//! Replaces the slices of exports by pointers and counts, since Rust does not state how a slice is passed to C.
 
 use crate::script::edits::{Edits, bytes};
 use crate::script::items::{Function, Item, Part, Source};
@@ -6,7 +6,7 @@ use std::ops::Range;
 
 const WORDS: [&str; 8] = ["i8", "i16", "i32", "i64", "u8", "u16", "u32", "u64"];
 
-/// The exports `fixed_WORD_NAME` that take slices, and the names of these.
+/// The exports `fixed_WORD_NAME` that take slices, and the names of the slices.
 const SLICES: [(&str, &[&str]); 13] = [
     ("parse", &["decimal"]),
     ("print", &["buffer"]),
@@ -23,10 +23,10 @@ const SLICES: [(&str, &[&str]); 13] = [
     ("mul_add_block", &["block", "others"]),
 ];
 
-/// Likewise of the exports that signed words alone have.
+/// The same for the exports that only signed words have.
 const SIGNED_SLICES: [(&str, &[&str]); 1] = [("abs_block", &["block"])];
 
-/// A slice that an export takes: its name, its whole parameter, the word and whether it is written.
+/// A slice that an export takes: its name, its whole parameter, its word, and whether the export writes it.
 struct Slice<'a> {
     name: &'a str,
     parameter: Range<usize>,
@@ -34,8 +34,8 @@ struct Slice<'a> {
     is_written: bool,
 }
 
-/// The face with a pointer and a count in place of each slice that an export takes. The export puts them together where
-/// it hands the slice on. Each slice of the table is found, and no export has others.
+/// Returns the source with a pointer and a count in place of each slice that an export takes. The export makes a slice
+/// of them where it passes the slice on. Fails if a slice of the table is not found, or if an export takes another one.
 pub fn with_pointers(text: &str) -> Result<String, String> {
     let source = Source::new(text)?;
     let mut edits = Edits::default();
@@ -59,7 +59,7 @@ pub fn with_pointers(text: &str) -> Result<String, String> {
     }
 }
 
-/// The slices of the table, each behind the name of its export.
+/// Returns the slices of the table, each after the name of its export.
 fn table() -> Vec<String> {
     let of_word = |word: &str| {
         let signed: &[_] = if word.starts_with('i') { &SIGNED_SLICES } else { &[] };
@@ -73,7 +73,7 @@ fn table() -> Vec<String> {
     WORDS.iter().flat_map(|word| of_word(word)).collect()
 }
 
-/// The name and the parts of a function that C calls.
+/// Returns the name and the parts of an item if it is a function that C calls.
 fn export<'a, 'b>(source: &Source<'a>, item: &'b Item) -> Option<(&'a str, &'b Function)> {
     match &item.part {
         Part::Function(function) => {
@@ -85,7 +85,7 @@ fn export<'a, 'b>(source: &Source<'a>, item: &'b Item) -> Option<(&'a str, &'b F
     }
 }
 
-/// The slices among the parameters of an export.
+/// Returns the slices that an export takes. Fails if one has an unknown form.
 fn slices<'a>(source: &Source<'a>, function: &Function) -> Result<Vec<Slice<'a>>, String> {
     let mut found = Vec::new();
     for open in (function.name..function.head_end).filter(|at| source.sign(*at) == "[") {
@@ -106,7 +106,7 @@ fn slices<'a>(source: &Source<'a>, function: &Function) -> Result<Vec<Slice<'a>>
     Ok(found)
 }
 
-/// Changes the parameter, and the only place where the export hands the slice on.
+/// Replaces the parameter, and the only use of the slice in the body. Fails if the body does not use it exactly once.
 fn change(
     source: &Source,
     function: &Function,

@@ -9,7 +9,7 @@ ghost use Rattle.fixed_block.specs.Dots.{SumsFit, exact_dot, partial_sum};
 use fixed_convert::Castable;
 use fixed_word::{Integer, Outcome, RawWord, Valued, outcome_of};
 
-/// A sum and a product of numbers of 64 bits, or None if that does not fit.
+/// Returns the sum plus the product of two numbers of 64 bits, or `None` if that does not fit.
 #[inline(always)]
 fn signed_added(sum: i128, x: i128, y: i128) -> Option<i128>
     requires x { nat_abs x ≤ 2 ^ 63 }
@@ -20,7 +20,7 @@ fn signed_added(sum: i128, x: i128, y: i128) -> Option<i128>
     sum.checked_add(x * y)
 }
 
-/// The same of unsigned numbers.
+/// Returns the same for unsigned numbers.
 #[inline(always)]
 fn unsigned_added(sum: u128, x: u64, y: u64) -> Option<u128>
     ensures some { IfSome result (λ more. more ≡ sum + x * y) }
@@ -29,7 +29,7 @@ fn unsigned_added(sum: u128, x: u64, y: u64) -> Option<u128>
     sum.checked_add(u128::from(x) * u128::from(y))
 }
 
-/// The sum of the products of signed words, or None if a partial sum does not fit.
+/// Returns the sum of the products of signed words, or `None` if a partial sum does not fit.
 #[inline(always)]
 fn signed_sum<T: Castable>(a: &[T], b: &[T]) -> Option<i128>
     requires sign { T.SIGNED ≡ true }
@@ -47,7 +47,7 @@ fn signed_sum<T: Castable>(a: &[T], b: &[T]) -> Option<i128>
     Some(sum)
 }
 
-/// The sum of the products of unsigned words likewise.
+/// Returns the sum of the products of unsigned words, or `None` if a partial sum does not fit.
 #[inline(always)]
 fn unsigned_sum<T: Castable>(a: &[T], b: &[T]) -> Option<u128>
     requires sign { T.SIGNED ≡ false }
@@ -65,7 +65,7 @@ fn unsigned_sum<T: Castable>(a: &[T], b: &[T]) -> Option<u128>
     Some(sum)
 }
 
-/// The outcome of a sum over `2^frac`, rounded down.
+/// Returns the outcome of a sum over `2^frac`, rounded down. Precondition: `frac` is at most the width.
 #[inline(always)]
 fn outcome_of_sum<T: Castable>(sum: i128, frac: u32) -> Outcome<T>
     requires { frac ≤ T.BITS }
@@ -75,9 +75,10 @@ fn outcome_of_sum<T: Castable>(sum: i128, frac: u32) -> Outcome<T>
     outcome_of(moved < 0, moved.unsigned_abs())
 }
 
-/// The sum of the products of the numbers at the same places, over `2^frac` and rounded down once. None only if the sum of
-/// some products at the front does not fit in an integer of 128 bits, which is signed if the words are: a slice of words of
-/// up to 32 bits is too short for that. Preconditions: both blocks have as many numbers, and `frac` is at most the width.
+/// Returns the outcome of the sum of the products of the numbers at the same places, over `2^frac` and rounded down
+/// once. Returns `None` only if a partial sum of the products does not fit in an integer of 128 bits, which is signed
+/// if the words are. For words of up to 32 bits, every slice is too short for that. Preconditions: both blocks have the
+/// same length, and `frac` is at most the width.
 pub fn dot_of<T: Castable>(a: &[T], b: &[T], frac: u32) -> Option<Outcome<T>>
     requires lengths { length a.now ≡ length b.now }
     requires frac { frac ≤ T.BITS }

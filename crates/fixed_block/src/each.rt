@@ -6,25 +6,26 @@ ghost use Rattle.fixed_block.specs.Blocks.{checked_block, misfit, saturating_blo
 
 use fixed_word::{Outcome, Word, checked_of, saturating_of};
 
-/// An operation on one number, with what it needs besides, such as a factor.
+/// An operation on one number, with what it needs besides the number, such as a factor.
 pub trait Each<T: Word> {
-    // The exact result, by the number's units.
+    // The exact result, from the units of the number.
     ghost exact: { Self → ℤ → ℤ };
 
-    // What the operation requires of what it has besides, such as that a fraction is at most the width.
+    // What the operation requires, such as a fraction of at most the width.
     ghost each_ready: { Self → Type 0 };
 
-    /// Whether it has that.
+    /// Returns whether the operation is ready: whether it has what it requires.
     fn is_ready(&self) -> bool
         ensures { IsTrue result ↔ each_ready self.now };
 
-    /// The outcome that stands for the exact result. Precondition: the operation is ready.
+    /// Returns the outcome that stands for the exact result. Precondition: the operation is ready.
     fn outcome(&self, x: T) -> Outcome<T>
         requires { each_ready self.now }
         ensures { StandsFor T.value T.SIGNED T.BITS (exact self.now (T.value x)) result };
 }
 
-/// Writes for each number the number of the word that is nearest to the exact result.
+/// Replaces each number by the number of the word that is nearest to the exact result. Precondition: the operation is
+/// ready.
 pub fn saturating_each<T: Word, O: Each<T>>(operation: &O, block: &mut [T])
     requires { O.each_ready operation.now }
     ensures { map T.value block.new
@@ -35,7 +36,8 @@ pub fn saturating_each<T: Word, O: Each<T>>(operation: &O, block: &mut [T])
     }
 }
 
-/// Writes for each number the number of the word that differs from the exact result by a multiple of `2^n` units.
+/// Replaces each number by the number of the word that differs from the exact result by a multiple of `2^n` units,
+/// where n is the width. Precondition: the operation is ready.
 pub fn wrapping_each<T: Word, O: Each<T>>(operation: &O, block: &mut [T])
     requires { O.each_ready operation.now }
     ensures { map T.value block.new
@@ -46,8 +48,9 @@ pub fn wrapping_each<T: Word, O: Each<T>>(operation: &O, block: &mut [T])
     }
 }
 
-/// Writes the exact result for each number, up to the first one that does not fit, and returns the place of that. It
-/// and all after it stay as they were.
+/// Replaces each number by the exact result, up to the first number whose exact result does not fit, and returns the
+/// index of that number, or `None` if there is none. That number and all after it are unchanged. Precondition: the
+/// operation is ready.
 pub fn checked_each<T: Word, O: Each<T>>(operation: &O, block: &mut [T]) -> Option<usize>
     requires { O.each_ready operation.now }
     ensures place { result ≡ misfit T.SIGNED T.BITS (map (O.exact operation.now) (map T.value block.old)) }

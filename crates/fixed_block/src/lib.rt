@@ -1,8 +1,10 @@
-//! Operations on whole blocks of numbers, in place and without memory.
+//! Operations on whole blocks of numbers, in place. No function allocates.
 //!
-//! A block is a slice of words whose numbers have one fraction. An operation has an exact result for each element, and
-//! each policy has its loop: the saturating and the wrapping one write every element, and the checked one stops at the
-//! first element whose exact result does not fit. All of this is this project's own.
+//! A block is a slice of words of numbers with the same number of fraction bits. An operation has an exact result for
+//! each element, and each policy has its loop. The saturating loop and the wrapping loop write every element, and the
+//! checked loop stops at the first element whose exact result does not fit.
+//!
+//! The Rust crate `fixed` does not have these items.
 #![tactic(auto)]
 
 mod dots;

@@ -10,7 +10,7 @@ use fixed_convert::{Castable, convert_round_of};
 use fixed_kernel::{abs_of, add_of, dist_of, mul_add_of, mul_int_of, mul_of, neg_of, sub_of};
 use fixed_word::{Arithmetic, Integer, Outcome, Rounding, SignedWord, Word, outcome_of_whole};
 
-/// `-x`
+/// The negative of `x`.
 #[derive(Clone, Copy, Debug)]
 pub struct Neg;
 
@@ -50,7 +50,7 @@ impl<T: SignedWord> Each<T> for Abs {
     }
 }
 
-/// `x by / 2^frac`, rounded down. Precondition: `frac` is at most the width.
+/// The product `x by / 2^frac`, rounded down. Precondition: `frac` is at most the width.
 #[derive(Clone, Copy, Debug)]
 pub struct Scale<T> {
     /// The other factor.
@@ -75,7 +75,7 @@ impl<T: Word> Each<T> for Scale<T> {
     }
 }
 
-/// `x k`, for an integer `k`.
+/// The product `x k`, for an integer `k`.
 #[derive(Clone, Copy, Debug)]
 pub struct MulInt<T> {
     /// The integer.
@@ -125,8 +125,8 @@ impl<T: Castable> Each<T> for Convert {
     }
 }
 
-/// A conversion to as many fraction bits or more, which rounds nothing. Loops shift by one number. Preconditions: `from` is at
-/// most `to`, and `to` is at most the width.
+/// A conversion to at least as many fraction bits, which rounds nothing: each number is shifted left by `to - from`.
+/// Preconditions: `from` is at most `to`, and `to` is at most the width.
 #[derive(Clone, Copy, Debug)]
 pub struct Raise {
     /// The conversion.
@@ -149,7 +149,7 @@ impl<T: Castable> Each<T> for Raise {
     }
 }
 
-/// `x + y`
+/// The sum `x + y`.
 #[derive(Clone, Copy, Debug)]
 pub struct Add;
 
@@ -169,7 +169,7 @@ impl<T: Word> Pairs<T> for Add {
     }
 }
 
-/// `x - y`
+/// The difference `x - y`.
 #[derive(Clone, Copy, Debug)]
 pub struct Sub;
 
@@ -209,7 +209,7 @@ impl<T: Word> Pairs<T> for Dist {
     }
 }
 
-/// `x y / 2^frac`, rounded down. Precondition: `frac` is at most the width.
+/// The product `x y / 2^frac`, rounded down. Precondition: `frac` is at most the width.
 #[derive(Clone, Copy, Debug)]
 pub struct Mul {
     /// The fraction of the numbers.
@@ -232,7 +232,7 @@ impl<T: Word> Pairs<T> for Mul {
     }
 }
 
-/// `x + y by / 2^frac`, the product rounded down. Precondition: `frac` is at most the width.
+/// The sum `x + y by / 2^frac`, with the product rounded down. Precondition: `frac` is at most the width.
 #[derive(Clone, Copy, Debug)]
 pub struct MulAdd<T> {
     /// The other factor.

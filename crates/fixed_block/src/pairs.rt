@@ -6,26 +6,27 @@ ghost use Rattle.fixed_block.specs.Blocks.{checked_block, misfit, of_pairs, satu
 
 use fixed_word::{Outcome, Word, checked_of, saturating_of};
 
-/// An operation on two numbers, with what it needs besides, such as a fraction.
+/// An operation on two numbers, with what it needs besides the numbers, such as a fraction.
 pub trait Pairs<T: Word> {
-    // The exact result, by the units of both.
+    // The exact result, from the units of both numbers.
     ghost exact: { Self → ℤ → ℤ → ℤ };
 
-    // What the operation requires of what it has besides, such as that a fraction is at most the width.
+    // What the operation requires, such as a fraction of at most the width.
     ghost pairs_ready: { Self → Type 0 };
 
-    /// Whether it has that.
+    /// Returns whether the operation is ready: whether it has what it requires.
     fn is_ready(&self) -> bool
         ensures { IsTrue result ↔ pairs_ready self.now };
 
-    /// The outcome that stands for the exact result. Precondition: the operation is ready.
+    /// Returns the outcome that stands for the exact result. Precondition: the operation is ready.
     fn outcome(&self, x: T, y: T) -> Outcome<T>
         requires { pairs_ready self.now }
         ensures { StandsFor T.value T.SIGNED T.BITS (exact self.now (T.value x) (T.value y)) result };
 }
 
-/// Writes over each number of the first block the number of the word that is nearest to the exact result for it and the
-/// number at the same place of the other. Precondition: both have as many numbers.
+/// Replaces each number of the first block by the number of the word that is nearest to the exact result for it and the
+/// number at the same place of the other block. Preconditions: the operation is ready, and both blocks have the same
+/// length.
 pub fn saturating_pairs<T: Word, O: Pairs<T>>(operation: &O, block: &mut [T], others: &[T])
     requires ready { O.pairs_ready operation.now }
     requires lengths { length block.old ≡ length others.now }
@@ -37,8 +38,9 @@ pub fn saturating_pairs<T: Word, O: Pairs<T>>(operation: &O, block: &mut [T], ot
     }
 }
 
-/// Writes the number of the word that differs from the exact result by a multiple of `2^n` units. Precondition: both
-/// blocks have as many numbers.
+/// Replaces each number of the first block by the number of the word that differs from the exact result for it and the
+/// number at the same place of the other block by a multiple of `2^n` units, where n is the width. Preconditions: the
+/// operation is ready, and both blocks have the same length.
 pub fn wrapping_pairs<T: Word, O: Pairs<T>>(operation: &O, block: &mut [T], others: &[T])
     requires ready { O.pairs_ready operation.now }
     requires lengths { length block.old ≡ length others.now }
@@ -50,8 +52,10 @@ pub fn wrapping_pairs<T: Word, O: Pairs<T>>(operation: &O, block: &mut [T], othe
     }
 }
 
-/// Writes the exact results up to the first one that does not fit, and returns the place of that. It and all after it
-/// stay as they were. Precondition: both blocks have as many numbers.
+/// Replaces the numbers of the first block by the exact results for them and the numbers at the same places of the
+/// other block, up to the first exact result that does not fit. Returns the index of that result, or `None` if all fit.
+/// The number at that index and all after it are unchanged. Preconditions: the operation is ready, and both blocks have
+/// the same length.
 pub fn checked_pairs<T: Word, O: Pairs<T>>(
     operation: &O,
     block: &mut [T],

@@ -1,4 +1,4 @@
-//! Codes and results.
+//! Codes and sides, and the numbers by which C knows them.
 
 ghost use Rattle.std.specs.Prelude.{◌≡◌};
 ghost use Rattle.fixed_c.specs.Answers.{code_number, side_number};
@@ -8,42 +8,43 @@ use fixed_word::Side;
 /// Why a call has no result.
 #[derive(Clone, Copy, PartialEq, Eq, Debug)]
 pub enum Code {
-    /// A fraction is past the width of the word.
+    /// A number of fraction bits is greater than the width of the word.
     FractionPastWidth,
-    /// The divisor is 0.
+    /// The divisor is 0, or is an interval that contains 0.
     ZeroDivisor,
-    /// The operand of a root is below 0.
+    /// The operand of a square root, or its low end, is negative.
     NegativeRoot,
-    /// The low end of an operand is above its high one.
+    /// The low end of an operand is greater than its high end.
     EndsExchanged,
-    /// An end, the value of a step or a partial sum does not fit the word.
+    /// An end of an interval, the number of an elementary function, the value of a step, a partial sum, or a result of
+    /// a block does not fit the word.
     OutOfRange,
     /// There is no coefficient, or no tap.
     NoElement,
-    /// There are not as many past samples as taps.
+    /// There are not as many past samples as taps, or one block is longer than the other.
     CountsDiffer,
     /// No rounding has the number.
     NoRounding,
-    /// The float is a NaN or an infinity.
+    /// The double is a NaN or an infinity.
     NotFinite,
-    /// A text has no digit.
+    /// After its sign, the text is empty or one point.
     NoDigits,
-    /// A byte of a text is neither a digit nor a point.
+    /// After its sign, the text has a byte that is neither a digit nor a point, and no second point precedes it.
     InvalidDigit,
-    /// A text has a second point.
+    /// After its sign, the text has a second point, and only digits and points before it.
     TooManyPoints,
-    /// More digits behind the point are requested than are printed.
+    /// More than 64 digits after the point are requested.
     TooManyPlaces,
-    /// A text does not fit into the buffer.
+    /// The text and the byte 0 after it do not fit into the buffer.
     NoRoom,
-    /// No policy has the number.
+    /// No policy of blocks has the number.
     NoPolicy,
-    /// The operand of a reciprocal root, a logarithm or a power is not above 0.
+    /// The operand of a reciprocal root or a logarithm, or the base of a power, is not positive.
     NotPositive,
 }
 
 impl Code {
-    /// The number by which C knows the code.
+    /// Returns the number by which C knows the code.
     #[inline]
     pub(crate) fn number(self) -> i32
         ensures { result ≡ code_number self }
@@ -69,7 +70,8 @@ impl Code {
     }
 }
 
-/// The number by which C knows the side.
+/// Returns the number by which C knows the side: 0 if the exact result fits, 1 if it is above the range, and -1 if it
+/// is below.
 #[inline]
 pub(crate) fn side_of(side: Side) -> i32
     ensures { result ≡ side_number side }

@@ -1,4 +1,4 @@
-//! A polynomial, and a step of a filter, over the arrays of a caller.
+//! A polynomial, and one step of a filter, on arrays of the caller.
 #![tactic(auto, unfolding(crate::specs::Answers::at_fraction, crate::specs::Places::with_some, crate::specs::Places::with_as_many, crate::specs::Places::PlaceAnswers, crate::specs::Polynomials::horner_in, crate::specs::Filters::taking, crate::specs::Filters::output_in, crate::specs::Filters::past_after))]
 
 ghost use Rattle.std.specs.Prelude.{◌≡◌};
@@ -11,9 +11,13 @@ use fixed_filter::{Reply, Shape, output_of, put_in_front};
 use fixed_poly::{PolyReply, horner_of};
 use fixed_word::Word;
 
-/// The value at `x` of the polynomial with these coefficients, the least first, all in units of `2^-frac`. Each step
-/// multiplies by `x`, rounds the product down, and adds the coefficient before. Where the value of a step does not fit,
-/// `step` is the number of its coefficient.
+/// Writes the value at `x` of the polynomial with these coefficients, the lowest first, and returns 0. All numbers are
+/// in units of `2^-frac`. Each step, from the highest coefficient on, multiplies by `x`, rounds the product down, and
+/// adds the coefficient before.
+///
+/// Fails with `FractionPastWidth` if `frac` is greater than the width, with `NoElement` if there is no coefficient, and
+/// with `OutOfRange` if the value of a step does not fit: `step` is then the index of the coefficient that the first
+/// such step adds.
 #[inline]
 pub(crate) fn horner<T: Word>(coefs: &[T], x: T, frac: u32, value: &mut T, step: &mut usize) -> i32
     ensures { PlaceAnswers T.value (horner_in T.value T.SIGNED T.BITS frac x coefs.now)
@@ -37,9 +41,14 @@ pub(crate) fn horner<T: Word>(coefs: &[T], x: T, frac: u32, value: &mut T, step:
     }
 }
 
-/// Takes a sample into the past ones, the newest first, from which the oldest leaves; and the output is the sum of the
-/// products of taps and samples, each rounded down. Outputs, taps and samples have fractions of their own. Where a
-/// partial sum does not fit, `tap` is the place of its tap, and the sample is taken all the same.
+/// Puts the sample in front of the past samples, which are ordered from the newest to the oldest, drops the oldest,
+/// writes the output, and returns 0. The output is the sum of the products of taps and samples, each rounded down to
+/// the fraction bits of the output. The shape has the numbers of fraction bits of the output, the taps and the samples.
+///
+/// Fails with `FractionPastWidth` if one of these numbers is greater than the width, with `NoElement` if there is no
+/// tap, and with `CountsDiffer` if there are not as many past samples as taps: the past samples are then unchanged.
+/// Fails with `OutOfRange` if a partial sum does not fit: `tap` is then the index of the first such tap, and the sample
+/// is in front.
 #[inline]
 pub(crate) fn filter<T: Word>(
     taps: &[T],

@@ -1,4 +1,10 @@
-//! Operations over the arrays of a caller, in place.
+//! Operations on blocks: arrays of the caller whose numbers have the same number of fraction bits. Numbers are bits, in
+//! units of `2^-frac`.
+//!
+//! Each function writes the result for each number of the block over that number, by the policy with the number
+//! `policy`, and returns 0. It fails with `OutOfRange` only if the policy is `Checked` and a result does not fit:
+//! `place` is then the index of the first such result, and the block is unchanged from there on. Otherwise `place` is
+//! unchanged, and with another code the block is, too.
 #![tactic(auto, unfolding(crate::specs::Answers::at_fraction, crate::specs::Places::with_as_many, crate::specs::Roundings::for_rounding, crate::specs::Blocks::for_policy, crate::specs::Blocks::BlockAnswers))]
 
 ghost use Rattle.std.specs.Prelude.{◌≡◌, ◌+ℤ◌, ◌-ℤ◌, ◌*ℤ◌, length, map, neg_ℤ};
@@ -19,18 +25,18 @@ use fixed_block::{
 use fixed_convert::Castable;
 use fixed_word::{SignedWord, Word};
 
-/// What is written where an exact result does not fit.
+/// What a call over a block writes for an exact result that does not fit.
 #[derive(Clone, Copy, PartialEq, Eq, Debug)]
 pub enum BlockPolicy {
-    /// The number that is nearest to it.
+    /// The nearest number that fits.
     Saturating,
-    /// The number that differs from it by a multiple of `2^n` units.
+    /// The number that differs from it by a multiple of `2^n` units, where n is the width.
     Wrapping,
-    /// Nothing, from there on.
+    /// Nothing: the block is unchanged from there on.
     Checked,
 }
 
-/// The policy that has the number; None if none has.
+/// Returns the policy that has the number, or `None` if none has.
 #[inline]
 pub(crate) fn policy_of(number: u32) -> Option<BlockPolicy>
     ensures { result ≡ policy_of number }
@@ -43,7 +49,9 @@ pub(crate) fn policy_of(number: u32) -> Option<BlockPolicy>
     }
 }
 
-/// Writes the results of an operation over a block.
+/// Writes the results of an operation on each number of a block. Fails with `NoPolicy` if no policy has the number
+/// `policy`, and with `OutOfRange` if the policy is `Checked` and a result does not fit. Precondition: the operation is
+/// ready.
 #[inline]
 fn each<T: Word, O: Each<T>>(operation: &O, policy: u32, block: &mut [T], place: &mut usize) -> i32
     requires { O.each_ready operation.now }
@@ -71,7 +79,9 @@ fn each<T: Word, O: Each<T>>(operation: &O, policy: u32, block: &mut [T], place:
     }
 }
 
-/// Writes the results of an operation on two blocks over the first.
+/// Writes the results of an operation on the numbers at the same index of two blocks over the first block. Fails with
+/// `CountsDiffer` if the blocks have different lengths, with `NoPolicy` if no policy has the number `policy`, and with
+/// `OutOfRange` if the policy is `Checked` and a result does not fit. Precondition: the operation is ready.
 #[inline]
 fn pairs<T: Word, O: Pairs<T>>(
     operation: &O,
@@ -108,7 +118,8 @@ fn pairs<T: Word, O: Pairs<T>>(
     }
 }
 
-/// `-x` for each x of the block.
+/// Writes `-x` over each x of the block. Fails with `NoPolicy` if no policy has the number `policy`, and with
+/// `OutOfRange` if the policy is `Checked` and a result does not fit.
 #[inline]
 pub(crate) fn neg<T: Word>(block: &mut [T], policy: u32, place: &mut usize) -> i32
     ensures { BlockAnswers T.value T.SIGNED T.BITS
@@ -118,7 +129,8 @@ pub(crate) fn neg<T: Word>(block: &mut [T], policy: u32, place: &mut usize) -> i
     each(&Neg, policy, block, place)
 }
 
-/// The magnitude of each x of the block.
+/// Writes the magnitude of x over each x of the block. Fails with `NoPolicy` if no policy has the number `policy`, and
+/// with `OutOfRange` if the policy is `Checked` and a result does not fit.
 #[inline]
 pub(crate) fn abs<T: SignedWord>(block: &mut [T], policy: u32, place: &mut usize) -> i32
     ensures { BlockAnswers T.value T.SIGNED T.BITS
@@ -128,7 +140,8 @@ pub(crate) fn abs<T: SignedWord>(block: &mut [T], policy: u32, place: &mut usize
     each(&Abs, policy, block, place)
 }
 
-/// `x k` for each x of the block, for an integer `k`.
+/// Writes `x k` over each x of the block, for an integer `k`. Fails with `NoPolicy` if no policy has the number
+/// `policy`, and with `OutOfRange` if the policy is `Checked` and a result does not fit.
 #[inline]
 pub(crate) fn mul_int<T: Word>(block: &mut [T], k: T, policy: u32, place: &mut usize) -> i32
     ensures { BlockAnswers T.value T.SIGNED T.BITS
@@ -138,7 +151,10 @@ pub(crate) fn mul_int<T: Word>(block: &mut [T], k: T, policy: u32, place: &mut u
     each(&MulInt { k }, policy, block, place)
 }
 
-/// `x by / 2^frac`, rounded down, for each x of the block.
+/// Writes `x by / 2^frac`, rounded down, over each x of the block. The factor `by` has `frac` fraction bits, and x and
+/// the result have one unit, which may be any. Fails with `FractionPastWidth` if `frac` is greater than the width, with
+/// `NoPolicy` if no policy has the number `policy`, and with `OutOfRange` if the policy is `Checked` and a result does
+/// not fit.
 #[inline]
 pub(crate) fn scale<T: Word>(
     block: &mut [T],
@@ -157,7 +173,9 @@ pub(crate) fn scale<T: Word>(
     each(&Scale { by, frac }, policy, block, place)
 }
 
-/// `x + y` for each x of the block and the y at its place.
+/// Writes `x + y` over each x of the block, where y is the other number at its index. Fails with `CountsDiffer` if the
+/// blocks have different lengths, with `NoPolicy` if no policy has the number `policy`, and with `OutOfRange` if the
+/// policy is `Checked` and a result does not fit.
 #[inline]
 pub(crate) fn add<T: Word>(block: &mut [T], others: &[T], policy: u32, place: &mut usize) -> i32
     ensures { BlockAnswers T.value T.SIGNED T.BITS
@@ -167,7 +185,9 @@ pub(crate) fn add<T: Word>(block: &mut [T], others: &[T], policy: u32, place: &m
     pairs(&Add, policy, block, others, place)
 }
 
-/// `x - y` for each x of the block and the y at its place.
+/// Writes `x - y` over each x of the block, where y is the other number at its index. Fails with `CountsDiffer` if the
+/// blocks have different lengths, with `NoPolicy` if no policy has the number `policy`, and with `OutOfRange` if the
+/// policy is `Checked` and a result does not fit.
 #[inline]
 pub(crate) fn sub<T: Word>(block: &mut [T], others: &[T], policy: u32, place: &mut usize) -> i32
     ensures { BlockAnswers T.value T.SIGNED T.BITS
@@ -177,7 +197,10 @@ pub(crate) fn sub<T: Word>(block: &mut [T], others: &[T], policy: u32, place: &m
     pairs(&Sub, policy, block, others, place)
 }
 
-/// `x y / 2^frac`, rounded down, for each x of the block and the y at its place.
+/// Writes `x y / 2^frac`, rounded down, over each x of the block, where y is the other number at its index. Fails with
+/// `FractionPastWidth` if `frac` is greater than the width, with `CountsDiffer` if the blocks have different lengths,
+/// with `NoPolicy` if no policy has the number `policy`, and with `OutOfRange` if the policy is `Checked` and a result
+/// does not fit.
 #[inline]
 pub(crate) fn mul<T: Word>(
     block: &mut [T],
@@ -196,7 +219,11 @@ pub(crate) fn mul<T: Word>(
     pairs(&Mul { frac }, policy, block, others, place)
 }
 
-/// `x + y by / 2^frac`, the product rounded down, for each x of the block and the y at its place.
+/// Writes x plus `y by / 2^frac`, which is rounded down, over each x of the block, where y is the other number at its
+/// index. The factor `by` has `frac` fraction bits, and x, y and the result have one unit, which may be any. Fails with
+/// `FractionPastWidth` if `frac` is greater than the width, with `CountsDiffer` if the blocks have different lengths,
+/// with `NoPolicy` if no policy has the number `policy`, and with `OutOfRange` if the policy is `Checked` and a result
+/// does not fit.
 #[inline]
 pub(crate) fn mul_add<T: Word>(
     block: &mut [T],
@@ -216,7 +243,10 @@ pub(crate) fn mul_add<T: Word>(
     pairs(&MulAdd { by, frac }, policy, block, others, place)
 }
 
-/// `x / 2^from` in units of `2^-to`, rounded, for each x of the block.
+/// Writes `x / 2^from` in units of `2^-to`, rounded as named, over each x of the block. Fails with `FractionPastWidth`
+/// if `from` or `to` is greater than the width, with `NoRounding` if no rounding has the number `rounding`, with
+/// `NoPolicy` if no policy has the number `policy`, and with `OutOfRange` if the policy is `Checked` and a result does
+/// not fit.
 #[inline]
 pub(crate) fn convert<T: Castable>(
     block: &mut [T],

@@ -1,6 +1,6 @@
-//! The calls that leave an outcome, each with its operands.
+//! The calls whose result is an outcome, each with its operands.
 //!
-//! An export hands its operands on as a [`Call`], so that every word meets the operations in one function.
+//! Each word's calls pass their operands as a [`Call`], so that one function has the operations of all words.
 #![tactic(auto, unfolding(crate::specs::inside::Calls::IsResultOf))]
 
 ghost use Rattle.fixed_c.specs.inside.Calls.{IsResultOf, given};
@@ -11,33 +11,35 @@ use fixed_convert::Castable;
 use fixed_kernel::{add_of, dist_of, mul_int_of, neg_of, sub_of};
 use fixed_word::Outcome;
 
-/// A call with its operands: numbers of the word, then fractions and the number of a rounding.
+/// A call with its operands: numbers, then numbers of fraction bits, then the number of a rounding. Numbers are bits,
+/// in units of `2^-frac` unless a comment names another unit.
 pub(crate) enum Call<T> {
-    /// `-a`
+    /// The number `-a`.
     Neg(T),
-    /// `a + b`
+    /// The sum `a + b`.
     Add(T, T),
-    /// `a - b`
+    /// The difference `a - b`.
     Sub(T, T),
     /// The magnitude of `a - b`.
     Dist(T, T),
-    /// `a b / 2^frac`, rounded down.
+    /// The product `a b / 2^frac`, rounded down.
     Mul(T, T, u32),
-    /// `a k`, for an integer `k`.
+    /// The product `a k`, for an integer `k`.
     MulInt(T, T),
-    /// `a mul / 2^frac`, rounded down, plus `add`.
+    /// The product `a mul / 2^mul_frac`, rounded down, plus `add`.
     MulAdd(T, T, T, u32),
-    /// `c` plus the product of `a` and `b`, each of a fraction of its own, rounded down.
+    /// `c` plus the product of `a` and `b`, which is rounded down to the fraction bits of `c`. Each operand has its own
+    /// number of fraction bits.
     AddProd(T, T, T, u32, u32, u32),
-    /// `a 2^frac / b`, rounded toward zero.
+    /// The quotient `a 2^frac / b`, rounded toward zero.
     Div(T, T, u32),
-    /// `a / k`, rounded toward zero, for an integer `k`.
+    /// The quotient `a / k`, rounded toward zero, for an integer `k`.
     DivInt(T, T),
-    /// `2^(2 frac) / a`, rounded toward zero.
+    /// The reciprocal `2^(2 frac) / a`, rounded toward zero.
     Recip(T, u32),
-    /// The Euclidean quotient of `a` and `b`, times `2^frac`.
+    /// The Euclidean quotient of `a` and `b`, which is an integer, times `2^frac`.
     DivEuclid(T, T, u32),
-    /// The Euclidean quotient of `a` and `k 2^frac`, times `2^frac`.
+    /// The Euclidean quotient of `a` and `k 2^frac`, which is an integer, times `2^frac`.
     DivEuclidInt(T, T, u32),
     /// The remainder of `a` and `b`, whose quotient is rounded toward zero.
     Rem(T, T),
@@ -47,31 +49,33 @@ pub(crate) enum Call<T> {
     RemEuclid(T, T),
     /// The Euclidean remainder of `a` and `k 2^frac`.
     RemEuclidInt(T, T, u32),
-    /// The multiple of `b` next to `a`.
+    /// The smallest multiple of `b` that is at least `a` if `b` is positive, and the largest one that is at most `a` if
+    /// `b` is negative.
     NextMultipleOf(T, T),
     /// The root of `a 2^frac`, rounded down.
     Sqrt(T, u32),
-    /// `a b / 2^frac`, rounded.
+    /// The product `a b / 2^frac`, rounded as named.
     MulRound(T, T, u32, u32),
-    /// `a mul / 2^frac`, rounded, plus `add`.
+    /// The product `a mul / 2^mul_frac`, rounded as named, plus `add`.
     MulAddRound(T, T, T, u32, u32),
-    /// `c` plus the product of `a` and `b`, each of a fraction of its own, rounded.
+    /// `c` plus the product of `a` and `b`, which is rounded as named to the fraction bits of `c`. Each operand has its
+    /// own number of fraction bits.
     AddProdRound(T, T, T, u32, u32, u32, u32),
-    /// `a 2^frac / b`, rounded.
+    /// The quotient `a 2^frac / b`, rounded as named.
     DivRound(T, T, u32, u32),
-    /// `a / k`, rounded, for an integer `k`.
+    /// The quotient `a / k`, rounded as named, for an integer `k`.
     DivIntRound(T, T, u32),
-    /// `2^(2 frac) / a`, rounded.
+    /// The reciprocal `2^(2 frac) / a`, rounded as named.
     RecipRound(T, u32, u32),
-    /// `number / 2^from` in units of `2^-to`, rounded, for a signed number.
+    /// The number `number / 2^from` in units of `2^-to`, rounded as named, for a signed number.
     Convert(i64, u32, u32, u32),
-    /// `number / 2^from` in units of `2^-to`, rounded, for an unsigned number.
+    /// The number `number / 2^from` in units of `2^-to`, rounded as named, for an unsigned number.
     ConvertUnsigned(u64, u32, u32, u32),
-    /// The float in units of `2^-frac`, rounded.
+    /// The number of a double in units of `2^-frac`, rounded as named.
     FromDouble(f64, u32, u32),
 }
 
-/// The outcome that stands for the exact number, or why there is none.
+/// Returns the outcome that stands for the exact result of a call, or the code of why there is none.
 #[inline(always)]
 pub(crate) fn result_of<T: Castable>(call: Call<T>) -> Result<Outcome<T>, Code>
     ensures { IsResultOf T.value T.SIGNED T.BITS (given T.value T.BITS call) result }

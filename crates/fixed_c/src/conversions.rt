@@ -1,4 +1,4 @@
-//! Numbers of other formats, and floats, in and out.
+//! Conversions from other formats, and from and to doubles.
 #![tactic(auto, unfolding(crate::specs::inside::Calls::IsResultOf, crate::specs::Answers::ValueAnswers, crate::specs::Answers::at_fraction, crate::specs::Answers::row_or, crate::specs::Roundings::for_rounding))]
 
 ghost use Rattle.std.specs.Prelude.{◌≡◌, Ok};
@@ -16,7 +16,8 @@ use fixed_convert::{Castable, convert_round_of};
 use fixed_float::{from_float_round_of, to_float_of};
 use fixed_word::{Outcome, Word};
 
-/// `number / 2^from` in units of `2^-to`, rounded.
+/// Returns `number / 2^from` in units of `2^-to`, rounded as named. Fails with `FractionPastWidth` if `from` is greater
+/// than the width of S, or `to` than that of T, and with `NoRounding` if no rounding has the number `rounding`.
 #[inline]
 pub(crate) fn convert<S: Castable, T: Castable>(
     number: S,
@@ -37,7 +38,9 @@ pub(crate) fn convert<S: Castable, T: Castable>(
     Ok(convert_round_of(number, from, to, rounding))
 }
 
-/// The float in units of `2^-frac`, rounded.
+/// Returns the number of a double in units of `2^-frac`, rounded as named. Fails with `FractionPastWidth` if `frac` is
+/// greater than the width, with `NoRounding` if no rounding has the number `rounding`, and with `NotFinite` if the
+/// double is a NaN or an infinity.
 #[inline]
 pub(crate) fn from_double<T: Word>(
     number: f64,
@@ -60,7 +63,8 @@ pub(crate) fn from_double<T: Word>(
     }
 }
 
-/// The float nearest to `a / 2^frac`.
+/// Writes the double nearest to `a / 2^frac`, ties to even, and returns 0. Fails with `FractionPastWidth` if `frac` is
+/// greater than the width.
 #[inline]
 pub(crate) fn to_double<T: Word>(a: T, frac: u32, value: &mut f64) -> i32
     ensures { ValueAnswers (at_fraction T.BITS frac (Ok (nearest_float binary64 (T.value a) frac)))

@@ -1,4 +1,7 @@
-//! Lengths, reciprocal roots, logarithms, powers and sines.
+//! Lengths, reciprocal roots, logarithms, powers, sines and cosines.
+//!
+//! Operands and results are bits, in units of `2^-frac`. Each function writes a number of the word and returns 0. If it
+//! fails, the number is unchanged.
 #![tactic(auto, unfolding(crate::specs::Answers::at_fraction, crate::specs::Answers::row_or, crate::specs::Near::positive, crate::specs::Near::NumberAnswers, crate::specs::Near::NearAnswers))]
 
 ghost use Rattle.std.specs.Prelude.{◌≡◌, ℤ, Some, int_lt, pos};
@@ -21,7 +24,7 @@ use fixed_natural::{exp_of, ln_of, log10_of, pow_of};
 use fixed_turns::{cos_turns_of, sin_turns_of};
 use fixed_word::{Outcome, RawWord, Word, checked_of};
 
-/// Whether `a` is above 0.
+/// Returns whether `a` is positive.
 #[inline]
 fn is_positive<T: Word>(a: T) -> bool
     ensures { result ≡ int_lt (pos 0) (T.value a) }
@@ -29,7 +32,8 @@ fn is_positive<T: Word>(a: T) -> bool
     !a.is_below_zero() && a.magnitude() > 0
 }
 
-/// Leaves the number that the outcome stands for, and returns 0; or returns the code of one that does not fit.
+/// Writes the number that the outcome stands for, and returns 0. If that does not fit, leaves the number unchanged, and
+/// returns the number of `OutOfRange`.
 #[inline]
 fn leave<T: Word>(outcome: Outcome<T>, number: &mut T) -> i32
     ensures exact { (x : ℤ) → StandsFor T.value T.SIGNED T.BITS x outcome
@@ -46,7 +50,8 @@ fn leave<T: Word>(outcome: Outcome<T>, number: &mut T) -> i32
     }
 }
 
-/// The length of the pair of both numbers, rounded down.
+/// Writes the length of the pair `(a, b)`, which is the root of `a^2 + b^2`, rounded down. Operands and result have the
+/// same number of fraction bits, which may be any. Fails with `OutOfRange` if the number does not fit.
 #[inline]
 pub(crate) fn hypot<T: Word>(a: T, b: T, number: &mut T) -> i32
     ensures { NearAnswers T.value T.SIGNED T.BITS allowed (λ r. r ≡ exact_hypot (T.value a) (T.value b))
@@ -55,7 +60,8 @@ pub(crate) fn hypot<T: Word>(a: T, b: T, number: &mut T) -> i32
     leave(hypot_of(a, b), number)
 }
 
-/// One over the square root of `a / 2^frac`, rounded down.
+/// Writes one over the square root of `a / 2^frac`, rounded down. Fails with `FractionPastWidth` if `frac` is greater
+/// than the width, with `NotPositive` if `a` is not positive, and with `OutOfRange` if the number does not fit.
 #[inline]
 pub(crate) fn recip_sqrt<T: Word>(a: T, frac: u32, number: &mut T) -> i32
     ensures { NearAnswers T.value T.SIGNED T.BITS (at_fraction T.BITS frac (positive (T.value a)))
@@ -70,7 +76,10 @@ pub(crate) fn recip_sqrt<T: Word>(a: T, frac: u32, number: &mut T) -> i32
     leave(recip_sqrt_of(a, frac), number)
 }
 
-/// The logarithm of `a / 2^frac` to the base 2, rounded down, up to the bound of `IsLog2Of`.
+/// Writes the logarithm of `a / 2^frac` to the base 2. For the result r and the exact logarithm l in units,
+/// `r <= l < r + 1 + 2^-k`, where `frac + k` is 62 on words of up to 32 bits and 126 on words of 64 bits. The logarithm
+/// of a power of two is exact. Fails with `FractionPastWidth` if `frac` is greater than the width, with `NotPositive`
+/// if `a` is not positive, and with `OutOfRange` if the number does not fit.
 #[inline]
 pub(crate) fn log2<T: Word>(a: T, frac: u32, number: &mut T) -> i32
     ensures { NearAnswers T.value T.SIGNED T.BITS (at_fraction T.BITS frac (positive (T.value a)))
@@ -85,7 +94,10 @@ pub(crate) fn log2<T: Word>(a: T, frac: u32, number: &mut T) -> i32
     leave(log2_of(a, frac), number)
 }
 
-/// The natural logarithm of `a / 2^frac`, rounded down, up to the bound of `IsLn`.
+/// Writes the natural logarithm of `a / 2^frac`. For the result r and the exact logarithm l in units,
+/// `r - 2^-k <= l < r + 1`, where k is 24 on words of up to 32 bits and 32 on words of 64 bits. Fails with
+/// `FractionPastWidth` if `frac` is greater than the width, with `NotPositive` if `a` is not positive, and with
+/// `OutOfRange` if the number does not fit.
 #[inline]
 pub(crate) fn ln<T: Word>(a: T, frac: u32, number: &mut T) -> i32
     ensures { NearAnswers T.value T.SIGNED T.BITS (at_fraction T.BITS frac (positive (T.value a)))
@@ -100,7 +112,10 @@ pub(crate) fn ln<T: Word>(a: T, frac: u32, number: &mut T) -> i32
     leave(ln_of(a, frac), number)
 }
 
-/// The logarithm of `a / 2^frac` to the base 10, rounded down, up to the bound of `IsLog10`.
+/// Writes the logarithm of `a / 2^frac` to the base 10. For the result r and the exact logarithm l in units,
+/// `r - 2^-k <= l < r + 1`, where k is 24 on words of up to 32 bits and 32 on words of 64 bits. Fails with
+/// `FractionPastWidth` if `frac` is greater than the width, with `NotPositive` if `a` is not positive, and with
+/// `OutOfRange` if the number does not fit.
 #[inline]
 pub(crate) fn log10<T: Word>(a: T, frac: u32, number: &mut T) -> i32
     ensures { NearAnswers T.value T.SIGNED T.BITS (at_fraction T.BITS frac (positive (T.value a)))
@@ -115,7 +130,10 @@ pub(crate) fn log10<T: Word>(a: T, frac: u32, number: &mut T) -> i32
     leave(log10_of(a, frac), number)
 }
 
-/// 2 to the power of `a / 2^frac`, rounded down, up to the bound of `IsExp2Of`.
+/// Writes 2 to the power of `a / 2^frac`. For the result r and the exact power p in units, `r <= p < (r + 1) 2^(2^-k)`,
+/// where k is 54 on words of up to 32 bits and 117 on words of 64 bits. 2 to the power of a whole number of at least
+/// `-frac` is exact. Fails with `FractionPastWidth` if `frac` is greater than the width, and with `OutOfRange` if the
+/// number does not fit.
 #[inline]
 pub(crate) fn exp2<T: Word>(a: T, frac: u32, number: &mut T) -> i32
     ensures { NearAnswers T.value T.SIGNED T.BITS (at_fraction T.BITS frac allowed)
@@ -127,7 +145,9 @@ pub(crate) fn exp2<T: Word>(a: T, frac: u32, number: &mut T) -> i32
     leave(exp2_of(a, frac), number)
 }
 
-/// e to the power of `a / 2^frac`, rounded down, up to the bound of `IsExp`.
+/// Writes e to the power of `a / 2^frac`. For the result r and the exact power p in units, `r <= p 2^(2^-61)`, and
+/// `p < r + 1`. e to the power of 0 is exactly 1. Fails with `FractionPastWidth` if `frac` is greater than the width,
+/// and with `OutOfRange` if the number does not fit.
 #[inline]
 pub(crate) fn exp<T: Word>(a: T, frac: u32, number: &mut T) -> i32
     ensures { NearAnswers T.value T.SIGNED T.BITS (at_fraction T.BITS frac allowed)
@@ -139,7 +159,9 @@ pub(crate) fn exp<T: Word>(a: T, frac: u32, number: &mut T) -> i32
     leave(exp_of(a, frac), number)
 }
 
-/// `a / 2^frac` to the power of `b / 2^frac`, rounded down, up to the bound of `IsPow`.
+/// Writes `a / 2^frac` to the power of `b / 2^frac`. For the result r and the exact power p in units,
+/// `r <= p 2^(2^-55)`, and `p < r + 1`. Fails with `FractionPastWidth` if `frac` is greater than the width, with
+/// `NotPositive` if `a` is not positive, and with `OutOfRange` if the number does not fit.
 #[inline]
 pub(crate) fn pow<T: Word>(a: T, b: T, frac: u32, number: &mut T) -> i32
     ensures { NearAnswers T.value T.SIGNED T.BITS (at_fraction T.BITS frac (positive (T.value a)))
@@ -154,7 +176,10 @@ pub(crate) fn pow<T: Word>(a: T, b: T, frac: u32, number: &mut T) -> i32
     leave(pow_of(a, b, frac), number)
 }
 
-/// The sine of `a / 2^frac` turns, rounded to the nearest, up to the bound of `IsSine`.
+/// Writes the sine of `a / 2^frac` turns, rounded to the nearest. It differs from the exact sine by at most half a unit
+/// plus `2^-k`, where k is 41 on words of up to 32 bits and 61 on words of 64 bits. Sines of whole quarter turns are
+/// exact. Fails with `FractionPastWidth` if `frac` is greater than the width, and with `OutOfRange` if the number does
+/// not fit.
 #[inline]
 pub(crate) fn sin_turns<T: Word>(a: T, frac: u32, number: &mut T) -> i32
     ensures { NearAnswers T.value T.SIGNED T.BITS (at_fraction T.BITS frac allowed)
@@ -166,7 +191,10 @@ pub(crate) fn sin_turns<T: Word>(a: T, frac: u32, number: &mut T) -> i32
     leave(sin_turns_of(a, frac), number)
 }
 
-/// The cosine of `a / 2^frac` turns, rounded to the nearest, up to the bound of `IsCosine`.
+/// Writes the cosine of `a / 2^frac` turns, rounded to the nearest. It differs from the exact cosine by at most half a
+/// unit plus `2^-k`, where k is 41 on words of up to 32 bits and 61 on words of 64 bits. Cosines of whole quarter turns
+/// are exact. Fails with `FractionPastWidth` if `frac` is greater than the width, and with `OutOfRange` if the number
+/// does not fit.
 #[inline]
 pub(crate) fn cos_turns<T: Word>(a: T, frac: u32, number: &mut T) -> i32
     ensures { NearAnswers T.value T.SIGNED T.BITS (at_fraction T.BITS frac allowed)

@@ -1,5 +1,7 @@
-//! Operations of intervals, by their ends. Ends are numbers of units of `2^-frac`; those of an answer are rounded
-//! outward.
+//! Operations on intervals, by their ends.
+//!
+//! Ends are bits, in units of `2^-frac`. Each function writes the ends of the result, rounded outward, and returns 0.
+//! If it fails, both ends are unchanged.
 #![tactic(auto, unfolding(crate::specs::Answers::at_fraction, crate::specs::Intervals::in_order, crate::specs::Intervals::without_zero, crate::specs::Intervals::from_zero, crate::specs::Intervals::sum_in, crate::specs::Intervals::difference_in, crate::specs::Intervals::product_in, crate::specs::Intervals::quotient_in, crate::specs::Intervals::root_in, crate::specs::Intervals::EndsAnswers))]
 
 ghost use Rattle.std.specs.Prelude.{◌≡◌, Some, false, int_lt, pos};
@@ -11,7 +13,8 @@ use crate::answer::Code;
 use fixed_interval::{Interval, add_in, div_in, mul_in, sqrt_in, sub_in};
 use fixed_word::{RawWord, Word};
 
-/// The sums of a number in `a` and one in `b`, with nothing to round.
+/// Writes the ends of the sums of a number in `a` and one in `b`. Nothing is rounded. Fails with `EndsExchanged` if the
+/// low end of an operand is greater than its high end, and with `OutOfRange` if an end of the result does not fit.
 #[inline]
 pub(crate) fn add<T: Word>(
     a_low: T,
@@ -36,7 +39,9 @@ pub(crate) fn add<T: Word>(
     leave(add_in(&a, &b), low, high)
 }
 
-/// The differences of a number in `a` and one in `b`, with nothing to round.
+/// Writes the ends of the differences of a number in `a` and one in `b`. Nothing is rounded. Fails with `EndsExchanged`
+/// if the low end of an operand is greater than its high end, and with `OutOfRange` if an end of the result does not
+/// fit.
 #[inline]
 pub(crate) fn sub<T: Word>(
     a_low: T,
@@ -61,7 +66,10 @@ pub(crate) fn sub<T: Word>(
     leave(sub_in(&a, &b), low, high)
 }
 
-/// The products of a number in `a` and one in `b`.
+/// Writes the ends of the products of a number in `a` and one in `b`, each over `2^frac`: the least product of two
+/// ends, rounded down, and the greatest, rounded up. Fails with `FractionPastWidth` if `frac` is greater than the
+/// width, with `EndsExchanged` if the low end of an operand is greater than its high end, and with `OutOfRange` if an
+/// end of the result does not fit.
 #[inline]
 pub(crate) fn mul<T: Word>(
     a_low: T,
@@ -90,7 +98,10 @@ pub(crate) fn mul<T: Word>(
     leave(mul_in(&a, &b, frac), low, high)
 }
 
-/// The quotients of a number in `a` by one in `b`.
+/// Writes the ends of the quotients of a number in `a` by one in `b`, each times `2^frac`: the least quotient of two
+/// ends, rounded down, and the greatest, rounded up. Fails with `FractionPastWidth` if `frac` is greater than the
+/// width, with `EndsExchanged` if the low end of an operand is greater than its high end, with `ZeroDivisor` if 0 is in
+/// `b`, and with `OutOfRange` if an end of the result does not fit.
 #[inline]
 pub(crate) fn div<T: Word>(
     a_low: T,
@@ -122,7 +133,10 @@ pub(crate) fn div<T: Word>(
     leave(div_in(&a, &b, frac), low, high)
 }
 
-/// The roots of the numbers in `a`.
+/// Writes the ends of the roots of `x 2^frac` for the numbers x in `a`: the root for the low end, rounded down, and
+/// that for the high end, rounded up. Fails with `FractionPastWidth` if `frac` is greater than the width, with
+/// `EndsExchanged` if the low end of an operand is greater than its high end, with `NegativeRoot` if the low end is
+/// negative, and with `OutOfRange` if an end of the result does not fit.
 #[inline]
 pub(crate) fn sqrt<T: Word>(a_low: T, a_high: T, frac: u32, low: &mut T, high: &mut T) -> i32
     ensures { EndsAnswers T.value (root_in T.SIGNED T.BITS (from_to (T.value a_low) (T.value a_high)) frac)
@@ -141,7 +155,7 @@ pub(crate) fn sqrt<T: Word>(a_low: T, a_high: T, frac: u32, low: &mut T, high: &
     leave(sqrt_in(&a, frac), low, high)
 }
 
-/// Whether the low end is above the high one.
+/// Returns whether the low end is greater than the high end.
 #[inline]
 fn are_exchanged<T: Word>(low: T, high: T) -> bool
     ensures { result ≡ int_lt (T.value high) (T.value low) }
@@ -149,7 +163,7 @@ fn are_exchanged<T: Word>(low: T, high: T) -> bool
     high < low
 }
 
-/// Whether the number is below 0.
+/// Returns whether the number is negative.
 #[inline]
 fn is_below_zero<T: Word>(a: T) -> bool
     ensures { result ≡ int_lt (T.value a) (pos 0) }
@@ -157,7 +171,7 @@ fn is_below_zero<T: Word>(a: T) -> bool
     a < T::ZERO
 }
 
-/// Whether 0 lies between these ends.
+/// Returns whether 0 lies between these ends, or is one of them.
 #[inline]
 fn holds_zero<T: Word>(low: T, high: T) -> bool
     ensures { result ≡ has_zero (from_to (T.value low) (T.value high)) }
@@ -165,7 +179,7 @@ fn holds_zero<T: Word>(low: T, high: T) -> bool
     low <= T::ZERO && T::ZERO <= high
 }
 
-/// The interval with these ends. Condition: the low one is at most the high one.
+/// Returns the interval with these ends. Precondition: the low end is at most the high end.
 #[inline]
 fn interval<T: Word>(low: T, high: T) -> Interval<T>
     requires { int_lt (T.value high) (T.value low) ≡ false }
@@ -174,7 +188,8 @@ fn interval<T: Word>(low: T, high: T) -> Interval<T>
     Interval::new(low, high).unwrap()
 }
 
-/// Leaves the ends that were found, and returns 0; or returns the code of ends that do not fit.
+/// Writes the ends of the interval that was found, and returns 0. If there is none, leaves both ends unchanged, and
+/// returns the number of `OutOfRange`.
 #[inline]
 fn leave<T: Word>(found: Option<Interval<T>>, low: &mut T, high: &mut T) -> i32
     ensures { (e : Ends) → option_map (ends_of T.value) found ≡ fitting T.SIGNED T.BITS (Some e)

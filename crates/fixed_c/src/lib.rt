@@ -1,13 +1,19 @@
-//! A face for C: the operations of fixed-point numbers on their bits, at a fraction that is known at run time.
+//! Calls for C and C++: operations on the bits of fixed-point numbers. The number of fraction bits is an argument,
+//! known only at run time.
 //!
-//! Each of the eight words has its 20 or 21 operations under names of C's, `fixed_i32_div` among them. A call is total:
-//! it returns 0 and leaves a result, or returns the number of a [`Code`] and leaves the result as it was. A result is
-//! what is left of the exact number in the word, and where that number lies. Numbers are whole numbers of units of
-//! `2^-frac`; operands named `k` are integers. A fraction is at most the width n; one past it comes before a divisor of
-//! 0. No call takes memory. `include/fixed.h` declares the calls, and makes a number of a result by each policy.
+//! Each of the eight words has its own calls, such as `fixed_i32_div`. A call has no precondition on its numbers: it
+//! returns 0 and writes its result, or it fails. It then returns the number of a [`Code`](answer::Code), and the result
+//! is unchanged, unless the comment of the call says otherwise. If several codes apply, the call returns the first one
+//! that its comment names.
 //!
-//! Not known to any proof is what C passes: it has to be a whole, aligned result that nothing else reads or writes
-//! meanwhile. All items are this project's own.
+//! The result of an operation is the wrapped word, and the side of the word's range on which the exact result lies.
+//! Other calls write a number, the ends of an interval, a text or a block. Operands and results are bits, in units of
+//! `2^-frac`, unless a comment names another unit. Operands named `k` are integers. Numbers of fraction bits range from
+//! 0 to the width of the word. No call allocates.
+//!
+//! `include/fixed.h` declares the calls. Its inline functions, such as `fixed_i32_saturating`, apply a policy to a
+//! result. No proof covers the pointers that C passes: the header states what a program must guarantee of them. The
+//! Rust crate `fixed` does not have these calls.
 #![tactic(auto)]
 
 mod answer;

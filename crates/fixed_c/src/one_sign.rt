@@ -1,4 +1,4 @@
-//! What words of one sign alone have: magnitudes and signs, or powers of two.
+//! Operations that only signed words have, or only unsigned ones. Operands and results are bits, in units of `2^-frac`.
 #![tactic(auto, unfolding(crate::specs::inside::Calls::IsResultOf, crate::specs::Answers::at_fraction))]
 
 ghost use Rattle.std.specs.Prelude.{◌≡◌, Ok};
@@ -10,7 +10,7 @@ use crate::answer::Code;
 use fixed_kernel::{abs_of, next_power_of_two_of, signum_of};
 use fixed_word::{Outcome, SignedWord, UnsignedWord, Word};
 
-/// The magnitude of `a`.
+/// Returns the magnitude of `a`. Never fails.
 #[inline]
 pub(crate) fn abs<T: SignedWord>(a: T) -> Result<Outcome<T>, Code>
     ensures { IsResultOf T.value T.SIGNED T.BITS
@@ -19,7 +19,8 @@ pub(crate) fn abs<T: SignedWord>(a: T) -> Result<Outcome<T>, Code>
     Ok(abs_of(a))
 }
 
-/// One by the sign of `a`: `2^frac`, 0 or `-2^frac`.
+/// Returns `2^frac` if `a` is positive, 0 if it is 0, and `-2^frac` if it is negative. Fails with `FractionPastWidth`
+/// if `frac` is greater than the width.
 #[inline]
 pub(crate) fn signum<T: SignedWord>(a: T, frac: u32) -> Result<Outcome<T>, Code>
     ensures { IsResultOf T.value T.SIGNED T.BITS
@@ -31,7 +32,7 @@ pub(crate) fn signum<T: SignedWord>(a: T, frac: u32) -> Result<Outcome<T>, Code>
     Ok(signum_of(a, frac))
 }
 
-/// The least power of two that is at least `a`.
+/// Returns the smallest power of two that is at least `a`, both as bits. Never fails.
 #[inline]
 pub(crate) fn next_power_of_two<T: UnsignedWord>(a: T) -> Result<Outcome<T>, Code>
     ensures { IsResultOf T.value T.SIGNED T.BITS

@@ -1,4 +1,4 @@
-//! Products, rounded down.
+//! Products, rounded down. Operands and results are bits, in units of `2^-frac` unless a comment names another unit.
 #![tactic(auto, unfolding(crate::specs::inside::Calls::IsResultOf, crate::specs::Answers::at_fraction))]
 
 ghost use Rattle.std.specs.Prelude.{◌≡◌, ◌≤◌, Ok};
@@ -11,7 +11,7 @@ use crate::answer::Code;
 use fixed_kernel::{add_prod_of, mul_add_of, mul_of};
 use fixed_word::{Outcome, Word};
 
-/// `a b / 2^frac`, rounded down.
+/// Returns `a b / 2^frac`, rounded down. Fails with `FractionPastWidth` if `frac` is greater than the width.
 #[inline]
 pub(crate) fn mul<T: Word>(a: T, b: T, frac: u32) -> Result<Outcome<T>, Code>
     ensures { IsResultOf T.value T.SIGNED T.BITS
@@ -23,7 +23,9 @@ pub(crate) fn mul<T: Word>(a: T, b: T, frac: u32) -> Result<Outcome<T>, Code>
     Ok(mul_of(a, b, frac))
 }
 
-/// `a mul / 2^mul_frac`, rounded down, plus `add`.
+/// Returns `a mul / 2^mul_frac`, rounded down, plus `add`. The factor `mul` has `mul_frac` fraction bits, and the other
+/// operands and the result have one unit, which may be any. Fails with `FractionPastWidth` if `mul_frac` is greater
+/// than the width.
 #[inline]
 pub(crate) fn mul_add<T: Word>(a: T, mul: T, add: T, mul_frac: u32) -> Result<Outcome<T>, Code>
     ensures { IsResultOf T.value T.SIGNED T.BITS
@@ -35,8 +37,9 @@ pub(crate) fn mul_add<T: Word>(a: T, mul: T, add: T, mul_frac: u32) -> Result<Ou
     Ok(mul_add_of(a, mul, add, mul_frac))
 }
 
-/// `c` plus the product of `a` and `b`, each of a fraction of its own; the product is brought to that of `c` and
-/// rounded down.
+/// Returns `c` plus the product of `a` and `b`, which is rounded down to the fraction bits of `c`. Each operand has its
+/// own number of fraction bits, and the result has that of `c`. Fails with `FractionPastWidth` if one of these numbers
+/// is greater than the width.
 #[inline]
 pub(crate) fn add_prod<T: Word>(
     c: T,
@@ -57,8 +60,9 @@ pub(crate) fn add_prod<T: Word>(
     Ok(outcome)
 }
 
-/// The outcome of a sum of a product. Products that move down by at most the width, as they mostly do, move in one
-/// shift.
+/// Returns the outcome of `c` plus the product of `a` and `b`, which is rounded down to the fraction bits of `c`. A
+/// product that is shifted right by at most the width, as most are, takes one shift. Precondition: each number of
+/// fraction bits is at most the width.
 #[inline]
 #[tactic(auto, using(crate::proofs::Moved::moved_down))]
 fn sum_of_product<T: Word>(c: T, a: T, b: T, c_frac: u32, a_frac: u32, b_frac: u32) -> Outcome<T>

@@ -1,4 +1,4 @@
-//! Quotients, rounded toward zero, and Euclidean quotients.
+//! Quotients, rounded toward zero, and Euclidean quotients. Operands and results are bits, in units of `2^-frac`.
 #![tactic(auto, unfolding(crate::specs::inside::Calls::IsResultOf, crate::specs::Answers::at_fraction, crate::specs::Answers::row_or))]
 
 ghost use Rattle.std.specs.Prelude.{◌≡◌};
@@ -12,7 +12,8 @@ use crate::answer::Code;
 use fixed_kernel::{div_euclid_int_of, div_euclid_of, div_int_of, div_of, recip_of};
 use fixed_word::{Outcome, Word};
 
-/// `a 2^frac / b`, rounded toward zero.
+/// Returns `a 2^frac / b`, rounded toward zero. Fails with `FractionPastWidth` if `frac` is greater than the width, and
+/// with `ZeroDivisor` if `b` is 0.
 #[inline]
 pub(crate) fn div<T: Word>(a: T, b: T, frac: u32) -> Result<Outcome<T>, Code>
     ensures { IsResultOf T.value T.SIGNED T.BITS
@@ -27,7 +28,7 @@ pub(crate) fn div<T: Word>(a: T, b: T, frac: u32) -> Result<Outcome<T>, Code>
     Ok(div_of(a, b, frac))
 }
 
-/// `a / k`, rounded toward zero, for an integer `k`.
+/// Returns `a / k`, rounded toward zero, for an integer `k`. Fails with `ZeroDivisor` if `k` is 0.
 #[inline]
 pub(crate) fn div_int<T: Word>(a: T, k: T) -> Result<Outcome<T>, Code>
     ensures { IsResultOf T.value T.SIGNED T.BITS
@@ -39,7 +40,8 @@ pub(crate) fn div_int<T: Word>(a: T, k: T) -> Result<Outcome<T>, Code>
     Ok(div_int_of(a, k))
 }
 
-/// `2^(2 frac) / a`, rounded toward zero.
+/// Returns `2^(2 frac) / a`, rounded toward zero. Fails with `FractionPastWidth` if `frac` is greater than the width,
+/// and with `ZeroDivisor` if `a` is 0.
 #[inline]
 pub(crate) fn recip<T: Word>(a: T, frac: u32) -> Result<Outcome<T>, Code>
     ensures { IsResultOf T.value T.SIGNED T.BITS
@@ -54,7 +56,8 @@ pub(crate) fn recip<T: Word>(a: T, frac: u32) -> Result<Outcome<T>, Code>
     Ok(recip_of(a, frac))
 }
 
-/// The quotient of the Euclidean pair of `a` and `b`, a whole number, times `2^frac`.
+/// Returns the Euclidean quotient of `a` and `b`, which is an integer, times `2^frac`. Fails with `FractionPastWidth`
+/// if `frac` is greater than the width, and with `ZeroDivisor` if `b` is 0.
 #[inline]
 pub(crate) fn div_euclid<T: Word>(a: T, b: T, frac: u32) -> Result<Outcome<T>, Code>
     ensures { IsResultOf T.value T.SIGNED T.BITS
@@ -69,7 +72,8 @@ pub(crate) fn div_euclid<T: Word>(a: T, b: T, frac: u32) -> Result<Outcome<T>, C
     Ok(div_euclid_of(a, b, frac))
 }
 
-/// The quotient of the Euclidean pair of `a` and `k 2^frac`, a whole number, times `2^frac`.
+/// Returns the Euclidean quotient of `a` and `k 2^frac`, which is an integer, times `2^frac`. Fails with
+/// `FractionPastWidth` if `frac` is greater than the width, and with `ZeroDivisor` if `k` is 0.
 #[inline]
 pub(crate) fn div_euclid_int<T: Word>(a: T, k: T, frac: u32) -> Result<Outcome<T>, Code>
     ensures { IsResultOf T.value T.SIGNED T.BITS

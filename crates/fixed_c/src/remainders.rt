@@ -1,4 +1,4 @@
-//! Remainders and multiples.
+//! Remainders and multiples. Operands and results are bits, in units of `2^-frac`.
 #![tactic(auto, unfolding(crate::specs::inside::Calls::IsResultOf, crate::specs::Answers::at_fraction, crate::specs::Answers::row_or))]
 
 ghost use Rattle.std.specs.Prelude.{◌≡◌};
@@ -12,7 +12,8 @@ use crate::answer::Code;
 use fixed_kernel::{next_multiple_of_of, rem_euclid_int_of, rem_euclid_of, rem_int_of, rem_of};
 use fixed_word::{Outcome, Word};
 
-/// `a - b q`, with the quotient q of `a` and `b` rounded toward zero.
+/// Returns `a - b q`, where q is the quotient of `a` and `b`, rounded toward zero. Fails with `ZeroDivisor` if `b` is
+/// 0.
 #[inline]
 pub(crate) fn rem<T: Word>(a: T, b: T) -> Result<Outcome<T>, Code>
     ensures { IsResultOf T.value T.SIGNED T.BITS
@@ -24,7 +25,8 @@ pub(crate) fn rem<T: Word>(a: T, b: T) -> Result<Outcome<T>, Code>
     Ok(rem_of(a, b))
 }
 
-/// `a - d q` for `d = k 2^frac`, with the quotient q of `a` and d rounded toward zero.
+/// Returns `a - d q` for `d = k 2^frac`, where q is the quotient of `a` and d, rounded toward zero. Fails with
+/// `FractionPastWidth` if `frac` is greater than the width, and with `ZeroDivisor` if `k` is 0.
 #[inline]
 pub(crate) fn rem_int<T: Word>(a: T, k: T, frac: u32) -> Result<Outcome<T>, Code>
     ensures { IsResultOf T.value T.SIGNED T.BITS
@@ -39,7 +41,7 @@ pub(crate) fn rem_int<T: Word>(a: T, k: T, frac: u32) -> Result<Outcome<T>, Code
     Ok(rem_int_of(a, k, frac))
 }
 
-/// The remainder of the Euclidean pair of `a` and `b`.
+/// Returns the Euclidean remainder of `a` and `b`, which is never negative. Fails with `ZeroDivisor` if `b` is 0.
 #[inline]
 pub(crate) fn rem_euclid<T: Word>(a: T, b: T) -> Result<Outcome<T>, Code>
     ensures { IsResultOf T.value T.SIGNED T.BITS
@@ -51,7 +53,8 @@ pub(crate) fn rem_euclid<T: Word>(a: T, b: T) -> Result<Outcome<T>, Code>
     Ok(rem_euclid_of(a, b))
 }
 
-/// The remainder of the Euclidean pair of `a` and `k 2^frac`.
+/// Returns the Euclidean remainder of `a` and `k 2^frac`, which is never negative. Fails with `FractionPastWidth` if
+/// `frac` is greater than the width, and with `ZeroDivisor` if `k` is 0.
 #[inline]
 pub(crate) fn rem_euclid_int<T: Word>(a: T, k: T, frac: u32) -> Result<Outcome<T>, Code>
     ensures { IsResultOf T.value T.SIGNED T.BITS
@@ -66,8 +69,8 @@ pub(crate) fn rem_euclid_int<T: Word>(a: T, k: T, frac: u32) -> Result<Outcome<T
     Ok(rem_euclid_int_of(a, k, frac))
 }
 
-/// The least multiple of `b` that is at least `a` where `b` is above 0, and the greatest that is at most `a`
-/// where `b` is below 0.
+/// Returns the smallest multiple of `b` that is at least `a` if `b` is positive, and the largest one that is at most
+/// `a` if `b` is negative. Fails with `ZeroDivisor` if `b` is 0.
 #[inline]
 pub(crate) fn next_multiple_of<T: Word>(a: T, b: T) -> Result<Outcome<T>, Code>
     ensures { IsResultOf T.value T.SIGNED T.BITS

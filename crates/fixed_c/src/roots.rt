@@ -1,4 +1,4 @@
-//! Square roots.
+//! Square roots. Operands and results are bits, in units of `2^-frac`.
 #![tactic(auto, unfolding(crate::specs::inside::Calls::IsResultOf, crate::specs::Answers::at_fraction, crate::specs::Answers::row_or))]
 
 ghost use Rattle.std.specs.Prelude.{◌≡◌};
@@ -12,7 +12,8 @@ use crate::answer::Code;
 use fixed_kernel::sqrt_of;
 use fixed_word::{Outcome, RawWord, Word};
 
-/// The root of `a 2^frac`, rounded down.
+/// Returns the root of `a 2^frac`, rounded down. Fails with `FractionPastWidth` if `frac` is greater than the width,
+/// and with `NegativeRoot` if `a` is negative.
 #[inline]
 pub(crate) fn sqrt<T: Word>(a: T, frac: u32) -> Result<Outcome<T>, Code>
     ensures { IsResultOf T.value T.SIGNED T.BITS

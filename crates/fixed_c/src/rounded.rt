@@ -1,4 +1,5 @@
-//! Operations whose rounding is named by a number.
+//! Operations with a named rounding. Operands and results are bits, in units of `2^-frac` unless a comment names
+//! another unit.
 #![tactic(auto, unfolding(crate::specs::inside::Calls::IsResultOf, crate::specs::Answers::at_fraction, crate::specs::Answers::row_or, crate::specs::Roundings::for_rounding))]
 
 ghost use Rattle.std.specs.Prelude.{◌≡◌, Ok};
@@ -17,7 +18,7 @@ use fixed_kernel::{
 };
 use fixed_word::{Outcome, Rounding, Word};
 
-/// The rounding that has the number; None if none has.
+/// Returns the rounding that has the number, or `None` if none has.
 #[inline]
 pub(crate) fn rounding_of(number: u32) -> Option<Rounding>
     ensures { result ≡ rounding_of number }
@@ -30,7 +31,8 @@ pub(crate) fn rounding_of(number: u32) -> Option<Rounding>
     }
 }
 
-/// `a b / 2^frac`, rounded.
+/// Returns `a b / 2^frac`, rounded as named. Fails with `FractionPastWidth` if `frac` is greater than the width, and
+/// with `NoRounding` if no rounding has the number `rounding`.
 #[inline]
 pub(crate) fn mul<T: Word>(a: T, b: T, frac: u32, rounding: u32) -> Result<Outcome<T>, Code>
     ensures { IsResultOf T.value T.SIGNED T.BITS
@@ -45,7 +47,9 @@ pub(crate) fn mul<T: Word>(a: T, b: T, frac: u32, rounding: u32) -> Result<Outco
     Ok(mul_round_of(a, b, frac, rounding))
 }
 
-/// `a mul / 2^mul_frac`, rounded, plus `add`.
+/// Returns `a mul / 2^mul_frac`, rounded as named, plus `add`. The factor `mul` has `mul_frac` fraction bits, and the
+/// other operands and the result have one unit, which may be any. Fails with `FractionPastWidth` if `mul_frac` is
+/// greater than the width, and with `NoRounding` if no rounding has the number `rounding`.
 #[inline]
 pub(crate) fn mul_add<T: Word>(
     a: T,
@@ -68,8 +72,9 @@ pub(crate) fn mul_add<T: Word>(
     Ok(outcome)
 }
 
-/// `c` plus the product of `a` and `b`, each of a fraction of its own; the product is brought to that of `c` and
-/// rounded.
+/// Returns `c` plus the product of `a` and `b`, which is rounded as named to the fraction bits of `c`. Each operand has
+/// its own number of fraction bits, and the result has that of `c`. Fails with `FractionPastWidth` if one of these
+/// numbers is greater than the width, and with `NoRounding` if no rounding has the number `rounding`.
 #[inline]
 pub(crate) fn add_prod<T: Word>(
     c: T,
@@ -94,7 +99,8 @@ pub(crate) fn add_prod<T: Word>(
     Ok(outcome)
 }
 
-/// `a 2^frac / b`, rounded.
+/// Returns `a 2^frac / b`, rounded as named. Fails with `FractionPastWidth` if `frac` is greater than the width, with
+/// `NoRounding` if no rounding has the number `rounding`, and with `ZeroDivisor` if `b` is 0.
 #[inline]
 pub(crate) fn div<T: Word>(a: T, b: T, frac: u32, rounding: u32) -> Result<Outcome<T>, Code>
     ensures { IsResultOf T.value T.SIGNED T.BITS
@@ -113,7 +119,8 @@ pub(crate) fn div<T: Word>(a: T, b: T, frac: u32, rounding: u32) -> Result<Outco
     Ok(div_round_of(a, b, frac, rounding))
 }
 
-/// `a / k`, rounded, for an integer `k`.
+/// Returns `a / k`, rounded as named, for an integer `k`. Fails with `NoRounding` if no rounding has the number
+/// `rounding`, and with `ZeroDivisor` if `k` is 0.
 #[inline]
 pub(crate) fn div_int<T: Word>(a: T, k: T, rounding: u32) -> Result<Outcome<T>, Code>
     ensures { IsResultOf T.value T.SIGNED T.BITS
@@ -128,7 +135,8 @@ pub(crate) fn div_int<T: Word>(a: T, k: T, rounding: u32) -> Result<Outcome<T>, 
     Ok(div_int_round_of(a, k, rounding))
 }
 
-/// `2^(2 frac) / a`, rounded.
+/// Returns `2^(2 frac) / a`, rounded as named. Fails with `FractionPastWidth` if `frac` is greater than the width, with
+/// `NoRounding` if no rounding has the number `rounding`, and with `ZeroDivisor` if `a` is 0.
 #[inline]
 pub(crate) fn recip<T: Word>(a: T, frac: u32, rounding: u32) -> Result<Outcome<T>, Code>
     ensures { IsResultOf T.value T.SIGNED T.BITS

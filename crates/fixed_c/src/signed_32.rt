@@ -1,4 +1,9 @@
 //! The calls of `i32`.
+//!
+//! Operands and results are bits, in units of `2^-frac` unless a comment names another unit. Operands named `k` are
+//! integers. A call returns 0 and writes its result, or it fails: it returns the number of a [`Code`] and leaves the
+//! result unchanged, unless its comment says otherwise. If several codes apply, it returns the first one that its
+//! comment names. [`blocks`] states what calls over blocks leave.
 
 ghost use Rattle.std.specs.Prelude.{◌≡◌, ℤ, Result, Ok, true, pos, neg_ℤ, ◌*ℤ◌, ◌+ℤ◌, ◌-ℤ◌, map};
 ghost use Rattle.std.specs.Float.{binary64};
@@ -32,28 +37,29 @@ use crate::{arrays, blocks, conversions, intervals, one_sign, texts};
 use fixed_filter::Shape;
 use fixed_word::Outcome;
 
-/// What a call leaves where its code is 0.
+/// The result of an operation.
 #[repr(C)]
 #[derive(Clone, Copy)]
 pub struct AnswerI32 {
-    /// What is left of the number in the word.
+    /// The wrapped number. It differs from the exact result by a multiple of `2^32` units, and is the exact result if
+    /// that fits.
     pub bits: i32,
-    /// Where the number lies: 0 where it fits, 1 above the greatest value, -1 below the least.
+    /// The side: 0 if the exact result fits, 1 if it is above the range, and -1 if it is below.
     pub side: i32,
 }
 
-/// What a call over intervals leaves where its code is 0.
+/// The result of an operation on intervals.
 #[repr(C)]
 #[derive(Clone, Copy)]
 pub struct EndsI32 {
-    /// The least number.
+    /// The smallest number of the interval.
     pub low: i32,
-    /// The greatest number.
+    /// The largest number of the interval.
     pub high: i32,
 }
 
 impl AnswerI32 {
-    /// Leaves the outcome, and returns 0; or returns the number of the code.
+    /// Writes the outcome and returns 0; or returns the number of the code, and leaves the result unchanged.
     #[inline]
     #[tactic(auto, unfolding(crate::specs::Answers::CallAnswers, crate::specs::inside::Calls::IsResultOf))]
     fn leave(&mut self, answer: Result<Outcome<i32>, Code>) -> i32
@@ -69,7 +75,7 @@ impl AnswerI32 {
         }
     }
 
-    /// Takes a call, and leaves its outcome likewise.
+    /// Writes the outcome of a call, or returns the number of its code, as `leave` does.
     #[inline(always)]
     fn take(&mut self, call: Call<i32>) -> i32
         ensures { AnswersI32 (given (λ x. x) 32 call) self.old self.new result }
@@ -78,7 +84,7 @@ impl AnswerI32 {
     }
 }
 
-/// `-a`
+/// Writes `-a`. Always returns 0.
 #[unsafe(no_mangle)]
 pub extern "C" fn fixed_i32_neg(a: i32, answer: &mut AnswerI32) -> i32
     ensures { AnswersI32 (Ok (neg_ℤ a)) answer.old answer.new result }
@@ -86,7 +92,7 @@ pub extern "C" fn fixed_i32_neg(a: i32, answer: &mut AnswerI32) -> i32
     answer.take(Call::Neg(a))
 }
 
-/// `a + b`
+/// Writes `a + b`. Always returns 0.
 #[unsafe(no_mangle)]
 pub extern "C" fn fixed_i32_add(a: i32, b: i32, answer: &mut AnswerI32) -> i32
     ensures { AnswersI32 (Ok (a +ℤ b)) answer.old answer.new result }
@@ -94,7 +100,7 @@ pub extern "C" fn fixed_i32_add(a: i32, b: i32, answer: &mut AnswerI32) -> i32
     answer.take(Call::Add(a, b))
 }
 
-/// `a - b`
+/// Writes `a - b`. Always returns 0.
 #[unsafe(no_mangle)]
 pub extern "C" fn fixed_i32_sub(a: i32, b: i32, answer: &mut AnswerI32) -> i32
     ensures { AnswersI32 (Ok (a -ℤ b)) answer.old answer.new result }
@@ -102,7 +108,7 @@ pub extern "C" fn fixed_i32_sub(a: i32, b: i32, answer: &mut AnswerI32) -> i32
     answer.take(Call::Sub(a, b))
 }
 
-/// The magnitude of `a - b`.
+/// Writes the magnitude of `a - b`. Always returns 0.
 #[unsafe(no_mangle)]
 pub extern "C" fn fixed_i32_dist(a: i32, b: i32, answer: &mut AnswerI32) -> i32
     ensures { AnswersI32 (Ok (exact_abs (a -ℤ b))) answer.old answer.new result }
@@ -110,7 +116,7 @@ pub extern "C" fn fixed_i32_dist(a: i32, b: i32, answer: &mut AnswerI32) -> i32
     answer.take(Call::Dist(a, b))
 }
 
-/// The magnitude of `a`.
+/// Writes the magnitude of `a`. Always returns 0.
 #[unsafe(no_mangle)]
 pub extern "C" fn fixed_i32_abs(a: i32, answer: &mut AnswerI32) -> i32
     ensures { AnswersI32 (Ok (exact_abs a)) answer.old answer.new result }
@@ -118,7 +124,7 @@ pub extern "C" fn fixed_i32_abs(a: i32, answer: &mut AnswerI32) -> i32
     answer.leave(one_sign::abs(a))
 }
 
-/// One by the sign of `a`: `2^frac`, 0 or `-2^frac`.
+/// Writes `2^frac` if `a` is positive, 0 if it is 0, and `-2^frac` if it is negative. Fails with `FractionPastWidth`.
 #[unsafe(no_mangle)]
 pub extern "C" fn fixed_i32_signum(a: i32, frac: u32, answer: &mut AnswerI32) -> i32
     ensures { AnswersI32 (at_fraction 32 frac (Ok (exact_signum a frac))) answer.old answer.new result }
@@ -126,7 +132,7 @@ pub extern "C" fn fixed_i32_signum(a: i32, frac: u32, answer: &mut AnswerI32) ->
     answer.leave(one_sign::signum(a, frac))
 }
 
-/// `a b / 2^frac`, rounded down.
+/// Writes `a b / 2^frac`, rounded down. Fails with `FractionPastWidth`.
 #[unsafe(no_mangle)]
 pub extern "C" fn fixed_i32_mul(a: i32, b: i32, frac: u32, answer: &mut AnswerI32) -> i32
     ensures { AnswersI32 (at_fraction 32 frac (Ok (exact_mul a b frac))) answer.old answer.new result }
@@ -134,7 +140,7 @@ pub extern "C" fn fixed_i32_mul(a: i32, b: i32, frac: u32, answer: &mut AnswerI3
     answer.take(Call::Mul(a, b, frac))
 }
 
-/// `a k`, for an integer `k`.
+/// Writes `a k`, for an integer `k`. Always returns 0.
 #[unsafe(no_mangle)]
 pub extern "C" fn fixed_i32_mul_int(a: i32, k: i32, answer: &mut AnswerI32) -> i32
     ensures { AnswersI32 (Ok (a *ℤ k)) answer.old answer.new result }
@@ -142,7 +148,7 @@ pub extern "C" fn fixed_i32_mul_int(a: i32, k: i32, answer: &mut AnswerI32) -> i
     answer.take(Call::MulInt(a, k))
 }
 
-/// `a mul / 2^mul_frac`, rounded down, plus `add`.
+/// Writes `a mul / 2^mul_frac`, rounded down, plus `add`, in the unit of `a` and `add`. Fails with `FractionPastWidth`.
 #[unsafe(no_mangle)]
 pub extern "C" fn fixed_i32_mul_add(
     a: i32,
@@ -158,8 +164,8 @@ pub extern "C" fn fixed_i32_mul_add(
     answer.take(Call::MulAdd(a, mul, add, mul_frac))
 }
 
-/// `c` plus the product of `a` and `b`, each of a fraction of its own; the product is brought to that of `c` and
-/// rounded down.
+/// Writes `c` plus the product of `a` and `b`, which is rounded down to the fraction bits of `c`. Each operand has its
+/// own number of fraction bits. Fails with `FractionPastWidth`.
 #[unsafe(no_mangle)]
 pub extern "C" fn fixed_i32_add_prod(
     c: i32,
@@ -178,7 +184,7 @@ pub extern "C" fn fixed_i32_add_prod(
     answer.take(Call::AddProd(c, a, b, c_frac, a_frac, b_frac))
 }
 
-/// `a 2^frac / b`, rounded toward zero.
+/// Writes `a 2^frac / b`, rounded toward zero. Fails with `FractionPastWidth` or `ZeroDivisor`.
 #[unsafe(no_mangle)]
 pub extern "C" fn fixed_i32_div(a: i32, b: i32, frac: u32, answer: &mut AnswerI32) -> i32
     ensures { AnswersI32
@@ -188,7 +194,7 @@ pub extern "C" fn fixed_i32_div(a: i32, b: i32, frac: u32, answer: &mut AnswerI3
     answer.take(Call::Div(a, b, frac))
 }
 
-/// `a / k`, rounded toward zero, for an integer `k`.
+/// Writes `a / k`, rounded toward zero, for an integer `k`. Fails with `ZeroDivisor`.
 #[unsafe(no_mangle)]
 pub extern "C" fn fixed_i32_div_int(a: i32, k: i32, answer: &mut AnswerI32) -> i32
     ensures { AnswersI32 (row_or ZeroDivisor (by_divisor k (truncated_quotient a k))) answer.old answer.new result }
@@ -196,7 +202,7 @@ pub extern "C" fn fixed_i32_div_int(a: i32, k: i32, answer: &mut AnswerI32) -> i
     answer.take(Call::DivInt(a, k))
 }
 
-/// `2^(2 frac) / a`, rounded toward zero.
+/// Writes `2^(2 frac) / a`, rounded toward zero. Fails with `FractionPastWidth` or `ZeroDivisor`.
 #[unsafe(no_mangle)]
 pub extern "C" fn fixed_i32_recip(a: i32, frac: u32, answer: &mut AnswerI32) -> i32
     ensures { AnswersI32
@@ -206,7 +212,8 @@ pub extern "C" fn fixed_i32_recip(a: i32, frac: u32, answer: &mut AnswerI32) -> 
     answer.take(Call::Recip(a, frac))
 }
 
-/// The quotient of the Euclidean pair of `a` and `b`, a whole number, times `2^frac`.
+/// Writes the Euclidean quotient of `a` and `b`, which is an integer, times `2^frac`. Fails with `FractionPastWidth` or
+/// `ZeroDivisor`.
 #[unsafe(no_mangle)]
 pub extern "C" fn fixed_i32_div_euclid(a: i32, b: i32, frac: u32, answer: &mut AnswerI32) -> i32
     ensures { AnswersI32
@@ -216,7 +223,8 @@ pub extern "C" fn fixed_i32_div_euclid(a: i32, b: i32, frac: u32, answer: &mut A
     answer.take(Call::DivEuclid(a, b, frac))
 }
 
-/// The quotient of the Euclidean pair of `a` and `k 2^frac`, a whole number, times `2^frac`.
+/// Writes the Euclidean quotient of `a` and `k 2^frac`, which is an integer, times `2^frac`. Fails with
+/// `FractionPastWidth` or `ZeroDivisor`.
 #[unsafe(no_mangle)]
 pub extern "C" fn fixed_i32_div_euclid_int(a: i32, k: i32, frac: u32, answer: &mut AnswerI32) -> i32
     ensures { AnswersI32
@@ -226,7 +234,7 @@ pub extern "C" fn fixed_i32_div_euclid_int(a: i32, k: i32, frac: u32, answer: &m
     answer.take(Call::DivEuclidInt(a, k, frac))
 }
 
-/// `a - b q`, with the quotient q of `a` and `b` rounded toward zero.
+/// Writes `a - b q`, where q is the quotient of `a` and `b`, rounded toward zero. Fails with `ZeroDivisor`.
 #[unsafe(no_mangle)]
 pub extern "C" fn fixed_i32_rem(a: i32, b: i32, answer: &mut AnswerI32) -> i32
     ensures { AnswersI32 (row_or ZeroDivisor (by_divisor b (exact_rem a b))) answer.old answer.new result }
@@ -234,7 +242,8 @@ pub extern "C" fn fixed_i32_rem(a: i32, b: i32, answer: &mut AnswerI32) -> i32
     answer.take(Call::Rem(a, b))
 }
 
-/// `a - d q` for `d = k 2^frac`, with the quotient q of `a` and d rounded toward zero.
+/// Writes `a - d q` for `d = k 2^frac`, where q is the quotient of `a` and d, rounded toward zero. Fails with
+/// `FractionPastWidth` or `ZeroDivisor`.
 #[unsafe(no_mangle)]
 pub extern "C" fn fixed_i32_rem_int(a: i32, k: i32, frac: u32, answer: &mut AnswerI32) -> i32
     ensures { AnswersI32
@@ -244,7 +253,7 @@ pub extern "C" fn fixed_i32_rem_int(a: i32, k: i32, frac: u32, answer: &mut Answ
     answer.take(Call::RemInt(a, k, frac))
 }
 
-/// The remainder of the Euclidean pair of `a` and `b`.
+/// Writes the Euclidean remainder of `a` and `b`, which is never negative. Fails with `ZeroDivisor`.
 #[unsafe(no_mangle)]
 pub extern "C" fn fixed_i32_rem_euclid(a: i32, b: i32, answer: &mut AnswerI32) -> i32
     ensures { AnswersI32
@@ -254,7 +263,8 @@ pub extern "C" fn fixed_i32_rem_euclid(a: i32, b: i32, answer: &mut AnswerI32) -
     answer.take(Call::RemEuclid(a, b))
 }
 
-/// The remainder of the Euclidean pair of `a` and `k 2^frac`.
+/// Writes the Euclidean remainder of `a` and `k 2^frac`, which is never negative. Fails with `FractionPastWidth` or
+/// `ZeroDivisor`.
 #[unsafe(no_mangle)]
 pub extern "C" fn fixed_i32_rem_euclid_int(a: i32, k: i32, frac: u32, answer: &mut AnswerI32) -> i32
     ensures { AnswersI32
@@ -264,8 +274,8 @@ pub extern "C" fn fixed_i32_rem_euclid_int(a: i32, k: i32, frac: u32, answer: &m
     answer.take(Call::RemEuclidInt(a, k, frac))
 }
 
-/// The least multiple of `b` that is at least `a` where `b` is above 0, and the greatest that is at most `a`
-/// where `b` is below 0.
+/// Writes the smallest multiple of `b` that is at least `a` if `b` is positive, and the largest one that is at most `a`
+/// if `b` is negative. Fails with `ZeroDivisor`.
 #[unsafe(no_mangle)]
 pub extern "C" fn fixed_i32_next_multiple_of(a: i32, b: i32, answer: &mut AnswerI32) -> i32
     ensures { AnswersI32
@@ -275,7 +285,7 @@ pub extern "C" fn fixed_i32_next_multiple_of(a: i32, b: i32, answer: &mut Answer
     answer.take(Call::NextMultipleOf(a, b))
 }
 
-/// The root of `a 2^frac`, rounded down.
+/// Writes the root of `a 2^frac`, rounded down. Fails with `FractionPastWidth` or `NegativeRoot`.
 #[unsafe(no_mangle)]
 pub extern "C" fn fixed_i32_sqrt(a: i32, frac: u32, answer: &mut AnswerI32) -> i32
     ensures { AnswersI32
@@ -285,7 +295,7 @@ pub extern "C" fn fixed_i32_sqrt(a: i32, frac: u32, answer: &mut AnswerI32) -> i
     answer.take(Call::Sqrt(a, frac))
 }
 
-/// `a b / 2^frac`, rounded.
+/// Writes `a b / 2^frac`, rounded as named. Fails with `FractionPastWidth` or `NoRounding`.
 #[unsafe(no_mangle)]
 pub extern "C" fn fixed_i32_mul_round(
     a: i32,
@@ -301,7 +311,8 @@ pub extern "C" fn fixed_i32_mul_round(
     answer.take(Call::MulRound(a, b, frac, rounding))
 }
 
-/// `a mul / 2^mul_frac`, rounded, plus `add`.
+/// Writes `a mul / 2^mul_frac`, rounded as named, plus `add`, in the unit of `a` and `add`. Fails with
+/// `FractionPastWidth` or `NoRounding`.
 #[unsafe(no_mangle)]
 pub extern "C" fn fixed_i32_mul_add_round(
     a: i32,
@@ -318,8 +329,8 @@ pub extern "C" fn fixed_i32_mul_add_round(
     answer.take(Call::MulAddRound(a, mul, add, mul_frac, rounding))
 }
 
-/// `c` plus the product of `a` and `b`, each of a fraction of its own; the product is brought to that of `c` and
-/// rounded.
+/// Writes `c` plus the product of `a` and `b`, which is rounded as named to the fraction bits of `c`. Each operand has
+/// its own number of fraction bits. Fails with `FractionPastWidth` or `NoRounding`.
 #[unsafe(no_mangle)]
 pub extern "C" fn fixed_i32_add_prod_round(
     c: i32,
@@ -339,7 +350,7 @@ pub extern "C" fn fixed_i32_add_prod_round(
     answer.take(Call::AddProdRound(c, a, b, c_frac, a_frac, b_frac, rounding))
 }
 
-/// `a 2^frac / b`, rounded.
+/// Writes `a 2^frac / b`, rounded as named. Fails with `FractionPastWidth`, `NoRounding` or `ZeroDivisor`.
 #[unsafe(no_mangle)]
 pub extern "C" fn fixed_i32_div_round(
     a: i32,
@@ -356,7 +367,7 @@ pub extern "C" fn fixed_i32_div_round(
     answer.take(Call::DivRound(a, b, frac, rounding))
 }
 
-/// `a / divisor`, rounded, for an integer.
+/// Writes `a / divisor`, rounded as named, for an integer `divisor`. Fails with `NoRounding` or `ZeroDivisor`.
 #[unsafe(no_mangle)]
 pub extern "C" fn fixed_i32_div_int_round(
     a: i32,
@@ -372,7 +383,7 @@ pub extern "C" fn fixed_i32_div_int_round(
     answer.take(Call::DivIntRound(a, divisor, rounding))
 }
 
-/// `2^(2 frac) / a`, rounded.
+/// Writes `2^(2 frac) / a`, rounded as named. Fails with `FractionPastWidth`, `NoRounding` or `ZeroDivisor`.
 #[unsafe(no_mangle)]
 pub extern "C" fn fixed_i32_recip_round(
     a: i32,
@@ -388,7 +399,8 @@ pub extern "C" fn fixed_i32_recip_round(
     answer.take(Call::RecipRound(a, frac, rounding))
 }
 
-/// `number / 2^from` in units of `2^-to`, rounded, for a number of any signed word.
+/// Writes `number / 2^from` in units of `2^-to`, rounded as named, for a number of any signed word; `from` is at most
+/// 64. Fails with `FractionPastWidth` or `NoRounding`.
 #[unsafe(no_mangle)]
 pub extern "C" fn fixed_i32_convert(
     number: i64,
@@ -404,7 +416,8 @@ pub extern "C" fn fixed_i32_convert(
     answer.take(Call::Convert(number, from, to, rounding))
 }
 
-/// `number / 2^from` in units of `2^-to`, rounded, for a number of any unsigned word.
+/// Writes `number / 2^from` in units of `2^-to`, rounded as named, for a number of any unsigned word; `from` is at most
+/// 64. Fails with `FractionPastWidth` or `NoRounding`.
 #[unsafe(no_mangle)]
 pub extern "C" fn fixed_i32_convert_unsigned(
     number: u64,
@@ -421,7 +434,8 @@ pub extern "C" fn fixed_i32_convert_unsigned(
     answer.take(Call::ConvertUnsigned(number, from, to, rounding))
 }
 
-/// The float in units of `2^-frac`, rounded.
+/// Writes the number of a double in units of `2^-frac`, rounded as named. Fails with `FractionPastWidth`, `NoRounding`
+/// or `NotFinite`.
 #[unsafe(no_mangle)]
 pub extern "C" fn fixed_i32_from_double(
     number: f64,
@@ -436,7 +450,7 @@ pub extern "C" fn fixed_i32_from_double(
     answer.take(Call::FromDouble(number, frac, rounding))
 }
 
-/// The float nearest to `a / 2^frac`, of two as near the one whose last bit is 0.
+/// Writes the double nearest to `a / 2^frac`, ties to even. Fails with `FractionPastWidth`.
 #[unsafe(no_mangle)]
 pub extern "C" fn fixed_i32_to_double(a: i32, frac: u32, value: &mut f64) -> i32
     ensures { ValueAnswers
@@ -446,7 +460,8 @@ pub extern "C" fn fixed_i32_to_double(a: i32, frac: u32, value: &mut f64) -> i32
     conversions::to_double(a, frac, value)
 }
 
-/// The number of a decimal in units of `2^-frac`, rounded.
+/// Writes the number of a decimal in units of `2^-frac`, rounded as named. Fails with `FractionPastWidth`,
+/// `NoRounding`, or `NoDigits`, `InvalidDigit` or `TooManyPoints` if the text is not a decimal.
 #[unsafe(no_mangle)]
 pub extern "C" fn fixed_i32_parse(
     decimal: &[u8],
@@ -461,7 +476,8 @@ pub extern "C" fn fixed_i32_parse(
     answer.leave(texts::parse(decimal, frac, rounding))
 }
 
-/// The text of `a / 2^frac` with so many digits behind the point, rounded, and a 0 behind it.
+/// Writes the text of `a / 2^frac`, rounded as named to `places` digits after the point, the byte 0 after it, and its
+/// length. Fails with `FractionPastWidth`, `TooManyPlaces`, `NoRounding` or `NoRoom`, which writes the length.
 #[unsafe(no_mangle)]
 pub extern "C" fn fixed_i32_print(
     a: i32,
@@ -478,7 +494,8 @@ pub extern "C" fn fixed_i32_print(
     texts::print(a, frac, places, rounding, buffer, length)
 }
 
-/// The shortest text that is read as `a / 2^frac`, to the nearest, and a 0 behind it.
+/// Writes the shortest text that is read back as `a / 2^frac`, to the nearest, the byte 0 after it, and its length.
+/// Fails with `FractionPastWidth` or `NoRoom`, which writes the length.
 #[unsafe(no_mangle)]
 pub extern "C" fn fixed_i32_print_shortest(
     a: i32,
@@ -493,7 +510,7 @@ pub extern "C" fn fixed_i32_print_shortest(
     texts::shortest(a, frac, buffer, length)
 }
 
-/// The sums of a number in `a` and one in `b`.
+/// Writes the ends of the sums of a number in `a` and one in `b`. Fails with `EndsExchanged` or `OutOfRange`.
 #[unsafe(no_mangle)]
 pub extern "C" fn fixed_i32_add_in(
     a_low: i32,
@@ -510,7 +527,7 @@ pub extern "C" fn fixed_i32_add_in(
     intervals::add(a_low, a_high, b_low, b_high, low, high)
 }
 
-/// The differences of a number in `a` and one in `b`.
+/// Writes the ends of the differences of a number in `a` and one in `b`. Fails with `EndsExchanged` or `OutOfRange`.
 #[unsafe(no_mangle)]
 pub extern "C" fn fixed_i32_sub_in(
     a_low: i32,
@@ -527,7 +544,8 @@ pub extern "C" fn fixed_i32_sub_in(
     intervals::sub(a_low, a_high, b_low, b_high, low, high)
 }
 
-/// The products of a number in `a` and one in `b`, each over `2^frac`.
+/// Writes the ends of the products of a number in `a` and one in `b`, each over `2^frac`, rounded outward. Fails with
+/// `FractionPastWidth`, `EndsExchanged` or `OutOfRange`.
 #[unsafe(no_mangle)]
 pub extern "C" fn fixed_i32_mul_in(
     a_low: i32,
@@ -545,7 +563,8 @@ pub extern "C" fn fixed_i32_mul_in(
     intervals::mul(a_low, a_high, b_low, b_high, frac, low, high)
 }
 
-/// The quotients of a number in `a` by one in `b`, each times `2^frac`.
+/// Writes the ends of the quotients of a number in `a` by one in `b`, each times `2^frac`, rounded outward. Fails with
+/// `FractionPastWidth`, `EndsExchanged`, `ZeroDivisor` or `OutOfRange`.
 #[unsafe(no_mangle)]
 pub extern "C" fn fixed_i32_div_in(
     a_low: i32,
@@ -563,7 +582,8 @@ pub extern "C" fn fixed_i32_div_in(
     intervals::div(a_low, a_high, b_low, b_high, frac, low, high)
 }
 
-/// The roots of the numbers in `a`, each times `2^frac`.
+/// Writes the ends of the roots of `x 2^frac` for the numbers x in `a`, rounded outward. Fails with
+/// `FractionPastWidth`, `EndsExchanged`, `NegativeRoot` or `OutOfRange`.
 #[unsafe(no_mangle)]
 pub extern "C" fn fixed_i32_sqrt_in(a_low: i32, a_high: i32, frac: u32, answer: &mut EndsI32) -> i32
     ensures { EndsI32Answers (root_in true 32 (from_to a_low a_high) frac) answer.old answer.new result }
@@ -571,7 +591,8 @@ pub extern "C" fn fixed_i32_sqrt_in(a_low: i32, a_high: i32, frac: u32, answer: 
     intervals::sqrt(a_low, a_high, frac, &mut answer.low, &mut answer.high)
 }
 
-/// The value at `x` of the polynomial with these coefficients, the least first, or the step that does not fit.
+/// Writes the value at `x` of the polynomial with these coefficients, the lowest first. Fails with `FractionPastWidth`,
+/// `NoElement` or `OutOfRange`, which writes the index of the coefficient whose step does not fit.
 #[unsafe(no_mangle)]
 pub extern "C" fn fixed_i32_horner(
     coefs: &[i32],
@@ -586,7 +607,9 @@ pub extern "C" fn fixed_i32_horner(
     arrays::horner(coefs, x, frac, value, step)
 }
 
-/// Takes a sample into the past ones, and leaves the output, or the tap whose partial sum does not fit.
+/// Puts the sample in front of the past samples, drops the oldest, and writes the output. Fails with
+/// `FractionPastWidth`, `NoElement` or `CountsDiffer`, and the past samples are unchanged; or with `OutOfRange`, which
+/// takes the sample, and writes the index of the tap whose partial sum does not fit.
 #[unsafe(no_mangle)]
 pub extern "C" fn fixed_i32_filter(
     taps: &[i32],
@@ -611,7 +634,7 @@ pub extern "C" fn fixed_i32_filter(
     arrays::filter(taps, past, sample, shape, output, tap)
 }
 
-/// `-x` for each x of the block.
+/// Writes `-x` over each x of the block. Fails with `NoPolicy` or `OutOfRange`.
 #[unsafe(no_mangle)]
 pub extern "C" fn fixed_i32_neg_block(block: &mut [i32], policy: u32, place: &mut usize) -> i32
     ensures { BlockAnswers (λ x. x) true 32
@@ -621,7 +644,7 @@ pub extern "C" fn fixed_i32_neg_block(block: &mut [i32], policy: u32, place: &mu
     blocks::neg(block, policy, place)
 }
 
-/// The magnitude of each x of the block.
+/// Writes the magnitude of x over each x of the block. Fails with `NoPolicy` or `OutOfRange`.
 #[unsafe(no_mangle)]
 pub extern "C" fn fixed_i32_abs_block(block: &mut [i32], policy: u32, place: &mut usize) -> i32
     ensures { BlockAnswers (λ x. x) true 32
@@ -631,7 +654,7 @@ pub extern "C" fn fixed_i32_abs_block(block: &mut [i32], policy: u32, place: &mu
     blocks::abs(block, policy, place)
 }
 
-/// `x k` for each x of the block, for an integer `k`.
+/// Writes `x k` over each x of the block, for an integer `k`. Fails with `NoPolicy` or `OutOfRange`.
 #[unsafe(no_mangle)]
 pub extern "C" fn fixed_i32_mul_int_block(
     block: &mut [i32],
@@ -646,7 +669,8 @@ pub extern "C" fn fixed_i32_mul_int_block(
     blocks::mul_int(block, k, policy, place)
 }
 
-/// `x by / 2^frac`, rounded down, for each x of the block.
+/// Writes `x by / 2^frac`, rounded down, over each x of the block. Fails with `FractionPastWidth`, `NoPolicy` or
+/// `OutOfRange`.
 #[unsafe(no_mangle)]
 pub extern "C" fn fixed_i32_scale_block(
     block: &mut [i32],
@@ -662,7 +686,8 @@ pub extern "C" fn fixed_i32_scale_block(
     blocks::scale(block, by, frac, policy, place)
 }
 
-/// `x / 2^from` in units of `2^-to`, rounded, for each x of the block.
+/// Writes `x / 2^from` in units of `2^-to`, rounded as named, over each x of the block. Fails with `FractionPastWidth`,
+/// `NoRounding`, `NoPolicy` or `OutOfRange`.
 #[unsafe(no_mangle)]
 pub extern "C" fn fixed_i32_convert_block(
     block: &mut [i32],
@@ -680,7 +705,8 @@ pub extern "C" fn fixed_i32_convert_block(
     blocks::convert(block, from, to, rounding, policy, place)
 }
 
-/// `x + y` for each x of the block and the y at its place.
+/// Writes `x + y` over each x of the block, where y is the other number at its index. Fails with `CountsDiffer`,
+/// `NoPolicy` or `OutOfRange`.
 #[unsafe(no_mangle)]
 pub extern "C" fn fixed_i32_add_block(
     block: &mut [i32],
@@ -695,7 +721,8 @@ pub extern "C" fn fixed_i32_add_block(
     blocks::add(block, others, policy, place)
 }
 
-/// `x - y` for each x of the block and the y at its place.
+/// Writes `x - y` over each x of the block, where y is the other number at its index. Fails with `CountsDiffer`,
+/// `NoPolicy` or `OutOfRange`.
 #[unsafe(no_mangle)]
 pub extern "C" fn fixed_i32_sub_block(
     block: &mut [i32],
@@ -710,7 +737,8 @@ pub extern "C" fn fixed_i32_sub_block(
     blocks::sub(block, others, policy, place)
 }
 
-/// `x y / 2^frac`, rounded down, for each x of the block and the y at its place.
+/// Writes `x y / 2^frac`, rounded down, over each x of the block, where y is the other number at its index. Fails with
+/// `FractionPastWidth`, `CountsDiffer`, `NoPolicy` or `OutOfRange`.
 #[unsafe(no_mangle)]
 pub extern "C" fn fixed_i32_mul_block(
     block: &mut [i32],
@@ -726,7 +754,8 @@ pub extern "C" fn fixed_i32_mul_block(
     blocks::mul(block, others, frac, policy, place)
 }
 
-/// `x + y by / 2^frac`, the product rounded down, for each x of the block and the y at its place.
+/// Writes x plus `y by / 2^frac`, which is rounded down, over each x of the block, where y is the other number at its
+/// index. Fails with `FractionPastWidth`, `CountsDiffer`, `NoPolicy` or `OutOfRange`.
 #[unsafe(no_mangle)]
 pub extern "C" fn fixed_i32_mul_add_block(
     block: &mut [i32],

@@ -1,4 +1,8 @@
 //! The elementary functions of `i32`.
+//!
+//! Operands and results are bits, in units of `2^-frac`. A call returns 0 and writes a number, or it fails: it returns
+//! the number of a code and leaves the number unchanged. If several codes apply, it returns the first one that its
+//! comment names. [`elementary`] states the bounds.
 
 ghost use Rattle.std.specs.Prelude.{◌≡◌, true};
 ghost use Rattle.fixed_elementary.specs.ElementaryRows.{exact_hypot, exact_recip_sqrt};
@@ -13,7 +17,7 @@ ghost use Rattle.fixed_c.specs.Near.{NearAnswers, allowed, positive};
 
 use crate::elementary;
 
-/// The length of the pair of `a` and `b`, rounded down.
+/// Writes the length of the pair `(a, b)`, which is the root of `a^2 + b^2`, rounded down. Fails with `OutOfRange`.
 #[unsafe(no_mangle)]
 pub extern "C" fn fixed_i32_hypot(a: i32, b: i32, number: &mut i32) -> i32
     ensures { NearAnswers (λ x. x) true 32
@@ -23,7 +27,8 @@ pub extern "C" fn fixed_i32_hypot(a: i32, b: i32, number: &mut i32) -> i32
     elementary::hypot(a, b, number)
 }
 
-/// One over the square root of `a / 2^frac`, rounded down.
+/// Writes one over the square root of `a / 2^frac`, rounded down. Fails with `FractionPastWidth`, `NotPositive` or
+/// `OutOfRange`.
 #[unsafe(no_mangle)]
 pub extern "C" fn fixed_i32_recip_sqrt(a: i32, frac: u32, number: &mut i32) -> i32
     ensures { NearAnswers (λ x. x) true 32
@@ -33,7 +38,8 @@ pub extern "C" fn fixed_i32_recip_sqrt(a: i32, frac: u32, number: &mut i32) -> i
     elementary::recip_sqrt(a, frac, number)
 }
 
-/// The logarithm of `a / 2^frac` to the base 2, rounded down, up to the bound of `IsLog2Of`.
+/// Writes the logarithm of `a / 2^frac` to the base 2, rounded down within the bound of `IsLog2Of`. Fails with
+/// `FractionPastWidth`, `NotPositive` or `OutOfRange`.
 #[unsafe(no_mangle)]
 pub extern "C" fn fixed_i32_log2(a: i32, frac: u32, number: &mut i32) -> i32
     ensures { NearAnswers (λ x. x) true 32
@@ -43,7 +49,8 @@ pub extern "C" fn fixed_i32_log2(a: i32, frac: u32, number: &mut i32) -> i32
     elementary::log2(a, frac, number)
 }
 
-/// The natural logarithm of `a / 2^frac`, rounded down, up to the bound of `IsLn`.
+/// Writes the natural logarithm of `a / 2^frac`, rounded down within the bound of `IsLn`. Fails with
+/// `FractionPastWidth`, `NotPositive` or `OutOfRange`.
 #[unsafe(no_mangle)]
 pub extern "C" fn fixed_i32_ln(a: i32, frac: u32, number: &mut i32) -> i32
     ensures { NearAnswers (λ x. x) true 32
@@ -53,7 +60,8 @@ pub extern "C" fn fixed_i32_ln(a: i32, frac: u32, number: &mut i32) -> i32
     elementary::ln(a, frac, number)
 }
 
-/// The logarithm of `a / 2^frac` to the base 10, rounded down, up to the bound of `IsLog10`.
+/// Writes the logarithm of `a / 2^frac` to the base 10, rounded down within the bound of `IsLog10`. Fails with
+/// `FractionPastWidth`, `NotPositive` or `OutOfRange`.
 #[unsafe(no_mangle)]
 pub extern "C" fn fixed_i32_log10(a: i32, frac: u32, number: &mut i32) -> i32
     ensures { NearAnswers (λ x. x) true 32
@@ -63,7 +71,8 @@ pub extern "C" fn fixed_i32_log10(a: i32, frac: u32, number: &mut i32) -> i32
     elementary::log10(a, frac, number)
 }
 
-/// 2 to the power of `a / 2^frac`, rounded down, up to the bound of `IsExp2Of`.
+/// Writes 2 to the power of `a / 2^frac`, rounded down within the bound of `IsExp2Of`. Fails with `FractionPastWidth`
+/// or `OutOfRange`.
 #[unsafe(no_mangle)]
 pub extern "C" fn fixed_i32_exp2(a: i32, frac: u32, number: &mut i32) -> i32
     ensures { NearAnswers (λ x. x) true 32
@@ -73,7 +82,8 @@ pub extern "C" fn fixed_i32_exp2(a: i32, frac: u32, number: &mut i32) -> i32
     elementary::exp2(a, frac, number)
 }
 
-/// e to the power of `a / 2^frac`, rounded down, up to the bound of `IsExp`.
+/// Writes e to the power of `a / 2^frac`, rounded down within the bound of `IsExp`. Fails with `FractionPastWidth` or
+/// `OutOfRange`.
 #[unsafe(no_mangle)]
 pub extern "C" fn fixed_i32_exp(a: i32, frac: u32, number: &mut i32) -> i32
     ensures { NearAnswers (λ x. x) true 32
@@ -83,7 +93,8 @@ pub extern "C" fn fixed_i32_exp(a: i32, frac: u32, number: &mut i32) -> i32
     elementary::exp(a, frac, number)
 }
 
-/// `a / 2^frac` to the power of `b / 2^frac`, rounded down, up to the bound of `IsPow`.
+/// Writes `a / 2^frac` to the power of `b / 2^frac`, rounded down within the bound of `IsPow`. Fails with
+/// `FractionPastWidth`, `NotPositive` or `OutOfRange`.
 #[unsafe(no_mangle)]
 pub extern "C" fn fixed_i32_pow(a: i32, b: i32, frac: u32, number: &mut i32) -> i32
     ensures { NearAnswers (λ x. x) true 32
@@ -93,7 +104,8 @@ pub extern "C" fn fixed_i32_pow(a: i32, b: i32, frac: u32, number: &mut i32) -> 
     elementary::pow(a, b, frac, number)
 }
 
-/// The sine of `a / 2^frac` turns, rounded to the nearest, up to the bound of `IsSine`.
+/// Writes the sine of `a / 2^frac` turns, rounded to the nearest within the bound of `IsSine`. Fails with
+/// `FractionPastWidth` or `OutOfRange`.
 #[unsafe(no_mangle)]
 pub extern "C" fn fixed_i32_sin_turns(a: i32, frac: u32, number: &mut i32) -> i32
     ensures { NearAnswers (λ x. x) true 32
@@ -103,7 +115,8 @@ pub extern "C" fn fixed_i32_sin_turns(a: i32, frac: u32, number: &mut i32) -> i3
     elementary::sin_turns(a, frac, number)
 }
 
-/// The cosine of `a / 2^frac` turns, rounded to the nearest, up to the bound of `IsCosine`.
+/// Writes the cosine of `a / 2^frac` turns, rounded to the nearest within the bound of `IsCosine`. Fails with
+/// `FractionPastWidth` or `OutOfRange`.
 #[unsafe(no_mangle)]
 pub extern "C" fn fixed_i32_cos_turns(a: i32, frac: u32, number: &mut i32) -> i32
     ensures { NearAnswers (λ x. x) true 32

@@ -1,4 +1,4 @@
-//! Decimals, read and written.
+//! Decimals, read and written. Numbers are bits, in units of `2^-frac`.
 #![tactic(auto, unfolding(crate::specs::inside::Calls::IsResultOf, crate::specs::Answers::at_fraction, crate::specs::Roundings::for_rounding, crate::specs::Texts::at_places, crate::specs::Texts::or_code, crate::specs::Texts::TextAnswers))]
 
 ghost use Rattle.std.specs.Prelude.{◌≡◌, Ok};
@@ -15,7 +15,7 @@ use crate::rounded::rounding_of;
 use fixed_decimal::{DecimalError, decimal_of, shortest_places, write_decimal};
 use fixed_word::{Outcome, Rounding, Word};
 
-/// The code of a text that is no decimal.
+/// Returns the code of an error in a text.
 #[inline]
 fn code_of(error: DecimalError) -> Code
     ensures { result ≡ text_code error }
@@ -28,7 +28,9 @@ fn code_of(error: DecimalError) -> Code
     }
 }
 
-/// The number of a decimal in units of `2^-frac`, rounded.
+/// Returns the number of a decimal in units of `2^-frac`, rounded as named. Fails with `FractionPastWidth` if `frac` is
+/// greater than the width, with `NoRounding` if no rounding has the number `rounding`, and with `NoDigits`,
+/// `InvalidDigit` or `TooManyPoints` if the text is not a decimal.
 #[inline]
 pub(crate) fn parse<T: Word>(text: &[u8], frac: u32, rounding: u32) -> Result<Outcome<T>, Code>
     ensures { IsResultOf T.value T.SIGNED T.BITS
@@ -46,7 +48,10 @@ pub(crate) fn parse<T: Word>(text: &[u8], frac: u32, rounding: u32) -> Result<Ou
     }
 }
 
-/// The text of `a / 2^frac` with so many digits behind the point, rounded.
+/// Writes the text of `a / 2^frac`, rounded as named to `places` digits after the point, and the byte 0 at the front of
+/// the buffer, writes the length of the text, and returns 0. Fails with `FractionPastWidth` if `frac` is greater than
+/// the width, with `TooManyPlaces` if `places` is greater than 64, with `NoRounding` if no rounding has the number
+/// `rounding`, and with `NoRoom` if both do not fit: the length is then written, and the buffer is unchanged.
 #[inline]
 pub(crate) fn print<T: Word>(
     a: T,
@@ -74,7 +79,10 @@ pub(crate) fn print<T: Word>(
     put(&text[start..], buffer, length)
 }
 
-/// The shortest text that is read as `a / 2^frac`, to the nearest.
+/// Writes the shortest text that is read back as `a / 2^frac`, to the nearest, ties to even, and the byte 0 at the
+/// front of the buffer, writes the length of the text, and returns 0. Fails with `FractionPastWidth` if `frac` is
+/// greater than the width, and with `NoRoom` if both do not fit: the length is then written, and the buffer is
+/// unchanged.
 #[inline]
 pub(crate) fn shortest<T: Word>(a: T, frac: u32, buffer: &mut [u8], length: &mut usize) -> i32
     ensures { TextAnswers
@@ -90,7 +98,8 @@ pub(crate) fn shortest<T: Word>(a: T, frac: u32, buffer: &mut [u8], length: &mut
     put(&text[start..], buffer, length)
 }
 
-/// Puts a text and a 0 behind it at the front of a buffer, and leaves the length of the text.
+/// Writes a text and the byte 0 at the front of a buffer, writes the length of the text, and returns 0. Fails with
+/// `NoRoom` if the buffer is too small for both: the length is written, and the buffer is unchanged.
 fn put(text: &[u8], buffer: &mut [u8], length: &mut usize) -> i32
     ensures { TextAnswers (Ok text.now) (buffer.old, length.old) (buffer.new, length.new) result }
 {

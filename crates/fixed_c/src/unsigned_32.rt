@@ -1,4 +1,9 @@
 //! The calls of `u32`.
+//!
+//! Operands and results are bits, in units of `2^-frac` unless a comment names another unit. Operands named `k` are
+//! integers. A call returns 0 and writes its result, or it fails: it returns the number of a [`Code`] and leaves the
+//! result unchanged, unless its comment says otherwise. If several codes apply, it returns the first one that its
+//! comment names. [`blocks`] states what calls over blocks leave.
 
 ghost use Rattle.std.specs.Prelude.{◌≡◌, ℤ, Result, Ok, false, pos, neg_ℤ, ◌*ℤ◌, ◌+ℤ◌, ◌-ℤ◌, map};
 ghost use Rattle.std.specs.Float.{binary64};
@@ -32,28 +37,29 @@ use crate::{arrays, blocks, conversions, intervals, one_sign, texts};
 use fixed_filter::Shape;
 use fixed_word::Outcome;
 
-/// What a call leaves where its code is 0.
+/// The result of an operation.
 #[repr(C)]
 #[derive(Clone, Copy)]
 pub struct AnswerU32 {
-    /// What is left of the number in the word.
+    /// The wrapped number. It differs from the exact result by a multiple of `2^32` units, and is the exact result if
+    /// that fits.
     pub bits: u32,
-    /// Where the number lies: 0 where it fits, 1 above the greatest value, -1 below the least.
+    /// The side: 0 if the exact result fits, 1 if it is above the range, and -1 if it is below.
     pub side: i32,
 }
 
-/// What a call over intervals leaves where its code is 0.
+/// The result of an operation on intervals.
 #[repr(C)]
 #[derive(Clone, Copy)]
 pub struct EndsU32 {
-    /// The least number.
+    /// The smallest number of the interval.
     pub low: u32,
-    /// The greatest number.
+    /// The largest number of the interval.
     pub high: u32,
 }
 
 impl AnswerU32 {
-    /// Leaves the outcome, and returns 0; or returns the number of the code.
+    /// Writes the outcome and returns 0; or returns the number of the code, and leaves the result unchanged.
     #[inline]
     #[tactic(auto, unfolding(crate::specs::Answers::CallAnswers, crate::specs::inside::Calls::IsResultOf))]
     fn leave(&mut self, answer: Result<Outcome<u32>, Code>) -> i32
@@ -69,7 +75,7 @@ impl AnswerU32 {
         }
     }
 
-    /// Takes a call, and leaves its outcome likewise.
+    /// Writes the outcome of a call, or returns the number of its code, as `leave` does.
     #[inline(always)]
     fn take(&mut self, call: Call<u32>) -> i32
         ensures { AnswersU32 (given pos 32 call) self.old self.new result }
@@ -78,7 +84,7 @@ impl AnswerU32 {
     }
 }
 
-/// `-a`
+/// Writes `-a`. Always returns 0.
 #[unsafe(no_mangle)]
 pub extern "C" fn fixed_u32_neg(a: u32, answer: &mut AnswerU32) -> i32
     ensures { AnswersU32 (Ok (neg_ℤ (pos a))) answer.old answer.new result }
@@ -86,7 +92,7 @@ pub extern "C" fn fixed_u32_neg(a: u32, answer: &mut AnswerU32) -> i32
     answer.take(Call::Neg(a))
 }
 
-/// `a + b`
+/// Writes `a + b`. Always returns 0.
 #[unsafe(no_mangle)]
 pub extern "C" fn fixed_u32_add(a: u32, b: u32, answer: &mut AnswerU32) -> i32
     ensures { AnswersU32 (Ok (pos a +ℤ pos b)) answer.old answer.new result }
@@ -94,7 +100,7 @@ pub extern "C" fn fixed_u32_add(a: u32, b: u32, answer: &mut AnswerU32) -> i32
     answer.take(Call::Add(a, b))
 }
 
-/// `a - b`
+/// Writes `a - b`. Always returns 0.
 #[unsafe(no_mangle)]
 pub extern "C" fn fixed_u32_sub(a: u32, b: u32, answer: &mut AnswerU32) -> i32
     ensures { AnswersU32 (Ok (pos a -ℤ pos b)) answer.old answer.new result }
@@ -102,7 +108,7 @@ pub extern "C" fn fixed_u32_sub(a: u32, b: u32, answer: &mut AnswerU32) -> i32
     answer.take(Call::Sub(a, b))
 }
 
-/// The magnitude of `a - b`.
+/// Writes the magnitude of `a - b`. Always returns 0.
 #[unsafe(no_mangle)]
 pub extern "C" fn fixed_u32_dist(a: u32, b: u32, answer: &mut AnswerU32) -> i32
     ensures { AnswersU32 (Ok (exact_abs (pos a -ℤ pos b))) answer.old answer.new result }
@@ -110,7 +116,7 @@ pub extern "C" fn fixed_u32_dist(a: u32, b: u32, answer: &mut AnswerU32) -> i32
     answer.take(Call::Dist(a, b))
 }
 
-/// `a b / 2^frac`, rounded down.
+/// Writes `a b / 2^frac`, rounded down. Fails with `FractionPastWidth`.
 #[unsafe(no_mangle)]
 pub extern "C" fn fixed_u32_mul(a: u32, b: u32, frac: u32, answer: &mut AnswerU32) -> i32
     ensures { AnswersU32 (at_fraction 32 frac (Ok (exact_mul (pos a) (pos b) frac))) answer.old answer.new result }
@@ -118,7 +124,7 @@ pub extern "C" fn fixed_u32_mul(a: u32, b: u32, frac: u32, answer: &mut AnswerU3
     answer.take(Call::Mul(a, b, frac))
 }
 
-/// `a k`, for an integer `k`.
+/// Writes `a k`, for an integer `k`. Always returns 0.
 #[unsafe(no_mangle)]
 pub extern "C" fn fixed_u32_mul_int(a: u32, k: u32, answer: &mut AnswerU32) -> i32
     ensures { AnswersU32 (Ok (pos a *ℤ pos k)) answer.old answer.new result }
@@ -126,7 +132,7 @@ pub extern "C" fn fixed_u32_mul_int(a: u32, k: u32, answer: &mut AnswerU32) -> i
     answer.take(Call::MulInt(a, k))
 }
 
-/// `a mul / 2^mul_frac`, rounded down, plus `add`.
+/// Writes `a mul / 2^mul_frac`, rounded down, plus `add`, in the unit of `a` and `add`. Fails with `FractionPastWidth`.
 #[unsafe(no_mangle)]
 pub extern "C" fn fixed_u32_mul_add(
     a: u32,
@@ -142,8 +148,8 @@ pub extern "C" fn fixed_u32_mul_add(
     answer.take(Call::MulAdd(a, mul, add, mul_frac))
 }
 
-/// `c` plus the product of `a` and `b`, each of a fraction of its own; the product is brought to that of `c` and
-/// rounded down.
+/// Writes `c` plus the product of `a` and `b`, which is rounded down to the fraction bits of `c`. Each operand has its
+/// own number of fraction bits. Fails with `FractionPastWidth`.
 #[unsafe(no_mangle)]
 pub extern "C" fn fixed_u32_add_prod(
     c: u32,
@@ -162,7 +168,7 @@ pub extern "C" fn fixed_u32_add_prod(
     answer.take(Call::AddProd(c, a, b, c_frac, a_frac, b_frac))
 }
 
-/// `a 2^frac / b`, rounded toward zero.
+/// Writes `a 2^frac / b`, rounded toward zero. Fails with `FractionPastWidth` or `ZeroDivisor`.
 #[unsafe(no_mangle)]
 pub extern "C" fn fixed_u32_div(a: u32, b: u32, frac: u32, answer: &mut AnswerU32) -> i32
     ensures { AnswersU32
@@ -172,7 +178,7 @@ pub extern "C" fn fixed_u32_div(a: u32, b: u32, frac: u32, answer: &mut AnswerU3
     answer.take(Call::Div(a, b, frac))
 }
 
-/// `a / k`, rounded toward zero, for an integer `k`.
+/// Writes `a / k`, rounded toward zero, for an integer `k`. Fails with `ZeroDivisor`.
 #[unsafe(no_mangle)]
 pub extern "C" fn fixed_u32_div_int(a: u32, k: u32, answer: &mut AnswerU32) -> i32
     ensures { AnswersU32
@@ -182,7 +188,7 @@ pub extern "C" fn fixed_u32_div_int(a: u32, k: u32, answer: &mut AnswerU32) -> i
     answer.take(Call::DivInt(a, k))
 }
 
-/// `2^(2 frac) / a`, rounded toward zero.
+/// Writes `2^(2 frac) / a`, rounded toward zero. Fails with `FractionPastWidth` or `ZeroDivisor`.
 #[unsafe(no_mangle)]
 pub extern "C" fn fixed_u32_recip(a: u32, frac: u32, answer: &mut AnswerU32) -> i32
     ensures { AnswersU32
@@ -192,7 +198,8 @@ pub extern "C" fn fixed_u32_recip(a: u32, frac: u32, answer: &mut AnswerU32) -> 
     answer.take(Call::Recip(a, frac))
 }
 
-/// The quotient of the Euclidean pair of `a` and `b`, a whole number, times `2^frac`.
+/// Writes the Euclidean quotient of `a` and `b`, which is an integer, times `2^frac`. Fails with `FractionPastWidth` or
+/// `ZeroDivisor`.
 #[unsafe(no_mangle)]
 pub extern "C" fn fixed_u32_div_euclid(a: u32, b: u32, frac: u32, answer: &mut AnswerU32) -> i32
     ensures { AnswersU32
@@ -202,7 +209,8 @@ pub extern "C" fn fixed_u32_div_euclid(a: u32, b: u32, frac: u32, answer: &mut A
     answer.take(Call::DivEuclid(a, b, frac))
 }
 
-/// The quotient of the Euclidean pair of `a` and `k 2^frac`, a whole number, times `2^frac`.
+/// Writes the Euclidean quotient of `a` and `k 2^frac`, which is an integer, times `2^frac`. Fails with
+/// `FractionPastWidth` or `ZeroDivisor`.
 #[unsafe(no_mangle)]
 pub extern "C" fn fixed_u32_div_euclid_int(a: u32, k: u32, frac: u32, answer: &mut AnswerU32) -> i32
     ensures { AnswersU32
@@ -212,7 +220,7 @@ pub extern "C" fn fixed_u32_div_euclid_int(a: u32, k: u32, frac: u32, answer: &m
     answer.take(Call::DivEuclidInt(a, k, frac))
 }
 
-/// `a - b q`, with the quotient q of `a` and `b` rounded toward zero.
+/// Writes `a - b q`, where q is the quotient of `a` and `b`, rounded toward zero. Fails with `ZeroDivisor`.
 #[unsafe(no_mangle)]
 pub extern "C" fn fixed_u32_rem(a: u32, b: u32, answer: &mut AnswerU32) -> i32
     ensures { AnswersU32
@@ -222,7 +230,8 @@ pub extern "C" fn fixed_u32_rem(a: u32, b: u32, answer: &mut AnswerU32) -> i32
     answer.take(Call::Rem(a, b))
 }
 
-/// `a - d q` for `d = k 2^frac`, with the quotient q of `a` and d rounded toward zero.
+/// Writes `a - d q` for `d = k 2^frac`, where q is the quotient of `a` and d, rounded toward zero. Fails with
+/// `FractionPastWidth` or `ZeroDivisor`.
 #[unsafe(no_mangle)]
 pub extern "C" fn fixed_u32_rem_int(a: u32, k: u32, frac: u32, answer: &mut AnswerU32) -> i32
     ensures { AnswersU32
@@ -232,7 +241,7 @@ pub extern "C" fn fixed_u32_rem_int(a: u32, k: u32, frac: u32, answer: &mut Answ
     answer.take(Call::RemInt(a, k, frac))
 }
 
-/// The remainder of the Euclidean pair of `a` and `b`.
+/// Writes the Euclidean remainder of `a` and `b`, which is never negative. Fails with `ZeroDivisor`.
 #[unsafe(no_mangle)]
 pub extern "C" fn fixed_u32_rem_euclid(a: u32, b: u32, answer: &mut AnswerU32) -> i32
     ensures { AnswersU32
@@ -242,7 +251,8 @@ pub extern "C" fn fixed_u32_rem_euclid(a: u32, b: u32, answer: &mut AnswerU32) -
     answer.take(Call::RemEuclid(a, b))
 }
 
-/// The remainder of the Euclidean pair of `a` and `k 2^frac`.
+/// Writes the Euclidean remainder of `a` and `k 2^frac`, which is never negative. Fails with `FractionPastWidth` or
+/// `ZeroDivisor`.
 #[unsafe(no_mangle)]
 pub extern "C" fn fixed_u32_rem_euclid_int(a: u32, k: u32, frac: u32, answer: &mut AnswerU32) -> i32
     ensures { AnswersU32
@@ -252,8 +262,8 @@ pub extern "C" fn fixed_u32_rem_euclid_int(a: u32, k: u32, frac: u32, answer: &m
     answer.take(Call::RemEuclidInt(a, k, frac))
 }
 
-/// The least multiple of `b` that is at least `a` where `b` is above 0, and the greatest that is at most `a`
-/// where `b` is below 0.
+/// Writes the smallest multiple of `b` that is at least `a` if `b` is positive, and the largest one that is at most `a`
+/// if `b` is negative. Fails with `ZeroDivisor`.
 #[unsafe(no_mangle)]
 pub extern "C" fn fixed_u32_next_multiple_of(a: u32, b: u32, answer: &mut AnswerU32) -> i32
     ensures { AnswersU32
@@ -263,7 +273,7 @@ pub extern "C" fn fixed_u32_next_multiple_of(a: u32, b: u32, answer: &mut Answer
     answer.take(Call::NextMultipleOf(a, b))
 }
 
-/// The root of `a 2^frac`, rounded down.
+/// Writes the root of `a 2^frac`, rounded down. Fails with `FractionPastWidth` or `NegativeRoot`.
 #[unsafe(no_mangle)]
 pub extern "C" fn fixed_u32_sqrt(a: u32, frac: u32, answer: &mut AnswerU32) -> i32
     ensures { AnswersU32
@@ -273,7 +283,7 @@ pub extern "C" fn fixed_u32_sqrt(a: u32, frac: u32, answer: &mut AnswerU32) -> i
     answer.take(Call::Sqrt(a, frac))
 }
 
-/// The least power of two that is at least `a`.
+/// Writes the smallest power of two that is at least `a`, both as bits. Always returns 0.
 #[unsafe(no_mangle)]
 pub extern "C" fn fixed_u32_next_power_of_two(a: u32, answer: &mut AnswerU32) -> i32
     ensures { AnswersU32 (Ok (exact_next_power_of_two (pos a))) answer.old answer.new result }
@@ -281,7 +291,7 @@ pub extern "C" fn fixed_u32_next_power_of_two(a: u32, answer: &mut AnswerU32) ->
     answer.leave(one_sign::next_power_of_two(a))
 }
 
-/// `a b / 2^frac`, rounded.
+/// Writes `a b / 2^frac`, rounded as named. Fails with `FractionPastWidth` or `NoRounding`.
 #[unsafe(no_mangle)]
 pub extern "C" fn fixed_u32_mul_round(
     a: u32,
@@ -297,7 +307,8 @@ pub extern "C" fn fixed_u32_mul_round(
     answer.take(Call::MulRound(a, b, frac, rounding))
 }
 
-/// `a mul / 2^mul_frac`, rounded, plus `add`.
+/// Writes `a mul / 2^mul_frac`, rounded as named, plus `add`, in the unit of `a` and `add`. Fails with
+/// `FractionPastWidth` or `NoRounding`.
 #[unsafe(no_mangle)]
 pub extern "C" fn fixed_u32_mul_add_round(
     a: u32,
@@ -314,8 +325,8 @@ pub extern "C" fn fixed_u32_mul_add_round(
     answer.take(Call::MulAddRound(a, mul, add, mul_frac, rounding))
 }
 
-/// `c` plus the product of `a` and `b`, each of a fraction of its own; the product is brought to that of `c` and
-/// rounded.
+/// Writes `c` plus the product of `a` and `b`, which is rounded as named to the fraction bits of `c`. Each operand has
+/// its own number of fraction bits. Fails with `FractionPastWidth` or `NoRounding`.
 #[unsafe(no_mangle)]
 pub extern "C" fn fixed_u32_add_prod_round(
     c: u32,
@@ -335,7 +346,7 @@ pub extern "C" fn fixed_u32_add_prod_round(
     answer.take(Call::AddProdRound(c, a, b, c_frac, a_frac, b_frac, rounding))
 }
 
-/// `a 2^frac / b`, rounded.
+/// Writes `a 2^frac / b`, rounded as named. Fails with `FractionPastWidth`, `NoRounding` or `ZeroDivisor`.
 #[unsafe(no_mangle)]
 pub extern "C" fn fixed_u32_div_round(
     a: u32,
@@ -352,7 +363,7 @@ pub extern "C" fn fixed_u32_div_round(
     answer.take(Call::DivRound(a, b, frac, rounding))
 }
 
-/// `a / divisor`, rounded, for an integer.
+/// Writes `a / divisor`, rounded as named, for an integer `divisor`. Fails with `NoRounding` or `ZeroDivisor`.
 #[unsafe(no_mangle)]
 pub extern "C" fn fixed_u32_div_int_round(
     a: u32,
@@ -368,7 +379,7 @@ pub extern "C" fn fixed_u32_div_int_round(
     answer.take(Call::DivIntRound(a, divisor, rounding))
 }
 
-/// `2^(2 frac) / a`, rounded.
+/// Writes `2^(2 frac) / a`, rounded as named. Fails with `FractionPastWidth`, `NoRounding` or `ZeroDivisor`.
 #[unsafe(no_mangle)]
 pub extern "C" fn fixed_u32_recip_round(
     a: u32,
@@ -384,7 +395,8 @@ pub extern "C" fn fixed_u32_recip_round(
     answer.take(Call::RecipRound(a, frac, rounding))
 }
 
-/// `number / 2^from` in units of `2^-to`, rounded, for a number of any signed word.
+/// Writes `number / 2^from` in units of `2^-to`, rounded as named, for a number of any signed word; `from` is at most
+/// 64. Fails with `FractionPastWidth` or `NoRounding`.
 #[unsafe(no_mangle)]
 pub extern "C" fn fixed_u32_convert(
     number: i64,
@@ -400,7 +412,8 @@ pub extern "C" fn fixed_u32_convert(
     answer.take(Call::Convert(number, from, to, rounding))
 }
 
-/// `number / 2^from` in units of `2^-to`, rounded, for a number of any unsigned word.
+/// Writes `number / 2^from` in units of `2^-to`, rounded as named, for a number of any unsigned word; `from` is at most
+/// 64. Fails with `FractionPastWidth` or `NoRounding`.
 #[unsafe(no_mangle)]
 pub extern "C" fn fixed_u32_convert_unsigned(
     number: u64,
@@ -417,7 +430,8 @@ pub extern "C" fn fixed_u32_convert_unsigned(
     answer.take(Call::ConvertUnsigned(number, from, to, rounding))
 }
 
-/// The float in units of `2^-frac`, rounded.
+/// Writes the number of a double in units of `2^-frac`, rounded as named. Fails with `FractionPastWidth`, `NoRounding`
+/// or `NotFinite`.
 #[unsafe(no_mangle)]
 pub extern "C" fn fixed_u32_from_double(
     number: f64,
@@ -432,7 +446,7 @@ pub extern "C" fn fixed_u32_from_double(
     answer.take(Call::FromDouble(number, frac, rounding))
 }
 
-/// The float nearest to `a / 2^frac`, of two as near the one whose last bit is 0.
+/// Writes the double nearest to `a / 2^frac`, ties to even. Fails with `FractionPastWidth`.
 #[unsafe(no_mangle)]
 pub extern "C" fn fixed_u32_to_double(a: u32, frac: u32, value: &mut f64) -> i32
     ensures { ValueAnswers
@@ -442,7 +456,8 @@ pub extern "C" fn fixed_u32_to_double(a: u32, frac: u32, value: &mut f64) -> i32
     conversions::to_double(a, frac, value)
 }
 
-/// The number of a decimal in units of `2^-frac`, rounded.
+/// Writes the number of a decimal in units of `2^-frac`, rounded as named. Fails with `FractionPastWidth`,
+/// `NoRounding`, or `NoDigits`, `InvalidDigit` or `TooManyPoints` if the text is not a decimal.
 #[unsafe(no_mangle)]
 pub extern "C" fn fixed_u32_parse(
     decimal: &[u8],
@@ -457,7 +472,8 @@ pub extern "C" fn fixed_u32_parse(
     answer.leave(texts::parse(decimal, frac, rounding))
 }
 
-/// The text of `a / 2^frac` with so many digits behind the point, rounded, and a 0 behind it.
+/// Writes the text of `a / 2^frac`, rounded as named to `places` digits after the point, the byte 0 after it, and its
+/// length. Fails with `FractionPastWidth`, `TooManyPlaces`, `NoRounding` or `NoRoom`, which writes the length.
 #[unsafe(no_mangle)]
 pub extern "C" fn fixed_u32_print(
     a: u32,
@@ -474,7 +490,8 @@ pub extern "C" fn fixed_u32_print(
     texts::print(a, frac, places, rounding, buffer, length)
 }
 
-/// The shortest text that is read as `a / 2^frac`, to the nearest, and a 0 behind it.
+/// Writes the shortest text that is read back as `a / 2^frac`, to the nearest, the byte 0 after it, and its length.
+/// Fails with `FractionPastWidth` or `NoRoom`, which writes the length.
 #[unsafe(no_mangle)]
 pub extern "C" fn fixed_u32_print_shortest(
     a: u32,
@@ -489,7 +506,7 @@ pub extern "C" fn fixed_u32_print_shortest(
     texts::shortest(a, frac, buffer, length)
 }
 
-/// The sums of a number in `a` and one in `b`.
+/// Writes the ends of the sums of a number in `a` and one in `b`. Fails with `EndsExchanged` or `OutOfRange`.
 #[unsafe(no_mangle)]
 pub extern "C" fn fixed_u32_add_in(
     a_low: u32,
@@ -506,7 +523,7 @@ pub extern "C" fn fixed_u32_add_in(
     intervals::add(a_low, a_high, b_low, b_high, low, high)
 }
 
-/// The differences of a number in `a` and one in `b`.
+/// Writes the ends of the differences of a number in `a` and one in `b`. Fails with `EndsExchanged` or `OutOfRange`.
 #[unsafe(no_mangle)]
 pub extern "C" fn fixed_u32_sub_in(
     a_low: u32,
@@ -523,7 +540,8 @@ pub extern "C" fn fixed_u32_sub_in(
     intervals::sub(a_low, a_high, b_low, b_high, low, high)
 }
 
-/// The products of a number in `a` and one in `b`, each over `2^frac`.
+/// Writes the ends of the products of a number in `a` and one in `b`, each over `2^frac`, rounded outward. Fails with
+/// `FractionPastWidth`, `EndsExchanged` or `OutOfRange`.
 #[unsafe(no_mangle)]
 pub extern "C" fn fixed_u32_mul_in(
     a_low: u32,
@@ -541,7 +559,8 @@ pub extern "C" fn fixed_u32_mul_in(
     intervals::mul(a_low, a_high, b_low, b_high, frac, low, high)
 }
 
-/// The quotients of a number in `a` by one in `b`, each times `2^frac`.
+/// Writes the ends of the quotients of a number in `a` by one in `b`, each times `2^frac`, rounded outward. Fails with
+/// `FractionPastWidth`, `EndsExchanged`, `ZeroDivisor` or `OutOfRange`.
 #[unsafe(no_mangle)]
 pub extern "C" fn fixed_u32_div_in(
     a_low: u32,
@@ -559,7 +578,8 @@ pub extern "C" fn fixed_u32_div_in(
     intervals::div(a_low, a_high, b_low, b_high, frac, low, high)
 }
 
-/// The roots of the numbers in `a`, each times `2^frac`.
+/// Writes the ends of the roots of `x 2^frac` for the numbers x in `a`, rounded outward. Fails with
+/// `FractionPastWidth`, `EndsExchanged`, `NegativeRoot` or `OutOfRange`.
 #[unsafe(no_mangle)]
 pub extern "C" fn fixed_u32_sqrt_in(a_low: u32, a_high: u32, frac: u32, answer: &mut EndsU32) -> i32
     ensures { EndsU32Answers (root_in false 32 (from_to (pos a_low) (pos a_high)) frac) answer.old answer.new result }
@@ -567,7 +587,8 @@ pub extern "C" fn fixed_u32_sqrt_in(a_low: u32, a_high: u32, frac: u32, answer: 
     intervals::sqrt(a_low, a_high, frac, &mut answer.low, &mut answer.high)
 }
 
-/// The value at `x` of the polynomial with these coefficients, the least first, or the step that does not fit.
+/// Writes the value at `x` of the polynomial with these coefficients, the lowest first. Fails with `FractionPastWidth`,
+/// `NoElement` or `OutOfRange`, which writes the index of the coefficient whose step does not fit.
 #[unsafe(no_mangle)]
 pub extern "C" fn fixed_u32_horner(
     coefs: &[u32],
@@ -582,7 +603,9 @@ pub extern "C" fn fixed_u32_horner(
     arrays::horner(coefs, x, frac, value, step)
 }
 
-/// Takes a sample into the past ones, and leaves the output, or the tap whose partial sum does not fit.
+/// Puts the sample in front of the past samples, drops the oldest, and writes the output. Fails with
+/// `FractionPastWidth`, `NoElement` or `CountsDiffer`, and the past samples are unchanged; or with `OutOfRange`, which
+/// takes the sample, and writes the index of the tap whose partial sum does not fit.
 #[unsafe(no_mangle)]
 pub extern "C" fn fixed_u32_filter(
     taps: &[u32],
@@ -607,7 +630,7 @@ pub extern "C" fn fixed_u32_filter(
     arrays::filter(taps, past, sample, shape, output, tap)
 }
 
-/// `-x` for each x of the block.
+/// Writes `-x` over each x of the block. Fails with `NoPolicy` or `OutOfRange`.
 #[unsafe(no_mangle)]
 pub extern "C" fn fixed_u32_neg_block(block: &mut [u32], policy: u32, place: &mut usize) -> i32
     ensures { BlockAnswers pos false 32
@@ -617,7 +640,7 @@ pub extern "C" fn fixed_u32_neg_block(block: &mut [u32], policy: u32, place: &mu
     blocks::neg(block, policy, place)
 }
 
-/// `x k` for each x of the block, for an integer `k`.
+/// Writes `x k` over each x of the block, for an integer `k`. Fails with `NoPolicy` or `OutOfRange`.
 #[unsafe(no_mangle)]
 pub extern "C" fn fixed_u32_mul_int_block(
     block: &mut [u32],
@@ -632,7 +655,8 @@ pub extern "C" fn fixed_u32_mul_int_block(
     blocks::mul_int(block, k, policy, place)
 }
 
-/// `x by / 2^frac`, rounded down, for each x of the block.
+/// Writes `x by / 2^frac`, rounded down, over each x of the block. Fails with `FractionPastWidth`, `NoPolicy` or
+/// `OutOfRange`.
 #[unsafe(no_mangle)]
 pub extern "C" fn fixed_u32_scale_block(
     block: &mut [u32],
@@ -648,7 +672,8 @@ pub extern "C" fn fixed_u32_scale_block(
     blocks::scale(block, by, frac, policy, place)
 }
 
-/// `x / 2^from` in units of `2^-to`, rounded, for each x of the block.
+/// Writes `x / 2^from` in units of `2^-to`, rounded as named, over each x of the block. Fails with `FractionPastWidth`,
+/// `NoRounding`, `NoPolicy` or `OutOfRange`.
 #[unsafe(no_mangle)]
 pub extern "C" fn fixed_u32_convert_block(
     block: &mut [u32],
@@ -666,7 +691,8 @@ pub extern "C" fn fixed_u32_convert_block(
     blocks::convert(block, from, to, rounding, policy, place)
 }
 
-/// `x + y` for each x of the block and the y at its place.
+/// Writes `x + y` over each x of the block, where y is the other number at its index. Fails with `CountsDiffer`,
+/// `NoPolicy` or `OutOfRange`.
 #[unsafe(no_mangle)]
 pub extern "C" fn fixed_u32_add_block(
     block: &mut [u32],
@@ -681,7 +707,8 @@ pub extern "C" fn fixed_u32_add_block(
     blocks::add(block, others, policy, place)
 }
 
-/// `x - y` for each x of the block and the y at its place.
+/// Writes `x - y` over each x of the block, where y is the other number at its index. Fails with `CountsDiffer`,
+/// `NoPolicy` or `OutOfRange`.
 #[unsafe(no_mangle)]
 pub extern "C" fn fixed_u32_sub_block(
     block: &mut [u32],
@@ -696,7 +723,8 @@ pub extern "C" fn fixed_u32_sub_block(
     blocks::sub(block, others, policy, place)
 }
 
-/// `x y / 2^frac`, rounded down, for each x of the block and the y at its place.
+/// Writes `x y / 2^frac`, rounded down, over each x of the block, where y is the other number at its index. Fails with
+/// `FractionPastWidth`, `CountsDiffer`, `NoPolicy` or `OutOfRange`.
 #[unsafe(no_mangle)]
 pub extern "C" fn fixed_u32_mul_block(
     block: &mut [u32],
@@ -712,7 +740,8 @@ pub extern "C" fn fixed_u32_mul_block(
     blocks::mul(block, others, frac, policy, place)
 }
 
-/// `x + y by / 2^frac`, the product rounded down, for each x of the block and the y at its place.
+/// Writes x plus `y by / 2^frac`, which is rounded down, over each x of the block, where y is the other number at its
+/// index. Fails with `FractionPastWidth`, `CountsDiffer`, `NoPolicy` or `OutOfRange`.
 #[unsafe(no_mangle)]
 pub extern "C" fn fixed_u32_mul_add_block(
     block: &mut [u32],

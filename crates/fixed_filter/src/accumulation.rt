@@ -1,4 +1,4 @@
-//! The sum of the products of a channel.
+//! The sum of the products of taps and samples.
 
 ghost use Rattle.std.specs.Prelude.{◌≡◌, Some, length};
 ghost use Rattle.std.specs.Option.{option_map};
@@ -14,8 +14,9 @@ use crate::shape::Shape;
 use fixed_kernel::{add_prod_of, mul_add_of};
 use fixed_word::{RawWord, Word, checked_of};
 
-/// The sum plus the product of a tap and a sample; None exactly where that does not fit. Products that move down by at
-/// most the width, as they mostly do, move in one shift.
+/// Returns the sum plus the product of a tap and a sample, which is rounded down, or `None` if that does not fit. If
+/// the product is shifted right by at most the width, as most products are, one shift is enough. Precondition: each
+/// number of fraction bits is at most the width.
 #[inline]
 #[tactic(auto, using(crate::proofs::Sums::moved_down))]
 pub(crate) fn checked_add_prod<T: Word>(sum: T, tap: T, sample: T, shape: &Shape) -> Option<T>
@@ -39,9 +40,11 @@ pub(crate) fn checked_add_prod<T: Word>(sum: T, tap: T, sample: T, shape: &Shape
     }
 }
 
-/// The output of a filter with these taps after these samples, the newest first: the sum of their products, in units of
-/// `2^-out_frac`, each rounded down; taps are in units of `2^-coef_frac`, samples of `2^-sample_frac`. The first partial
-/// sum that does not fit ends it. Conditions: there are as many samples as taps, and each fraction is at most the width.
+/// Returns the output of a filter with these taps after these samples, the newest first: the sum of the products of
+/// taps and samples, each rounded down. Taps are in units of `2^-coef_frac`, samples of `2^-sample_frac`, and outputs
+/// of `2^-out_frac`. If a partial sum does not fit, the reply is `Overflow` with the index of the first such tap.
+/// Without taps, the output is 0. Preconditions: there are as many samples as taps, and each number of fraction bits is
+/// at most the width.
 pub fn output_of<T: Word>(shape: &Shape, taps: &[T], past: &[T]) -> Reply<T>
     requires shape { IsShape T.BITS shape.now }
     requires lengths { length taps.now ≡ length past.now }
@@ -51,7 +54,7 @@ pub fn output_of<T: Word>(shape: &Shape, taps: &[T], past: &[T]) -> Reply<T>
     output_of_past(shape, taps, past)
 }
 
-/// The same of what holds the words.
+/// Returns the same as `output_of`, from types that hold the words. Preconditions: those of `output_of`.
 #[inline]
 pub(crate) fn output_of_past<T: Word, A: Sample<T>, B: Sample<T>>(
     shape: &Shape,
@@ -63,7 +66,7 @@ pub(crate) fn output_of_past<T: Word, A: Sample<T>, B: Sample<T>>(
     ensures { reply_map T.value result ≡ filter_reply T.SIGNED T.BITS (places_of shape.now)
         (pairs (λ a. T.value (A.held a)) (λ b. T.value (B.held b)) taps.now past.now) }
 {
-    // (one test of the length in front, and none at each tap)
+    // One check of the length here spares one at each tap.
     let past = &past[..taps.len()];
     let mut sum = T::ZERO;
     for i in 0..taps.len() {

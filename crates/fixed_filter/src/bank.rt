@@ -11,8 +11,8 @@ use fixed_word::{RawWord, Word};
 use std::alloc::{AllocError, Global};
 use std::marker::Model;
 
-/// Channels of one shape, each with its taps and as many of its own past samples. Taps, samples and outputs are
-/// bits, whose fractions the shape has. Contracts see the shape and the list of the channels.
+/// Channels of one shape. Each channel has its taps, and as many past samples of its own. Taps, samples and outputs are
+/// bits, and the shape has their numbers of fraction bits. Contracts see the shape and the list of the channels.
 #[derive(Drop)]
 pub struct Bank<T: Word> {
     alloc: Global,
@@ -31,8 +31,8 @@ impl<T: Word> Model for Bank<T> {
 }
 
 impl<T: Word> Bank<T> {
-    /// A bank of this shape without a channel. It takes no memory. Condition: each fraction is at most the
-    /// width.
+    /// Returns a bank of this shape without channels. This does not allocate. Precondition: each number of fraction
+    /// bits is at most the width.
     pub fn new(alloc: Global, shape: Shape) -> Self
         requires { IsShape T.BITS shape }
         ensures { result ≡ record { shape = shape; channels = [] } }
@@ -44,9 +44,9 @@ impl<T: Word> Bank<T> {
         }
     }
 
-    /// Adds a channel with these taps, the newest sample's first, and a past of one zero for each. Its number is
-    /// how many channels there were. AllocError says that memory ran out, and the bank is then as
-    /// before. Condition: there is a tap.
+    /// Adds a channel with these taps, in units of `2^-coef_frac`. The first tap is that of the newest sample. The
+    /// channel has a past sample of 0 for each tap, and its number is the number of channels before. Fails if memory
+    /// runs out; the bank is then unchanged. Precondition: there is a tap.
     pub fn add_channel(&mut self, taps: &[T]) -> Result<(), AllocError>
         requires { 0 < length taps.now }
         ensures added { OnOk result (self.new ≡ with_channel (fresh T.ZERO taps.now) self.old) }
@@ -57,10 +57,11 @@ impl<T: Word> Bank<T> {
         Ok(())
     }
 
-    /// Puts a sample in front of the channel's past, from which the oldest leaves, also where the reply is an
-    /// overflow. Answers the sum of the products of taps and past samples, each rounded down to the output's
-    /// fraction, or the first tap whose partial sum does not fit. It takes no memory, and makes one pass over
-    /// the taps. Condition: there is such a channel.
+    /// Puts a sample, in units of `2^-sample_frac`, in front of the channel's past samples, drops the oldest one, and
+    /// returns the output, in units of `2^-out_frac`: the sum of the products of taps and past samples, each rounded
+    /// down. If a partial sum does not fit, the reply is `Overflow` with the index of the first such tap, and the
+    /// channel has taken the sample all the same. This reads each tap at most once, and does not allocate.
+    /// Precondition: the channel exists.
     pub fn push(&mut self, channel: usize, sample: T) -> Reply<T>
         requires { channel < length self.old.channels }
         ensures held { self.new ≡ after_sample channel sample self.old }
@@ -72,14 +73,15 @@ impl<T: Word> Bank<T> {
         channel.push(sample, &shape)
     }
 
-    /// How many channels there are.
+    /// Returns the number of channels.
     pub fn channels(&self) -> usize
         ensures { result ≡ length self.now.channels }
     {
         self.channels.len()
     }
 
-    /// How many taps a channel has; its past has as many samples. Condition: there is such a channel.
+    /// Returns the number of taps of a channel, which is also the number of its past samples. Precondition: the channel
+    /// exists.
     pub fn taps(&self, channel: usize) -> usize
         requires { channel < length self.now.channels }
         ensures taps { result ≡ length (filter_at self.now channel).taps }
@@ -89,7 +91,8 @@ impl<T: Word> Bank<T> {
         channel.past().len()
     }
 
-    /// A tap of a channel. Condition: there are such a channel and tap.
+    /// Returns a tap of a channel, in units of `2^-coef_frac`. The tap at 0 is that of the newest sample.
+    /// Preconditions: the channel exists, and `index` is below the number of its taps.
     pub fn tap(&self, channel: usize, index: usize) -> T
         requires channel { channel < length self.now.channels }
         requires index { index < length (filter_at self.now channel).taps }
@@ -99,7 +102,8 @@ impl<T: Word> Bank<T> {
         channel.taps()[index]
     }
 
-    /// A past sample of a channel, the newest at 0. Condition: there are such a channel and tap.
+    /// Returns a past sample of a channel, in units of `2^-sample_frac`. The newest one is at 0. Preconditions: the
+    /// channel exists, and `index` is below the number of its taps.
     pub fn past(&self, channel: usize, index: usize) -> T
         requires channel { channel < length self.now.channels }
         requires index { index < length (filter_at self.now channel).taps }

@@ -9,41 +9,42 @@ use crate::shape::Shape;
 use fixed_num::Fixed;
 use fixed_word::{RawWord, Word};
 
-/// The coefficients of a second-order section, with G fraction bits: the output is
-/// `b0 x + b1 x1 + b2 x2 + a1 y1 + a2 y2` of the sample x, the two samples before it, and the two outputs before it.
-/// Where a transfer function has the denominator `1 + c1 z^-1 + c2 z^-2`, a1 is `-c1` and a2 is `-c2`.
+/// The coefficients of a second-order section, with G fraction bits. Without rounding, the output is
+/// `b0 x + b1 x1 + b2 x2 + a1 y1 + a2 y2`, where x is the sample, x1 and x2 are the two samples before it, and y1 and
+/// y2 are the two outputs before. For a transfer function with the denominator `1 + c1 z^-1 + c2 z^-2`, `a1` is `-c1`
+/// and `a2` is `-c2`.
 #[derive(Clone, Copy, PartialEq, Eq, Hash, Debug)]
 pub struct Section<T: Word, const G: u32> {
     /// The coefficient of the sample.
     pub b0: Fixed<T, G>,
-    /// That of the sample before it.
+    /// The coefficient of the sample before.
     pub b1: Fixed<T, G>,
-    /// That of the sample before that.
+    /// The coefficient of the second sample before.
     pub b2: Fixed<T, G>,
-    /// That of the output before.
+    /// The coefficient of the output before.
     pub a1: Fixed<T, G>,
-    /// That of the output before that.
+    /// The coefficient of the second output before.
     pub a2: Fixed<T, G>,
 }
 
-/// A second-order section in direct form I, with samples and outputs of F fraction bits: its coefficients, and the last
-/// two samples and outputs.
+/// A second-order section in direct form I: its coefficients, and its last two samples and outputs. Samples and outputs
+/// have F fraction bits, and coefficients have G.
 #[derive(Clone, Copy, PartialEq, Eq, Hash, Debug)]
 pub struct Biquad<T: Word, const F: u32, const G: u32> {
     /// The coefficients.
     pub section: Section<T, G>,
     /// The last sample.
     pub x1: Fixed<T, F>,
-    /// The sample before it.
+    /// The sample before the last one.
     pub x2: Fixed<T, F>,
     /// The last output.
     pub y1: Fixed<T, F>,
-    /// The output before it.
+    /// The output before the last one.
     pub y2: Fixed<T, F>,
 }
 
 impl<T: Word, const F: u32, const G: u32> Biquad<T, F, G> {
-    /// Returns the section at rest: samples and outputs so far are 0.
+    /// Returns the section at rest: its last two samples and outputs are 0.
     pub fn new(section: Section<T, G>) -> Self
         ensures { result ≡ record {
           section = section;
@@ -62,10 +63,10 @@ impl<T: Word, const F: u32, const G: u32> Biquad<T, F, G> {
         }
     }
 
-    /// Takes a sample, and returns the output: the sum of the five products, each rounded down. If a partial sum does not
-    /// fit, the reply names its coefficient, from 0 for b0 to 4 for a2, and the section stays as it was. Preconditions: F
-    /// and G are at most the width. By [`output_law`](crate::laws::output_law) the output lies at or below the exact sum,
-    /// by less than five units.
+    /// Takes a sample and returns the output: the sum of the products of the five coefficients, each rounded down. If a
+    /// partial sum does not fit, the reply is `Overflow` with the index of the first such coefficient, from 0 for `b0`
+    /// to 4 for `a2`, and the section is unchanged. By [`output_law`](crate::laws::output_law), the output lies at or
+    /// below the exact sum of these products, by less than five units. Preconditions: F and G are at most the width.
     pub fn push(&mut self, sample: Fixed<T, F>) -> Reply<Fixed<T, F>>
         requires samples { F ≤ T.BITS }
         requires coefficients { G ≤ T.BITS }
@@ -95,7 +96,7 @@ impl<T: Word, const F: u32, const G: u32> Biquad<T, F, G> {
         }
     }
 
-    /// The output after a sample.
+    /// Returns the output after a sample. Preconditions: F and G are at most the width.
     #[inline]
     fn output(&self, sample: Fixed<T, F>) -> Reply<T>
         requires samples { F ≤ T.BITS }

@@ -14,12 +14,13 @@ use crate::shape::Shape;
 use crate::window::output_of_window;
 use fixed_word::{RawWord, Word};
 
-/// Filters a block of samples, the oldest first, and writes the output after each: as many steps of
-/// [`put_in_front`](crate::put_in_front) and [`output_of`](crate::output_of). The past, the newest sample first, takes
-/// each sample. If an output does not fit, the error names its sample and tap; then the past has taken that sample and
-/// those before it, and the outputs from there on are unchanged. Taps are in units of `2^-coef_frac`, samples of
-/// `2^-sample_frac` and outputs of `2^-out_frac`. Preconditions: there are as many past samples as taps, and as many
-/// outputs as samples; each fraction is at most the width.
+/// Filters a block of samples, the oldest first, and writes the output after each sample. For each sample this does the
+/// same as [`put_in_front`](crate::put_in_front) and [`output_of`](crate::output_of): `past` takes the sample, and
+/// keeps the newest samples, the newest first. Taps are in units of `2^-coef_frac`, samples of `2^-sample_frac`, and
+/// outputs of `2^-out_frac`. If an output does not fit, this fails with the indices of its sample and of the first tap
+/// whose partial sum does not fit. Then `past` has taken that sample and those before it, and the outputs from that
+/// sample on are unchanged. Without taps, each output is 0. Preconditions: there are as many past samples as taps, and
+/// as many outputs as samples; each number of fraction bits is at most the width.
 pub fn filter_block<T: Word>(
     shape: &Shape,
     taps: &[T],
@@ -41,7 +42,7 @@ pub fn filter_block<T: Word>(
     block(shape, taps, past, input, output)
 }
 
-/// The same over what holds the words.
+/// Does the same as `filter_block`, over types that hold the words. Preconditions: those of `filter_block`.
 #[inline]
 pub(crate) fn block<T: Word, A: Sample<T>, B: Sample<T>, C: Sample<T>>(
     shape: &Shape,
@@ -67,7 +68,8 @@ pub(crate) fn block<T: Word, A: Sample<T>, B: Sample<T>, C: Sample<T>>(
     result
 }
 
-/// How many samples of a block were taken.
+/// Returns how many samples of a block of `count` samples were taken. Precondition: the sample of an error is below
+/// `count`.
 fn taken(end: &Result<(), BlockOverflow>, count: usize) -> usize
     requires { IfErr end.now (λ stop. stop.sample < count) }
     ensures value { result ≡ taken_of count end.now }
@@ -79,7 +81,7 @@ fn taken(end: &Result<(), BlockOverflow>, count: usize) -> usize
     }
 }
 
-/// Writes the outputs of a block. The past takes of it as many samples as it has room for.
+/// Writes the outputs of a block, as `block` does. But `past` takes only the first samples, as many as it has room for.
 fn outputs<T: Word, A: Sample<T>, B: Sample<T>, C: Sample<T>>(
     shape: &Shape,
     taps: &[A],
@@ -109,8 +111,10 @@ fn outputs<T: Word, A: Sample<T>, B: Sample<T>, C: Sample<T>>(
     Ok(())
 }
 
-/// The output after a sample of a block: over the past, which takes the sample, where the taps reach back before the
-/// block, and else over the block itself.
+/// Returns the output after sample `i` of a block. If `i` is below the number of taps, `past` takes the sample, and the
+/// output is that of the taps and `past`. Otherwise the taps reach only samples of the block, and `past` is unchanged.
+/// Preconditions: `i` is below the number of samples, there are as many past samples as taps, and each number of
+/// fraction bits is at most the width.
 #[inline]
 fn output_at<T: Word, A: Sample<T>, B: Sample<T>>(
     shape: &Shape,
@@ -138,7 +142,8 @@ fn output_at<T: Word, A: Sample<T>, B: Sample<T>>(
     }
 }
 
-/// Puts a sample in front of the past, and returns the output.
+/// Puts a sample in front of the past samples, drops the oldest one, and returns the output. Preconditions: there is a
+/// tap, there are as many past samples as taps, and each number of fraction bits is at most the width.
 #[inline]
 pub(crate) fn step<T: Word, A: Sample<T>, B: Sample<T>>(
     shape: &Shape,
@@ -157,7 +162,8 @@ pub(crate) fn step<T: Word, A: Sample<T>, B: Sample<T>>(
     output_of_past(shape, taps, past)
 }
 
-/// Keeps the newest of these samples, if there are more than the past has room for.
+/// Replaces the past samples by the newest of these samples, the newest first, if there are more of these than past
+/// samples. Otherwise `past` is unchanged.
 fn keep_newest<B: Copy>(samples: &[B], past: &mut [B])
     ensures newest { length past.old < length samples.now
         → past.new ≡ reverse (drop (length samples.now - length past.old) samples.now) }

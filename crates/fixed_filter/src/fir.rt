@@ -13,9 +13,9 @@ use fixed_num::Fixed;
 use fixed_word::{RawWord, Word};
 use std::marker::Model;
 
-/// A finite filter of taps with TAP fraction bits over samples with IN fraction bits; its outputs have OUT fraction
-/// bits. It keeps the past samples in a slice of the caller's, and takes no memory. Contracts see it as the channel of a
-/// [`Bank`](crate::Bank) with the same words.
+/// A finite filter over typed numbers. Its taps have TAP fraction bits, its samples IN, and its outputs OUT. The caller
+/// lends the slice of past samples, and the filter does not allocate. Contracts see it as the channel of a `Bank` with
+/// the same words.
 #[derive(Drop)]
 pub struct Fir<'t, 'p, T: Word, const OUT: u32, const TAP: u32, const IN: u32> {
     taps: &'t [Fixed<T, TAP>],
@@ -39,8 +39,9 @@ impl<'t, 'p, T: Word, const OUT: u32, const TAP: u32, const IN: u32> Model
 }
 
 impl<'t, 'p, T: Word, const OUT: u32, const TAP: u32, const IN: u32> Fir<'t, 'p, T, OUT, TAP, IN> {
-    /// Returns the filter with these taps, that of the newest sample first, after these past samples, the newest first.
-    /// Preconditions: there is a tap, there are as many past samples as taps, and OUT, TAP and IN are at most the width.
+    /// Returns the filter with these taps and past samples. The first tap is that of the newest sample, which is the
+    /// first of the past samples. Preconditions: there is a tap, there are as many past samples as taps, and OUT, TAP
+    /// and IN are at most the width.
     pub fn new(taps: &'t [Fixed<T, TAP>], past: &'p mut [Fixed<T, IN>]) -> Self
         requires some { 0 < length taps.now }
         requires lengths { length taps.now ≡ length past.old }
@@ -53,10 +54,10 @@ impl<'t, 'p, T: Word, const OUT: u32, const TAP: u32, const IN: u32> Fir<'t, 'p,
         Fir { taps, past }
     }
 
-    /// Takes a sample, and returns the output: the sum of the products of taps and past samples, each rounded down. If a
-    /// partial sum does not fit, the error names its tap. The past has the sample in either case, and lacks the oldest.
-    /// By [`output_law`](crate::laws::output_law) the output lies at or below the exact sum, by less than a unit for each
-    /// tap.
+    /// Takes a sample and returns the output: the sum of the products of taps and past samples, each rounded down. If a
+    /// partial sum does not fit, this fails with the index of the first such tap. In either case, the past samples have
+    /// the new one in front, and the oldest one is dropped. By [`output_law`](crate::laws::output_law), the output lies
+    /// at or below the exact sum, by less than a unit for each tap.
     pub fn push(&mut self, sample: Fixed<T, IN>) -> Result<Fixed<T, OUT>, TapOverflow>
         ensures held { self.new ≡ with_sample sample.bits self.old }
         ensures reply { result_map (λ y. T.value y.bits) result
@@ -66,10 +67,10 @@ impl<'t, 'p, T: Word, const OUT: u32, const TAP: u32, const IN: u32> Fir<'t, 'p,
         numbered(step(&shape, self.taps, self.past, sample))
     }
 
-    /// Takes the samples of a block, the oldest first, and writes the output after each: as many calls of
-    /// [`push`](Self::push). If an output does not fit, the error names its sample and tap; then the past has taken that
-    /// sample and those before it, and the outputs from there on are unchanged. Precondition: there are as many outputs
-    /// as samples.
+    /// Takes the samples of a block, the oldest first, and writes the output after each sample, as [`push`](Self::push)
+    /// returns it. If an output does not fit, this fails with the indices of its sample and of the first tap whose
+    /// partial sum does not fit. Then the filter has taken that sample and those before it, and the outputs from that
+    /// sample on are unchanged. Precondition: there are as many outputs as samples.
     pub fn push_block(
         &mut self,
         input: &[Fixed<T, IN>],
@@ -91,14 +92,14 @@ impl<'t, 'p, T: Word, const OUT: u32, const TAP: u32, const IN: u32> Fir<'t, 'p,
         block(&shape, self.taps, self.past, input, output)
     }
 
-    /// Makes each past sample 0.
+    /// Sets each past sample to 0. The taps are unchanged.
     pub fn reset(&mut self)
         ensures { self.new ≡ fresh T.ZERO self.old.taps }
     {
         clear(self.past);
     }
 
-    /// The fractions.
+    /// Returns the numbers of fraction bits.
     fn shape() -> Shape
         ensures { result ≡ shape_with OUT TAP IN }
     {
@@ -110,7 +111,7 @@ impl<'t, 'p, T: Word, const OUT: u32, const TAP: u32, const IN: u32> Fir<'t, 'p,
     }
 }
 
-/// A reply as a result with a number.
+/// Returns a reply as a result: a number, or an error with the tap.
 #[inline]
 fn numbered<T: Word, const F: u32>(reply: Reply<T>) -> Result<Fixed<T, F>, TapOverflow>
     ensures { result_map (λ y. T.value y.bits) result ≡ as_result (reply_map T.value reply) }
@@ -121,7 +122,7 @@ fn numbered<T: Word, const F: u32>(reply: Reply<T>) -> Result<Fixed<T, F>, TapOv
     }
 }
 
-/// Makes each sample 0.
+/// Sets each sample to 0.
 fn clear<T: Word, const F: u32>(past: &mut [Fixed<T, F>])
     ensures { past.new ≡ replicate (length past.old) (record { bits = T.ZERO }) }
 {

@@ -7,7 +7,7 @@ ghost use Rattle.fixed_filter.specs.Parser.{format_at, header_of};
 
 use fixed_text::{Tokens, WordName, read_natural, word_of};
 
-/// A word, and the fractions of outputs, taps and samples. A number of `2^64` or more is held as `2^64`.
+/// A word, and the numbers of fraction bits of outputs, taps and samples. A number of `2^64` or more is held as `2^64`.
 #[derive(Clone, Copy)]
 pub(crate) struct Header {
     pub(crate) word: WordName,
@@ -16,7 +16,7 @@ pub(crate) struct Header {
     pub(crate) sample: u128,
 }
 
-/// The word and the fractions that the tokens are.
+/// Returns the word and the numbers of fraction bits that the tokens write, or `None` if the tokens are malformed.
 #[tactic(auto, unfolding(crate::specs::Parser::format_at))]
 fn format_of(mut tokens: Tokens<'_>) -> Option<Header>
     ensures { result ≡ option_map capped_header (format_at tokens.entry) }
@@ -37,7 +37,7 @@ fn format_of(mut tokens: Tokens<'_>) -> Option<Header>
     }
 }
 
-/// The header whose text the piece is.
+/// Returns the header whose text the piece is, or `None` if the piece is malformed.
 #[tactic(auto, unfolding(crate::specs::Parser::header_at))]
 pub(crate) fn read_header(piece: &[u8]) -> Option<Header>
     ensures { result ≡ option_map capped_header (header_of piece.now) }

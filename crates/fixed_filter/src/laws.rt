@@ -1,4 +1,4 @@
-//! Laws of the definitions. These functions do nothing: each contract is the law.
+//! Laws of the definitions. These functions do nothing: the contract of each is the law.
 
 ghost use Rattle.std.specs.Prelude.{◌≡◌, ◌-◌, ◌*◌, ◌^◌, ◌≤ℤ◌, ◌-ℤ◌, ◌*ℤ◌, Bool, List, [], ◌∷◌, length, negsuc, pos, suc, true, ℕ, ℤ};
 ghost use Rattle.fixed_text.specs.Runs.{Printed};
@@ -14,8 +14,8 @@ ghost use Rattle.fixed_filter.specs.Scripts.{all_fit, are_samples, channels_and_
 ghost use Rattle.fixed_filter.specs.Text.{FilterHeader, header_text, line_text};
 ghost use Rattle.fixed_filter.specs.declared.reply.Reply.TheVariants.{Value};
 
-/// Where products move down by s places, an output lies at or below the exact sum, by less than one of its units
-/// for each tap. Where they move up, it is the exact sum.
+/// If products are shifted right by s bits, an output lies at or below the exact sum, by at most `1 - 2^-s` units of
+/// the output for each tap. If products are shifted left, the output is the exact sum.
 pub fn output_law()
     ensures from_zero { (signed : Bool) (n s : ℕ) (v : ℤ) (ps : List (ℤ × ℤ))
         → filter_reply signed n (pos s) ps ≡ Value v
@@ -28,7 +28,8 @@ pub fn output_law()
         → v ≡ products ps *ℤ pos (2 ^ suc t) }
 {}
 
-/// The replies to one channel are those of a bank that has this channel alone and gets its samples alone.
+/// The replies to the samples of one channel are those of a bank that has only this channel and takes only these
+/// samples.
 pub fn channel_law()
     ensures { (signed : Bool) (n : ℕ) (s : ℤ) (bank : List (List ℤ)) (channel : ℕ)
         (samples : List (ℕ × ℤ))
@@ -36,8 +37,9 @@ pub fn channel_law()
         ≡ own 0 (replies signed n s (taps_at bank channel ∷ []) [] (alone (own channel samples))) }
 {}
 
-/// A script of channels and their samples prints the texts of the replies to the samples, in order: those of which
-/// [`channel_law`](channel_law) speaks.
+/// A script that adds channels and then gives them samples prints the replies to the samples, in order, if each number
+/// of fraction bits is at most the width, taps and samples fit, and the channel of each sample exists.
+/// [`channel_law`](channel_law) holds for these replies.
 pub fn script_law()
     ensures { (h : FilterHeader) (channels : List (ℤ × List ℤ)) (samples : List (ℕ × ℤ))
         → shape_fits (width h.word) (shape_of h) ≡ true
@@ -48,7 +50,7 @@ pub fn script_law()
         (places_of (shape_of h)) (taps_of_channels channels) [] samples)) }
 {}
 
-/// A piece is a header, or a line, exactly where it is the text of one, and is read as that.
+/// Reading a piece as a header, or as a line, returns the one whose text the piece is, and nothing if there is none.
 pub fn text_law()
     ensures headers { IsReader header_text header_of }
     ensures lines { IsReader line_text line_of }

@@ -1,9 +1,12 @@
-//! Banks of finite filters, with a proved bound on their rounding.
+//! Finite filters, alone and in banks, and second-order sections, with a proved bound on their rounding.
 //!
-//! A channel has taps and as many past samples; its output is the sum of their products, each brought to the
-//! output's fraction and rounded down. Where a partial sum does not fit the reply names the tap.
-//! [`laws::output_law`](laws::output_law) says how far an output lies below the exact sum. Only a new channel and
-//! [`filter_run`], the run of a script, take memory. All items are this project's own.
+//! A finite filter has taps and as many past samples. Its output is the sum of the products of taps and past samples,
+//! each rounded down to the fraction bits of outputs. If a partial sum does not fit, the reply names the tap. A
+//! second-order section adds the products of its five coefficients in the same way.
+//! [`laws::output_law`](laws::output_law) bounds how far an output lies below the exact sum. Only `Bank::add_channel`
+//! and [`filter_run`], which runs a script, allocate.
+//!
+//! The Rust crate `fixed` does not have these items.
 #![tactic(auto)]
 
 mod accumulation;

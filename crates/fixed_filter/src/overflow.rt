@@ -6,7 +6,7 @@ use thiserror::Error;
 #[derive(Clone, Copy, Debug, PartialEq, Eq, Hash, Error)]
 #[error("overflow at tap {tap}")]
 pub struct TapOverflow {
-    /// The first tap whose partial sum does not fit, by its index.
+    /// The index of the first tap whose partial sum does not fit.
     pub tap: usize,
 }
 
@@ -14,8 +14,8 @@ pub struct TapOverflow {
 #[derive(Clone, Copy, Debug, PartialEq, Eq, Hash, Error)]
 #[error("overflow at sample {sample}, tap {tap}")]
 pub struct BlockOverflow {
-    /// The first sample whose output does not fit, by its index in the block.
+    /// The index in the block of the first sample whose output does not fit.
     pub sample: usize,
-    /// The first tap whose partial sum does not fit, by its index.
+    /// The index of the first tap whose partial sum does not fit.
     pub tap: usize,
 }

@@ -27,7 +27,7 @@ use fixed_word::{RawWord, Valued, Word};
 use std::alloc::{AllocError, Global};
 use std::marker::Model;
 
-/// The bank of a run, how many samples each channel had, and whether one had any.
+/// The bank of a run, how many samples each channel has taken, and whether any channel has taken one.
 #[derive(Drop)]
 struct FilterRun<T: Word> {
     alloc: Global,
@@ -54,7 +54,7 @@ impl<T: Word> Model for FilterRun<T> {
     ghost invariant = { λ r. length r.bank.channels ≤ length r.counts.items };
 }
 
-/// Prints the reply to a channel's sample, by the sample's number.
+/// Adds the text of the reply to a channel's sample, which has this number. Fails if memory runs out.
 fn append_reply<T: Word>(
     output: &mut Output,
     channel: usize,
@@ -73,7 +73,7 @@ fn append_reply<T: Word>(
     }
 }
 
-/// Prints an overflow: the channel, the number of its sample, and the tap.
+/// Adds the text of an overflow: the channel, the number of its sample, and the tap. Fails if memory runs out.
 fn append_overflow(
     output: &mut Output,
     channel: usize,
@@ -92,7 +92,7 @@ fn append_overflow(
 }
 
 impl<T: Word> FilterRun<T> {
-    /// Adds a channel of these taps.
+    /// Adds a channel with these taps. Fails if memory runs out. Precondition: there is a tap.
     fn add_channel(&mut self, taps: &[T]) -> Result<(), AllocError>
         requires { 0 < length taps.now }
         ensures { OnOk result (self.new ≡ kept_taps (map T.value taps.now) self.old) }
@@ -102,7 +102,8 @@ impl<T: Word> FilterRun<T> {
         Ok(())
     }
 
-    /// Adds the channel whose taps the tokens are.
+    /// Adds the channel whose taps the tokens write. Fails with `Refusal::Unformed` if the tokens are malformed or a
+    /// channel has taken a sample, and with `Refusal::Unfit` if a tap does not fit.
     fn take_taps(&mut self, tokens: Tokens<'_>) -> Result<(), Refusal>
         ensures { IsStepOfLine (kept_read self.old (taps_of (wholes_in tokens.entry))) result self.new
             [] [] }
@@ -119,7 +120,7 @@ impl<T: Word> FilterRun<T> {
         }
     }
 
-    /// The channel of a number, if there is one.
+    /// Returns the index of the channel with this number, or `None` if there is no such channel.
     fn place(&self, channel: u128) -> Option<usize>
         ensures word { (self.now.signed ≡ T.SIGNED) × (self.now.bits ≡ T.BITS) }
         ensures within { IfSome result (λ i. i < length self.now.channels) }
@@ -134,8 +135,8 @@ impl<T: Word> FilterRun<T> {
         }
     }
 
-    /// The number of a channel's sample, and the reply to it. A channel has fewer samples than a script has
-    /// bytes, so their count never comes to its end.
+    /// Gives a channel a sample, and returns the number of the sample and the reply to it. A channel takes fewer
+    /// samples than a script has bytes, so the count never wraps. Precondition: the channel exists.
     fn push(&mut self, channel: usize, sample: T) -> (u64, Reply<T>)
         requires { channel < length self.old.channels }
         ensures state { self.new ≡ kept_sample channel (T.value sample) self.old }
@@ -150,7 +151,7 @@ impl<T: Word> FilterRun<T> {
         (number, reply)
     }
 
-    /// Answers for the sample of a channel.
+    /// Gives a channel a sample and adds the text of the reply. Precondition: the channel exists.
     fn answer(&mut self, channel: usize, sample: T, output: &mut Output) -> Result<(), Refusal>
         requires { channel < length self.old.channels }
         ensures { IsStepOfLine (Read (
@@ -165,7 +166,8 @@ impl<T: Word> FilterRun<T> {
         }
     }
 
-    /// Answers for the sample that the tokens are.
+    /// Gives a channel the sample that the tokens write, and adds the text of the reply. Fails with `Refusal::Unformed`
+    /// if the tokens are malformed, and with `Refusal::Unfit` if the channel does not exist or the sample does not fit.
     fn take_sample(
         &mut self,
         channel: u128,
@@ -208,7 +210,7 @@ impl<T: Word> Run for FilterRun<T> {
     }
 }
 
-/// The fault of a script of filters.
+/// Returns the fault of a run as the fault of a script of filters.
 fn fault_of(fault: RunFault) -> FilterFault
     ensures { (ending : Ending) → EndsBy ending fault → IsAnswerOfFilter ending (Err result) }
 {
@@ -219,7 +221,8 @@ fn fault_of(fault: RunFault) -> FilterFault
     }
 }
 
-/// The lines after the header, at a word and a shape.
+/// Returns what the lines after the header print, for a word and a shape, or their first fault. Precondition: each
+/// number of fraction bits is at most the width.
 fn run_shape<T: Word>(alloc: Global, shape: Shape, lines: &[u8]) -> Result<Output, RunFault>
     requires { IsShape T.BITS shape }
     ensures { IsAnswerOfRun (lines_from filter_line (start T.SIGNED T.BITS shape) 2 (pieces lines.now))
@@ -234,7 +237,8 @@ fn run_shape<T: Word>(alloc: Global, shape: Shape, lines: &[u8]) -> Result<Outpu
     run_lines(alloc, run, lines)
 }
 
-/// The lines after the header, at a word.
+/// Returns what the lines after the header print, for a word, or the first fault. Fails with `OutOfRange(1)` if a
+/// number of fraction bits exceeds the width.
 fn run_at<T: Word>(alloc: Global, header: Header, lines: &[u8]) -> Result<Output, FilterFault>
     ensures { IsAnswerOfFilter (then_by 1 (started T.SIGNED T.BITS (record
         { out_frac = header.out; coef_frac = header.coef; sample_frac = header.sample }))
@@ -255,7 +259,7 @@ fn run_at<T: Word>(alloc: Global, header: Header, lines: &[u8]) -> Result<Output
     }
 }
 
-/// The lines after the header, with the word that the header names.
+/// Returns what the lines after the header print, for the word that the header names, or the first fault.
 fn run_word(alloc: Global, header: Header, lines: &[u8]) -> Result<Output, FilterFault>
     ensures { IsAnswerOfFilter (then_by 1 (started (is_signed header.word) (width header.word) (record
         { out_frac = header.out; coef_frac = header.coef; sample_frac = header.sample }))
@@ -273,12 +277,16 @@ fn run_word(alloc: Global, header: Header, lines: &[u8]) -> Result<Output, Filte
     }
 }
 
-/// What a script of filters prints. Its first line is `filter W F G H`, a word and the fractions of outputs, taps
-/// and samples; then lines `taps N N ..`, at least one number, each add a channel, and lines `cJ N` give channel J
-/// a sample and print the bits of its output, or `overflow J I T` with the number of this channel's sample and
-/// the tap, both from 0. Otherwise the first cause, with the number of its piece: `Syntax` where the piece lacks
-/// the form, also `taps` after a sample, and `OutOfRange` where a number is out of range or no such channel is
-/// there. A report that memory ran out may come in place of either; then nothing is handed out.
+/// Runs a script of filters and returns what it prints. Its first line is `filter W F G H`: a word, and the numbers of
+/// fraction bits of outputs, taps and samples. `taps N N ..`, with at least one number, adds a channel with these taps,
+/// in bits; the first channel is number 0. `cJ N` gives channel J the sample N, in bits, and prints the bits of the
+/// output. If the output does not fit, the line prints `overflow J I T` instead: this is sample I of channel J, and T
+/// is the first tap whose partial sum does not fit. Samples and taps are numbered from 0.
+///
+/// The first faulty piece is reported by its number. `Syntax` means that the piece is malformed, has no newline, or
+/// adds a channel after a sample; an empty script is reported as piece 1. `OutOfRange` means that a number of fraction
+/// bits exceeds the width, that a tap or a sample does not fit, or that the channel does not exist. Whatever the script
+/// is, the run may fail with `Memory`, if memory runs out, and then returns no bytes.
 pub fn filter_run(alloc: Global, script: &[u8]) -> Result<Output, FilterFault>
     ensures { IsAnswerOfFilter (filter_output script.now) result }
 {

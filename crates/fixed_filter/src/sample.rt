@@ -1,20 +1,20 @@
-//! What holds the word of a tap, a sample or an output: the word itself, or a number.
+//! Types that hold the word of a tap, a sample or an output: the word itself, or a number.
 
 ghost use Rattle.std.specs.Prelude.{◌≡◌};
 
 use fixed_num::Fixed;
 use fixed_word::{RawWord, Word};
 
-/// What holds a word.
+/// A type that holds a word.
 pub(crate) trait Sample<T>: Copy {
-    // the word that it holds
+    // the word that a value holds
     ghost held: { Self → T };
 
     /// Returns the word.
     fn to_word(self) -> T
         ensures { result ≡ held self };
 
-    /// Returns what holds a word.
+    /// Returns the value that holds a word.
     fn from_word(word: T) -> Self
         ensures { held result ≡ word };
 }

@@ -1,13 +1,13 @@
-//! The fractions of a bank.
+//! The numbers of fraction bits of a filter.
 
-/// How many bits stand behind the point of outputs, of taps and of samples: a number is its bits over 2 to the
-/// power of its fraction. A fraction is at most the width of the word.
+/// The numbers of fraction bits of outputs, taps and samples. A number is its bits over 2 to the power of its number of
+/// fraction bits. Calls that take a shape require that each number of fraction bits is at most the width of the word.
 #[derive(Clone, Copy, PartialEq, Eq, Hash, Default, Debug)]
 pub struct Shape {
-    /// That of outputs.
+    /// The number of fraction bits of outputs.
     pub out_frac: u32,
-    /// That of taps.
+    /// The number of fraction bits of taps.
     pub coef_frac: u32,
-    /// That of samples.
+    /// The number of fraction bits of samples.
     pub sample_frac: u32,
 }

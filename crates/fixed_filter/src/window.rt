@@ -1,4 +1,4 @@
-//! The output of a filter over a block.
+//! The output of a filter inside a block.
 
 ghost use Rattle.std.specs.Prelude.{◌≡◌, length, reverse};
 ghost use Rattle.fixed_policy.specs.DotProduct.{pairs};
@@ -11,8 +11,9 @@ use crate::sample::Sample;
 use crate::shape::Shape;
 use fixed_word::{RawWord, Word};
 
-/// The output of a filter with these taps after these samples, the newest last: that of [`output_of`](crate::output_of)
-/// after them in the other order.
+/// Returns the output of a filter with these taps after these samples, the newest last. It is the same as that of
+/// [`output_of`](crate::output_of) after the samples in reverse order. Preconditions: there are as many samples as
+/// taps, and each number of fraction bits is at most the width.
 #[inline]
 pub(crate) fn output_of_window<T: Word, A: Sample<T>, B: Sample<T>>(
     shape: &Shape,

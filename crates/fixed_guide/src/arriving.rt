@@ -1,4 +1,4 @@
-//! A source of one's own: a script that arrives some bytes at a time.
+//! A source that a user of the library implements: a script arrives a few bytes at a time.
 
 ghost use Rattle.std.specs.Prelude.{◌≡◌, ◌≤◌, IfOk, Some, length};
 ghost use Rattle.std.specs.Io.KnownBytes.{ReadConsumes};
@@ -6,9 +6,10 @@ ghost use Rattle.fixed_calc.specs.Outside.{FaultsAfterRead};
 
 use fixed_calc::{Failed, Source};
 
-/// A script of which at most 16 bytes arrive a call, and none ever fails.
+/// A source from which each read takes at most 16 bytes of a script. No read fails.
 #[derive(Drop)]
 pub struct Arriving<'a> {
+    /// The bytes that were not read yet.
     pub left: &'a [u8],
 }
 

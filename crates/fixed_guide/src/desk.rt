@@ -6,8 +6,8 @@ ghost use Rattle.fixed_calc.specs.Meaning.{Fault, Output, meaning};
 use fixed_calc::{Cause, Room, RunFault, run_in};
 use std::alloc::Global;
 
-/// Runs a script in the room, or in a larger one that takes its place, and leaves its answers there. Memory is
-/// asked for only where the room does not suffice.
+/// Runs a script in the room and leaves its answers there. If the room does not suffice for the script, a larger one is
+/// allocated and replaces it. Fails with the first cause of the script, or if memory runs out.
 pub fn run_again(alloc: Global, script: &[u8], room: &mut Room) -> Result<(), RunFault>
     ensures ok { OnOk result (meaning script.now ≡ Output room.new.answers) }
     ensures cause { (cause : Cause) → result ≡ Err (RunFault.Script cause)

@@ -11,16 +11,16 @@ use fixed::{FixedI32, Saturating, SaturatingProducts};
 /// A level or a sample, in units of `2^-16`.
 pub type Level = FixedI32<16>;
 
-/// A gain from 0 to 1, in units of `2^-30`: a fraction of its own.
+/// A gain, in units of `2^-30`. It has more fraction bits than a level.
 pub type Gain = FixedI32<30>;
 
-/// Moves the level toward the sample by the gain's part of their distance, with one rounding. Condition: the
-/// gain is from 0 to 1. The new level lies between the old one and the sample.
+/// Returns the level plus the product of the gain and the distance from the level to the sample, rounded down. The
+/// distance saturates. The new level lies between the old one and the sample. Precondition: the gain is from 0 to 1.
 pub fn low_pass(level: Level, sample: Level, gain: Gain) -> Level
     requires from_zero { pos 0 ≤ℤ gain.bits }
     requires to_one { gain.bits ≤ℤ pos (2 ^ 30) }
     ensures between { IsBetween level.bits sample.bits result.bits }
-    // The gain's part of the distance, which is held at the ends, rounded down.
+    // The distance saturates, and the product is rounded down.
     ensures step { Some result.bits ≡ saturating true 32 (Some (exact_add_prod level.bits
         (clamp true 32 (sample.bits -ℤ level.bits)) gain.bits 16 16 30)) }
 {

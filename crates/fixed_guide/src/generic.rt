@@ -1,11 +1,11 @@
-//! Code for numbers of every word and fraction.
+//! Code for numbers of every word and every number of fraction bits.
 
 ghost use Rattle.std.specs.Prelude.{◌≡◌, ◌⊎◌, ◌↔◌, ◌+ℤ◌, false, IfSome, IsNone};
 ghost use Rattle.fixed_word.specs.Format.{fits};
 
 use fixed::Checked;
 
-/// The sum of three numbers of one format, whichever it is; None exactly where the sum of the first two, or of all
+/// Returns the sum of three numbers of one format. Returns `None` if and only if the sum of the first two, or of all
 /// three, does not fit.
 pub fn sum_of_three<N: Checked>(a: N, b: N, c: N) -> Option<N>
     ensures sum { IfSome result (λ sum. N.number sum ≡ N.number a +ℤ N.number b +ℤ N.number c) }

@@ -1,4 +1,4 @@
-//! Code that reads like arithmetic, by the operators: the caller shows that it fits.
+//! Code with operators, which reads like arithmetic. Each caller shows that the result fits.
 
 ghost use Rattle.std.specs.Prelude.{◌≡◌, ◌^◌, ◌<◌, ◌≤◌, ◌+◌, ◌*◌};
 
@@ -7,8 +7,8 @@ use fixed::FixedU32;
 /// An amount of at least 0, in units of 1/256.
 pub type Amount = FixedU32<8>;
 
-/// The total of so many pieces at a price, plus a fee. Conditions: a price below `2^12`, at most 255 pieces
-/// and a fee below `2^12`, so that nothing is rounded and all of it fits.
+/// Returns the price times the number of pieces, plus the fee. Nothing is rounded. Preconditions, by which the total
+/// fits: the price and the fee are below `2^12`, and there are at most 255 pieces.
 pub fn total(price: Amount, pieces: u32, fee: Amount) -> Amount
     requires price { price.bits < 2 ^ 20 }
     requires pieces { pieces ≤ 255 }

@@ -1,6 +1,6 @@
-//! The examples of the guide for users, each a small program with the property that it was written for as its
-//! contract: a filter, a controller, a ledger, an invoice, a stock, a sum in any format, a sine, and the calculator
-//! as a library. This project's own.
+//! The example programs of the docs. The contract of each is the property that it was written for.
+//!
+//! The Rust crate `fixed` does not have these programs.
 #![tactic(auto)]
 
 pub mod arriving;

@@ -1,4 +1,4 @@
-//! The sine of a quarter turn, with a bound on its rounding.
+//! The sine of a part of a quarter turn, with a bound on its rounding.
 
 ghost use Rattle.std.specs.Prelude.{◌≡◌, ◌-◌, ◌*◌, ◌^◌, ◌≤ℤ◌, map, pos};
 ghost use Rattle.fixed_poly.specs.Exact.{shortfall};
@@ -10,8 +10,8 @@ use fixed_poly::{PolyReply, horner};
 /// A part of a quarter turn, or the sine of one, in units of `2^-29`.
 pub type Part = FixedI32<29>;
 
-/// The coefficients of a polynomial that lies within 0.0000007 of the sine: in the odd places those of x,
-/// x^3, x^5 and x^7.
+/// Returns the coefficients of a polynomial that lies within 0.0000007 of the sine for x from 0 to 1, the lowest first.
+/// The coefficients of x, x^3, x^5 and x^7 are at odd indices, and the others are 0.
 fn coefficients() -> [Part; 8]
     ensures { map (λ c. c.bits) result ≡ sine_coefficients }
 {
@@ -27,8 +27,8 @@ fn coefficients() -> [Part; 8]
     ]
 }
 
-/// The sine of that part of a quarter turn, by a polynomial of degree 7. Condition: the part is from 0 to 1.
-/// The answer lies at or below the polynomial's exact value, and by less than 7 units.
+/// Returns the sine of a part of a quarter turn, by a polynomial of degree 7. The result lies at or below the exact
+/// value of the polynomial, by less than 7 units. Precondition: the part is from 0 to 1.
 pub fn sine(part: Part) -> Part
     requires from_zero { pos 0 ≤ℤ part.bits }
     requires to_one { part.bits ≤ℤ pos (2 ^ 29) }

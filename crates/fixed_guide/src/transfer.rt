@@ -8,8 +8,8 @@ use fixed::{Checked, FixedI64};
 /// An amount, in units of 1/256.
 pub type Money = FixedI64<8>;
 
-/// Moves an amount from one account to the other, exactly; None exactly where a balance would not fit, and then
-/// both are as before.
+/// Moves an amount from one account to the other. The sum of the balances is unchanged. Returns `None` if and only if a
+/// new balance does not fit; both accounts are then unchanged.
 pub fn transfer(from: &mut Money, to: &mut Money, amount: Money) -> Option<()>
     ensures kept { from.new.bits +ℤ to.new.bits ≡ from.old.bits +ℤ to.old.bits }
     ensures moved { IsSome result → to.new.bits ≡ to.old.bits +ℤ amount.bits }

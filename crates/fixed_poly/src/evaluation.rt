@@ -10,10 +10,11 @@ use crate::reply::PolyReply;
 use fixed_kernel::mul_add_of;
 use fixed_word::{RawWord, Word, checked_of};
 
-/// The value at `x` of the polynomial with these coefficients, the least first; each number is bits over
-/// `2^frac`. Each step multiplies by `x`, rounds the product down, and adds the coefficient before; the first
-/// value that does not fit ends it. Conditions: there is a coefficient, and `frac` is at most the width.
-/// `x` may be any number; the bound of [`laws::bound_law`](crate::laws::bound_law) is for `x` from 0 to 1.
+/// Returns the value at `x` of the polynomial with these coefficients, the lowest first. Coefficients, `x` and the
+/// value are in units of `2^-frac`. Each step multiplies by `x`, rounds the product down, and adds the next lower
+/// coefficient. If the value of a step does not fit, the reply is `Overflow` with the first such step. `x` may be any
+/// number; if it is from 0 to 1, [`laws::bound_law`](crate::laws::bound_law) bounds the rounding. Preconditions: there
+/// is a coefficient, and `frac` is at most the width.
 pub fn horner_of<T: Word>(coefs: &[T], x: T, frac: u32) -> PolyReply<T>
     requires some { 0 < length coefs.now }
     requires frac { frac ≤ T.BITS }
@@ -30,7 +31,8 @@ pub fn horner_of<T: Word>(coefs: &[T], x: T, frac: u32) -> PolyReply<T>
     PolyReply::Value(value)
 }
 
-/// The product by `mul`, rounded down, plus `add`; None exactly where that does not fit.
+/// Returns the product of `value` and `mul`, rounded down, plus `add`, or `None` if that does not fit. Precondition:
+/// `frac` is at most the width.
 fn checked_mul_add<T: Word>(value: T, mul: T, add: T, frac: u32) -> Option<T>
     requires { frac ≤ T.BITS }
     ensures { option_map T.value result ≡ checked T.SIGNED T.BITS

@@ -7,14 +7,14 @@ ghost use Rattle.fixed_poly.specs.Parser.{format_at, header_at, header_of};
 
 use fixed_text::{Tokens, WordName, read_natural, word_of};
 
-/// A word and a fraction. A fraction of `2^64` or more is held as `2^64`.
+/// A word and a number of fraction bits. A number of `2^64` or more is held as `2^64`.
 #[derive(Clone, Copy)]
 pub(crate) struct Header {
     pub(crate) word: WordName,
     pub(crate) frac: u128,
 }
 
-/// The word and the fraction that the tokens are.
+/// Returns the word and the number of fraction bits that the tokens write, or `None` if the tokens are malformed.
 #[tactic(auto, unfolding(crate::specs::Parser::format_at))]
 fn format_of(mut tokens: Tokens<'_>) -> Option<Header>
     ensures { result ≡ option_map capped_header (format_at tokens.entry) }
@@ -28,7 +28,7 @@ fn format_of(mut tokens: Tokens<'_>) -> Option<Header>
     }
 }
 
-/// The header whose text the piece is.
+/// Returns the header whose text the piece is, or `None` if the piece is malformed.
 #[tactic(auto, unfolding(crate::specs::Parser::header_at))]
 pub(crate) fn read_header(piece: &[u8]) -> Option<Header>
     ensures { result ≡ option_map capped_header (header_of piece.now) }

@@ -1,8 +1,11 @@
 //! Polynomials by Horner's rule, with a proved bound on their rounding.
 //!
-//! Coefficients stand with the least first: `c_0 .. c_k`. Each step rounds once, downward, and where its
-//! value does not fit the reply names the step. [`laws::bound_law`](laws::bound_law) says how far a value lies
-//! below the exact one. Only [`poly_run`], the run of a script, takes memory. All items are this project's own.
+//! The lowest coefficient is the first: `c_0 .. c_k`. Each step multiplies by the point, rounds the product down, and
+//! adds the next lower coefficient. If the value of a step does not fit, the reply names the step.
+//! [`laws::bound_law`](laws::bound_law) bounds how far a value lies below the exact one. Only [`poly_run`], which runs
+//! a script, allocates.
+//!
+//! The Rust crate `fixed` does not have these items.
 #![tactic(auto)]
 
 mod evaluation;

@@ -2,10 +2,10 @@
 
 use thiserror::Error;
 
-/// A step of Horner's rule does not fit.
+/// The value of a step of Horner's rule does not fit.
 #[derive(Clone, Copy, Debug, PartialEq, Eq, Hash, Error)]
 #[error("overflow at coefficient {step}")]
 pub struct StepOverflow {
-    /// The first step whose value does not fit, by the index of the coefficient that it adds.
+    /// The first step whose value does not fit. A step is named by the index of the coefficient that it adds.
     pub step: usize,
 }

@@ -24,7 +24,7 @@ use fixed_word::{RawWord, Valued, Word};
 use std::alloc::{AllocError, Global};
 use std::marker::Model;
 
-/// The coefficients of the polynomial that stands, of which there are none before the first `coefs` line.
+/// The coefficients of the current polynomial, of which there are none before the first `coefs` line.
 #[derive(Drop)]
 struct PolyRun<T: Word> {
     alloc: Global,
@@ -48,7 +48,8 @@ impl<T: Word> Model for PolyRun<T> {
     ghost invariant = { λ p. p.frac ≤ T.BITS };
 }
 
-/// Prints a reply: the decimal of the bits, or the step, and a newline.
+/// Adds the text of a reply: the decimal of the bits, or `overflow` and the step; and a newline. Fails if memory runs
+/// out.
 fn append_reply<T: Word>(output: &mut Output, reply: PolyReply<T>) -> Result<(), AllocError>
     ensures { OnOk result (output.new ≡ output.old ++ reply_text (reply_map T.value reply)) }
 {
@@ -66,7 +67,8 @@ fn append_reply<T: Word>(output: &mut Output, reply: PolyReply<T>) -> Result<(),
 }
 
 impl<T: Word> PolyRun<T> {
-    /// Takes the coefficients that the tokens are in the place of those before.
+    /// Replaces the coefficients by those that the tokens write. Fails with `Refusal::Unformed` if the tokens are
+    /// malformed, and with `Refusal::Unfit` if a coefficient does not fit.
     fn take_coefs(&mut self, tokens: Tokens<'_>) -> Result<(), Refusal>
         ensures { IsStepOfLine (line_read self.old (coefs_of (wholes_in tokens.entry))) result self.new
             [] [] }
@@ -83,7 +85,8 @@ impl<T: Word> PolyRun<T> {
         }
     }
 
-    /// Answers for the number that the tokens are.
+    /// Adds the text of the reply at the point that the tokens write. Fails with `Refusal::Unformed` if the tokens are
+    /// malformed or there are no coefficients, and with `Refusal::Unfit` if the point does not fit.
     fn answer(&self, tokens: Tokens<'_>, output: &mut Output) -> Result<(), Refusal>
         ensures { IsStepOfLine (line_read self.now (option_map At (only_number tokens.entry))) result
             self.now output.old output.new }
@@ -122,7 +125,7 @@ impl<T: Word> Run for PolyRun<T> {
     }
 }
 
-/// The fault of a script of polynomials.
+/// Returns the fault of a run as the fault of a script of polynomials.
 fn fault_of(fault: RunFault) -> PolyFault
     ensures { (ending : Ending) → EndsBy ending fault → IsAnswerOfPoly ending (Err result) }
 {
@@ -133,7 +136,8 @@ fn fault_of(fault: RunFault) -> PolyFault
     }
 }
 
-/// The lines after the header, at a word.
+/// Returns what the lines after the header print, for a word, or the first fault. Fails with `OutOfRange(1)` if the
+/// number of fraction bits exceeds the width.
 fn run_at<T: Word>(alloc: Global, frac: u128, lines: &[u8]) -> Result<Output, PolyFault>
     ensures { IsAnswerOfPoly (then_by 1 (started T.SIGNED T.BITS frac)
         (λ state. lines_from poly_line state 2 (pieces lines.now))) result }
@@ -152,7 +156,7 @@ fn run_at<T: Word>(alloc: Global, frac: u128, lines: &[u8]) -> Result<Output, Po
     }
 }
 
-/// The lines after the header, with the word of that name.
+/// Returns what the lines after the header print, for the word with this name, or the first fault.
 fn run_word(alloc: Global, word: WordName, frac: u128, lines: &[u8]) -> Result<Output, PolyFault>
     ensures { IsAnswerOfPoly (then_by 1 (started (is_signed word) (width word) frac)
         (λ state. lines_from poly_line state 2 (pieces lines.now))) result }
@@ -169,12 +173,16 @@ fn run_word(alloc: Global, word: WordName, frac: u128, lines: &[u8]) -> Result<O
     }
 }
 
-/// What a script of polynomials prints. Its first line is `poly W F`, a word and a fraction; then lines
-/// `coefs N N ..`, at least one number, each take the place of the polynomial before, and lines `at N`
-/// print the bits of its value at N, or `overflow I`. Otherwise the first cause, with the number of its piece:
-/// `Syntax` where the piece lacks the form, also `at` before the first `coefs`, and `OutOfRange` where a number
-/// is out of range. A report that memory ran out may come in place of either; then nothing is
-/// handed out.
+/// Runs a script of polynomials and returns what it prints. Its first line is `poly W F`: a word and a number of
+/// fraction bits. `coefs N N ..`, with at least one number, replaces the polynomial by the one with these coefficients,
+/// in bits, the lowest first. `at N` prints the bits of its value at the point N, in bits. If the value of a step does
+/// not fit, the line prints `overflow I` instead, where I is the index of the coefficient that the first such step
+/// adds.
+///
+/// The first faulty piece is reported by its number. `Syntax` means that the piece is malformed, has no newline, or has
+/// a point before the first polynomial; an empty script is reported as piece 1. `OutOfRange` means that the number of
+/// fraction bits exceeds the width, or that a coefficient or a point does not fit. Whatever the script is, the run may
+/// fail with `Memory`, if memory runs out, and then returns no bytes.
 pub fn poly_run(alloc: Global, script: &[u8]) -> Result<Output, PolyFault>
     ensures { IsAnswerOfPoly (poly_output script.now) result }
 {

@@ -8,8 +8,9 @@ use fixed_num::{Constants, Fixed};
 use fixed_policy::CheckedMulAdd;
 use fixed_word::{RawWord, Word};
 
-/// The value at `x` of the polynomial with these coefficients, the least first: [`horner_of`](crate::horner_of)
-/// on the bits. Conditions: there is a coefficient, and `F` is at most the width.
+/// Returns the value at `x` of the polynomial with these coefficients, the lowest first. This is the value of
+/// [`horner_of`](crate::horner_of) on the bits. If the value of a step does not fit, the reply is `Overflow` with the
+/// first such step. Preconditions: there is a coefficient, and F is at most the width.
 pub fn horner<T: Word, const F: u32>(
     coefs: &[Fixed<T, F>],
     x: Fixed<T, F>,

@@ -1,9 +1,9 @@
-//! Laws of the definitions. These functions do nothing: each contract is the law.
+//! Laws of the definitions. These functions do nothing: the contract of each is the law.
 
 ghost use Rattle.std.specs.Prelude.{◌≡◌, ◌+◌, ◌*◌, ◌^◌, ◌<◌, ◌≤ℤ◌, ◌<ℤ◌, ◌+ℤ◌, ◌*ℤ◌, List, Some, pos, slice_get, ℕ, ℤ};
 ghost use Rattle.fixed_table.specs.Interpolation.{interpolated, on_line};
 
-/// At a point the value is that of the point.
+/// At each point, the function has the value of the table.
 pub fn points_law()
     ensures { (k i : ℕ) (values : List ℤ) (v : ℤ)
         → slice_get values i ≡ Some v

@@ -1,8 +1,10 @@
 //! Functions by tables of their values, with linear interpolation.
 //!
-//! A [`Table`] has the values at points that lie a power of two apart, as calibrations of sensors do. Between two points
-//! it takes the straight line, which is computed exactly and rounded down. No function takes memory. All items are this
-//! project's own.
+//! A [`Table`] has the values of a function at points that lie a power of two apart, such as those of a sensor's
+//! calibration. Between two points, the value is that of the straight line, which is computed exactly and rounded down.
+//! No function allocates.
+//!
+//! The Rust crate `fixed` does not have these items.
 #![tactic(auto)]
 
 mod distance;

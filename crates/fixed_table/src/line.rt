@@ -7,8 +7,8 @@ ghost use Rattle.fixed_table.specs.Interpolation.{on_line};
 
 use fixed_word::{Arithmetic, Integer, RawWord, Valued, Word};
 
-/// Returns the value on the line from `start` to `end`, `part` of `2^step` units past the start, rounded down. It always
-/// fits. Preconditions: `step` is below the width, and `part` below `2^step`.
+/// Returns the value on the line from `start` to `end`, `part` of `2^step` units past the start, rounded down. It
+/// always fits. Preconditions: `step` is below the width, and `part` is below `2^step`.
 pub fn interpolate_of<T: Word>(start: T, end: T, part: u64, step: u32) -> T
     requires step { step < T.BITS }
     requires part { part < 2 ^ step }

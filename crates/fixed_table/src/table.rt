@@ -9,22 +9,22 @@ use crate::line::interpolate_of;
 use fixed_num::Fixed;
 use fixed_word::{RawWord, Valued, Word};
 
-/// A function of numbers with G fraction bits by its values, which have F: the first is that at `first`, and each next
-/// one that at a point `2^step` units of `x` further.
+/// A function by the table of its values. Its arguments have G fraction bits, and its values have F. The first value is
+/// that at the point `first`, and each next value is that at a point `2^step` units of the argument further.
 #[derive(Drop)]
 pub struct Table<'a, X: Word, const G: u32, T: Word, const F: u32> {
     /// The first point.
     pub first: Fixed<X, G>,
-    /// The binary logarithm of the distance between two points, in units of `x`.
+    /// The binary logarithm of the distance between two points, in units of the argument.
     pub step: u32,
     /// The values at the points.
     pub values: &'a [Fixed<T, F>],
 }
 
 impl<'a, X: Word, const G: u32, T: Word, const F: u32> Table<'a, X, G, T, F> {
-    /// Returns the value at `x`: on the line between the points around it, rounded down, so that less than one unit is
-    /// lost. Below the first point it is the first value, and above the last point the last one. Preconditions: there is
-    /// a value, and `step` is below the width of values.
+    /// Returns the value at `x` on the line between the points around `x`, rounded down, so that less than one unit is
+    /// lost. If `x` lies below the first point, returns the first value, and if `x` lies above the last point, the last
+    /// value. Preconditions: there is a value, and `step` is below the width of values.
     pub fn at(&self, x: Fixed<X, G>) -> Fixed<T, F>
         requires some { 0 < length self.now.values.now }
         requires step { self.now.step < T.BITS }
@@ -47,8 +47,8 @@ impl<'a, X: Word, const G: u32, T: Word, const F: u32> Table<'a, X, G, T, F> {
         }
     }
 
-    /// Returns the value at `x`, or `None` if `x` lies below the first point or above the last. Preconditions: there is a
-    /// value, and `step` is below the width of values.
+    /// Returns the value at `x`, as `at` does, or `None` if `x` lies below the first point or above the last one.
+    /// Preconditions: there is a value, and `step` is below the width of values.
     pub fn checked_at(&self, x: Fixed<X, G>) -> Option<Fixed<T, F>>
         requires some { 0 < length self.now.values.now }
         requires step { self.now.step < T.BITS }
@@ -64,8 +64,8 @@ impl<'a, X: Word, const G: u32, T: Word, const F: u32> Table<'a, X, G, T, F> {
         }
     }
 
-    /// Returns whether `x` lies from the first point to the last. Preconditions: there is a value, and `step` is below
-    /// the width of values.
+    /// Returns whether `x` lies between the first point and the last, or is one of them. Preconditions: there is a
+    /// value, and `step` is below the width of values.
     pub fn contains(&self, x: Fixed<X, G>) -> bool
         requires some { 0 < length self.now.values.now }
         requires step { self.now.step < T.BITS }
