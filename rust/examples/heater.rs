@@ -17,9 +17,6 @@ const TARGET: Number = Number::lit("180");
 const ROOM: Number = Number::lit("20");
 const ALL: Number = Number::lit("1");
 
-/// The largest sum of errors, so that a long way to the target does not count for too long.
-const MOST: Number = Number::lit("2500");
-
 /// The gains of the three parts, and what is kept from step to step.
 pub struct Controller {
     proportional: Gain,
@@ -32,24 +29,27 @@ pub struct Controller {
 impl Controller {
     pub fn new() -> Self {
         Controller {
-            proportional: Gain::lit("0.02"),
-            integral: Gain::lit("0.0003"),
+            proportional: Gain::lit("0.05"),
+            integral: Gain::lit("0.003"),
             derivative: Gain::lit("0.05"),
             sum: Number::ZERO,
             last: Number::ZERO,
         }
     }
 
-    /// The power after an error.
+    /// The power after an error. Only errors at which the power is not held count in the sum.
     pub fn power(&mut self, error: Number) -> Number {
         let change = error.saturating_sub(self.last);
         self.last = error;
-        self.sum = self.sum.saturating_add(error).clamp(-MOST, MOST);
-        Number::ZERO
+        let wanted = Number::ZERO
             .saturating_add_prod(error, self.proportional)
             .saturating_add_prod(self.sum, self.integral)
-            .saturating_add_prod(change, self.derivative)
-            .clamp(Number::ZERO, ALL)
+            .saturating_add_prod(change, self.derivative);
+        let power = wanted.clamp(Number::ZERO, ALL);
+        if power == wanted {
+            self.sum = self.sum.saturating_add(error);
+        }
+        power
     }
 }
 
