@@ -1,4 +1,4 @@
-//! The `checked_` calls of logarithms and powers. They are this project's own.
+//! The `checked_` calls of logarithms and powers. The Rust crate `fixed` does not have them.
 
 ghost use Rattle.std.specs.Prelude.{◌≡◌, ◌≤◌, ◌≤ℤ◌, ◌<ℤ◌, ℤ, None, Some, option_map, pos};
 ghost use Rattle.fixed_word.specs.Policies.{checked};
@@ -13,13 +13,14 @@ use crate::powers::pow_of;
 use fixed_num::{Fixed, Held, Number};
 use fixed_word::{RawWord, Word};
 
-/// The `checked_` calls of logarithms and powers. Operands and results are bits, in units of `2^-F`. The fraction
-/// has to be at most the width.
+/// The `checked_` calls of logarithms and powers. If the result does not fit, they return `None`. Operands and results
+/// are in units of `2^-F`. Precondition of each call: F is at most the width.
 pub trait CheckedNatural: Number {
-    /// The natural logarithm, rounded down; None exactly if the number is not above 0 or the logarithm does not fit.
+    /// Returns the natural logarithm, rounded down, or `None` if the number is not above 0 or the result does not fit.
     ///
-    /// Where the logarithm lies less than `2^-k` units below a whole number of units, the result may be that number; k
-    /// is 24 on words of up to 32 bits, and 32 on words of 64 bits. The logarithm of 1 is exactly 0.
+    /// For the result r and the exact logarithm l in units, `r - 2^-k <= l < r + 1`, where k is 24 on words of up to 32
+    /// bits and 32 on words of 64 bits. So r is the logarithm rounded down, or one unit more if l is at most `2^-k`
+    /// below a whole number. The logarithm of 1 is exactly 0.
     fn checked_ln(self) -> Option<Self>
         requires { Self.FRACTION ≤ Self.BITS }
         ensures none { Self.number self ≤ℤ pos 0 → result ≡ None }
@@ -27,11 +28,12 @@ pub trait CheckedNatural: Number {
             → (r : ℤ) × IsLn (log_room Self.BITS) (Self.number self) Self.FRACTION r
             × (option_map Self.number result ≡ checked Self.SIGNED Self.BITS (Some r)) };
 
-    /// The logarithm to the base 10, rounded down; None exactly if the number is not above 0 or the logarithm does not
-    /// fit.
+    /// Returns the logarithm to the base 10, rounded down, or `None` if the number is not above 0 or the result does
+    /// not fit.
     ///
-    /// Where the logarithm lies less than `2^-k` units below a whole number of units, the result may be that number; k
-    /// is 24 on words of up to 32 bits, and 32 on words of 64 bits. The logarithm of a power of 10 is exact.
+    /// For the result r and the exact logarithm l in units, `r - 2^-k <= l < r + 1`, where k is 24 on words of up to 32
+    /// bits and 32 on words of 64 bits. So r is the logarithm rounded down, or one unit more if l is at most `2^-k`
+    /// below a whole number. The logarithm of a power of 10 is exact.
     fn checked_log10(self) -> Option<Self>
         requires { Self.FRACTION ≤ Self.BITS }
         ensures none { Self.number self ≤ℤ pos 0 → result ≡ None }
@@ -39,23 +41,23 @@ pub trait CheckedNatural: Number {
             → (r : ℤ) × IsLog10 (log_room Self.BITS) (Self.number self) Self.FRACTION r
             × (option_map Self.number result ≡ checked Self.SIGNED Self.BITS (Some r)) };
 
-    /// e to the power of the number, rounded down; None exactly if it does not fit.
+    /// Returns e to the power of the number, rounded down, or `None` if it does not fit.
     ///
-    /// Where the power lies less than a factor of `2^(2^-61)` below a whole number of units, the result may be that
-    /// number: on words of up to 32 bits, where it lies less than `2^-29` units below it. On words of 64 bits the
-    /// result is greater than the power rounded down by at most 6 units. e to the power of 0 is exactly 1.
+    /// For the result r and the exact power p in units, `r <= p 2^(2^-61)` and `p < r + 1`. On words of up to 32 bits,
+    /// r is the power rounded down, or one unit more if p is less than `2^-29` below a whole number. On words of 64
+    /// bits, r is at most 6 units more than the power rounded down. e to the power of 0 is exactly 1.
     fn checked_exp(self) -> Option<Self>
         requires { Self.FRACTION ≤ Self.BITS }
         ensures { (r : ℤ) × IsExp (Self.number self) Self.FRACTION r
             × (option_map Self.number result ≡ checked Self.SIGNED Self.BITS (Some r)) };
 
-    /// The number to the power of another number, rounded down; None exactly if the number is not above 0 or the power
-    /// does not fit.
+    /// Returns the number to the power of `exponent`, rounded down, or `None` if the number is not above 0 or the
+    /// result does not fit.
     ///
-    /// Where the power lies less than a factor of `2^(2^-55)` below a whole number of units, the result may be that
-    /// number: on words of up to 32 bits, where it lies less than `2^-23` units below it. On words of 64 bits the
-    /// result is greater than the power rounded down by at most 355 units. A power that is a whole number of up to
-    /// `2^54` units is exact.
+    /// For the result r and the exact power p in units, `r <= p 2^(2^-55)` and `p < r + 1`. On words of up to 32 bits,
+    /// r is the power rounded down, or one unit more if p is less than `2^-23` below a whole number. On words of 64
+    /// bits, r is at most 355 units more than the power rounded down. A power that is a whole number of up to `2^54`
+    /// units is exact.
     fn checked_pow(self, exponent: Self) -> Option<Self>
         requires { Self.FRACTION ≤ Self.BITS }
         ensures none { Self.number self ≤ℤ pos 0 → result ≡ None }

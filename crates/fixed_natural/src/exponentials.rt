@@ -1,4 +1,4 @@
-//! Powers of e: powers of 2, whose exponents are times a constant.
+//! Powers of e, computed as powers of 2. The exponent of 2 is a product by a constant.
 
 ghost use Rattle.std.specs.Prelude.{◌≡◌, ◌≤◌, ◌<◌, ◌+◌, ◌*◌, ◌^◌, ◌-◌, ℕ, ℤ};
 ghost use Rattle.fixed_word.specs.Format.{with_sign};
@@ -11,13 +11,13 @@ use crate::scaling::{difference, in_places, scaled};
 use fixed_elementary::exponentials::power_of;
 use fixed_word::{Outcome, RawWord, Valued, Word, outcome_of};
 
-/// Half the logarithm of e to the base 2, in units of `2^-128`.
+/// Half the logarithm of e to the base 2, in units of `2^-128`, rounded down.
 const HALF_LOG2_E: u128 = 0xb8aa_3b29_5c17_f0bb_be87_fed0_691d_3e88;
 
-/// How many digits an exponent has behind its point.
+/// How many fraction bits an exponent of 2 has.
 const PLACES: u32 = 63;
 
-/// A magnitude in units of `2^-(places + 1)`.
+/// Converts a magnitude from units of `2^-frac` to units of `2^-(places+1)`.
 fn moved(magnitude: u64, frac: u32, places: u32) -> u128
     requires frac { frac ≤ places + 1 }
     requires places { places ≤ 63 }
@@ -26,7 +26,8 @@ fn moved(magnitude: u64, frac: u32, places: u32) -> u128
     u128::from(magnitude) << (places + 1 - frac)
 }
 
-/// The exponent of 2 of a power of e, rounded up, or None where it is below 0 and the power is less than a unit.
+/// Returns the number z such that e to the power of `a 2^-frac` is `2^z` units of `2^-frac`. The result is in units of
+/// `2^-places`, and 1 to 4 of them too large. It is `None` only if z is below 0, so that the power is less than a unit.
 fn exponent_of<T: RawWord>(a: T, frac: u32, places: u32) -> Option<u128>
     requires frac { frac ≤ places + 1 }
     requires places { places ≤ 63 }
@@ -42,7 +43,7 @@ fn exponent_of<T: RawWord>(a: T, frac: u32, places: u32) -> Option<u128>
     }
 }
 
-/// A number 1, in units of `2^-frac`.
+/// Returns the number 1 in units of `2^-frac`.
 fn one(frac: u32) -> u128
     requires { frac ≤ 64 }
     ensures { result ≡ 2 ^ frac }
@@ -50,9 +51,9 @@ fn one(frac: u32) -> u128
     1 << frac
 }
 
-/// e to the power of `a 2^-frac`, in units of `2^-frac`, rounded down up to a factor of `2^(2^-61)`: where the power lies
-/// less than that factor below a whole number of units, the result may be that number. e to the power of 0 is exactly
-/// 1. The outcome has no bits of a number above the range: it then stands for another number above the range.
+/// Returns e to the power of `a 2^-frac`, in units of `2^-frac`. For the result r and the exact power p in units,
+/// `r <= p 2^(2^-61)` and `p < r + 1`. e to the power of 0 is exactly 1. If the result is above the range, the outcome
+/// stands for some number above the range. Precondition: `frac` is at most the width.
 pub fn exp_of<T: Word>(a: T, frac: u32) -> Outcome<T>
     requires { frac ≤ T.BITS }
     ensures { (r : ℤ) × IsExp (T.value a) frac r

@@ -1,4 +1,4 @@
-//! Laws of logarithms and powers. These functions do nothing: each contract is the law.
+//! Laws of logarithms and powers. These functions do nothing: the contract of each is the law.
 
 ghost use Rattle.std.specs.Prelude.{◌≡◌, ◌≤◌, ◌<◌, ◌+◌, ◌-◌, ◌*◌, ◌^◌, ◌+ℤ◌, ◌≤ℤ◌, ◌<ℤ◌, ℕ, ℤ, true, pos};
 ghost use Rattle.fixed_word.specs.Format.{InRange};
@@ -7,10 +7,10 @@ ghost use Rattle.fixed_natural.specs.Exps.{IsExp, exp_room};
 ghost use Rattle.fixed_natural.specs.Logs.{IsLn, IsLog10};
 ghost use Rattle.fixed_natural.specs.Pows.{IsPow};
 
-/// The natural logarithm of 1 is exactly 0. Two numbers that are the logarithm of one number, each rounded down up to a
-/// part of a unit, differ by one unit at most. On signed words of n bits each logarithm fits where the range of the word
-/// reaches from `-f` to `n - 1 - f`, as that to the base 2 does. The decimals of log2 e are right: 2 to the power of them
-/// is at most e, and to the power of the next at least e, where e lies between the sums of its series.
+/// The natural logarithm of 1 is exactly 0. Two numbers that both meet the bound for the logarithm of one number differ
+/// by at most one unit. On signed words of n bits, each logarithm fits if the range of the word reaches from `-f` to
+/// `n - 1 - f`. The decimals of log2 e are right: 2 to the power of the decimal `log2_e` is at most e, and 2 to the
+/// power of the next decimal is at least e. For this, e lies between two sums of its series.
 pub fn ln_law()
     ensures between { (p q : ℕ) → p ≡ log2_e → q ≡ decimals
         → (2 ^ p * factorial 40 ^ q ≤ e_sum 40 ^ q) × ((e_sum 40 + 1) ^ q ≤ 2 ^ (p + 1) * factorial 40 ^ q) }
@@ -22,8 +22,10 @@ pub fn ln_law()
         → IsLn k a f r → InRange true n r }
 {}
 
-/// The same of the logarithm to the base 10, and that of a power of 10 is exact. The decimals of log2 10 are right: it
-/// lies between them and the next.
+/// The logarithm of a power of 10 to the base 10 is exact, and so is that of 1, which is 0. Two numbers that both meet
+/// the bound for the logarithm of one number differ by at most one unit. On signed words of n bits, each logarithm fits
+/// if the range of the word reaches from `-f` to `n - 1 - f`. The decimals of log2 10 are right: it is at least the
+/// decimal `log2_10`, and less than the next decimal.
 pub fn log10_law()
     ensures of_one { (k f : ℕ) (r : ℤ) → 1 ≤ k → IsLog10 k (pos (2 ^ f)) f r → r ≡ pos 0 }
     ensures of_power { (j k f : ℕ) (r : ℤ) → 1 ≤ k → IsLog10 k (pos (10 ^ j * 2 ^ f)) f r → r ≡ pos (j * 2 ^ f) }
@@ -35,8 +37,9 @@ pub fn log10_law()
         → IsLog10 k a f r → InRange true n r }
 {}
 
-/// e to the power of 0 is exactly 1. No power is below 0, with up to 60 fraction bits one of a number that is not above 0
-/// is 1 at most, and one whose exponent of 2 is below `m - f` by more than `2^-61` is below `2^m` units.
+/// e to the power of 0 is exactly 1. No power is below 0. With up to 60 fraction bits, e to the power of a number that
+/// is not above 0 is at most 1. For a number x that is not below 0, the power is below `2^m` units if x times the
+/// decimal `log2_e` is below `m - f` by more than `2^-61`.
 pub fn exp_law()
     ensures of_zero { (f : ℕ) (r : ℤ) → IsExp (pos 0) f r → r ≡ pos (2 ^ f) }
     ensures from_zero { (f : ℕ) (a r : ℤ) → IsExp a f r → pos 0 ≤ℤ r }
@@ -46,9 +49,9 @@ pub fn exp_law()
         → IsExp (pos a) f r → r <ℤ pos (2 ^ m) }
 {}
 
-/// No power is below 0, and with up to 54 fraction bits that of a number up to 1 is 1 at most, if the exponent is not below
-/// 0. One with an exponent of j units that is a whole number n of units, of up to `2^54`, is exact:
-/// `(n / 2^f)^(2^f) = (a / 2^f)^j`.
+/// No power is below 0. With up to 54 fraction bits, the power of a number of at most 1 is at most 1 if the exponent is
+/// not below 0. If `(n / 2^f)^(2^f) = (a / 2^f)^j` for a whole number n from 1 to `2^54`, the power of `a` units with
+/// an exponent of j units, which is not below 0, is exactly n units.
 pub fn pow_law()
     ensures from_zero { (f : ℕ) (a b r : ℤ) → IsPow a b f r → pos 0 ≤ℤ r }
     ensures up_to_one { (a j f : ℕ) (r : ℤ) → 0 < a → a ≤ 2 ^ f → f ≤ 54

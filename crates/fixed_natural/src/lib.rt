@@ -1,7 +1,8 @@
-//! Logarithms to the bases e and 10, and powers, each rounded down up to a stated part.
+//! Logarithms to the bases e and 10, and powers, each rounded down within a proved bound.
 //!
-//! Kernels work on bits: each returns an [`Outcome`](fixed_word::Outcome). Typed calls of [`Fixed`](fixed_num::Fixed)
-//! are named by their policy and their operation. No function takes memory.
+//! Each function `.._of` computes on bits, in units of `2^-frac`. It returns an [`Outcome`](fixed_word::Outcome): the
+//! wrapped result, and whether the result fits or is above or below the range. The methods of
+//! [`Fixed`](fixed_num::Fixed) are named by their policy and their operation. No function allocates.
 #![tactic(auto)]
 
 mod checked;

@@ -1,4 +1,4 @@
-//! Logarithms to the bases e and 10: those to the base 2 with more digits, times a constant.
+//! Logarithms to the bases e and 10. Each is a logarithm to the base 2, which has more digits, times a constant.
 
 ghost use Rattle.std.specs.Prelude.{◌≡◌, ◌≤◌, ◌<◌, ◌+◌, ◌*◌, ◌^◌, ◌<ℤ◌, ℕ, ℤ, pos, unsigned_abs};
 ghost use Rattle.fixed_word.specs.Format.{with_sign};
@@ -9,13 +9,15 @@ ghost use Rattle.fixed_natural.specs.inside.Scaling.{IsInverse};
 use crate::scaling::{fine_log2, guard_of, in_places, scaled};
 use fixed_word::{Outcome, RawWord, Valued, Word, outcome_of};
 
-/// The natural logarithm of 2, in units of `2^-128`.
+/// The natural logarithm of 2, in units of `2^-128`, rounded down.
 const LN_2: u128 = 0xb172_17f7_d1cf_79ab_c9e3_b398_03f2_f6af;
 
-/// The logarithm of 2 to the base 10, in units of `2^-128`.
+/// The logarithm of 2 to the base 10, in units of `2^-128`, rounded down.
 const LOG10_2: u128 = 0x4d10_4d42_7de7_fbcc_47c4_acd6_05be_48bc;
 
-/// The logarithm of `a 2^-frac` to a base, in units of `2^-frac`. The factor is the logarithm of 2 to that base.
+/// Returns the logarithm of `a 2^-frac` to a base, in units of `2^-frac`. The factor is the logarithm of 2 to that
+/// base, in units of `2^-128`, rounded down. Preconditions: `a` is above 0, `frac` is at most the width, and
+/// `factor + 1` is at most 3/4, which is `3 * 2^126`.
 fn log_of<T: Word>(a: T, frac: u32, factor: u128) -> Outcome<T>
     requires frac { frac ≤ T.BITS }
     requires sign { pos 0 <ℤ T.value a }
@@ -34,9 +36,9 @@ fn log_of<T: Word>(a: T, frac: u32, factor: u128) -> Outcome<T>
     }
 }
 
-/// The natural logarithm of `a 2^-frac`, in units of `2^-frac`, rounded down. Where it lies less than `2^-k` units below
-/// a whole number of units, the result may be that number; k is 24 on words of up to 32 bits, and 32 on words of 64
-/// bits. Precondition: `a` is above 0.
+/// Returns the natural logarithm of `a 2^-frac`, in units of `2^-frac`. For the result r and the exact logarithm l in
+/// units, `r - 2^-k <= l < r + 1`, where k is 24 on words of up to 32 bits and 32 on words of 64 bits. The logarithm of
+/// 1 is exactly 0. Preconditions: `a` is above 0, and `frac` is at most the width.
 pub fn ln_of<T: Word>(a: T, frac: u32) -> Outcome<T>
     requires frac { frac ≤ T.BITS }
     requires sign { pos 0 <ℤ T.value a }
@@ -45,9 +47,9 @@ pub fn ln_of<T: Word>(a: T, frac: u32) -> Outcome<T>
     log_of(a, frac, LN_2)
 }
 
-/// The logarithm of `a 2^-frac` to the base 10, in units of `2^-frac`, rounded down. Where it lies less than `2^-k` units
-/// below a whole number of units, the result may be that number; k is 24 on words of up to 32 bits, and 32 on words of
-/// 64 bits. Precondition: `a` is above 0.
+/// Returns the logarithm of `a 2^-frac` to the base 10, in units of `2^-frac`. For the result r and the exact logarithm
+/// l in units, `r - 2^-k <= l < r + 1`, where k is 24 on words of up to 32 bits and 32 on words of 64 bits. The
+/// logarithm of a power of 10 is exact. Preconditions: `a` is above 0, and `frac` is at most the width.
 pub fn log10_of<T: Word>(a: T, frac: u32) -> Outcome<T>
     requires frac { frac ≤ T.BITS }
     requires sign { pos 0 <ℤ T.value a }

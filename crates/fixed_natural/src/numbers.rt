@@ -1,4 +1,4 @@
-//! The policies on numbers: what the typed calls stand on.
+//! The policies on numbers, which the typed calls use.
 
 ghost use Rattle.std.specs.Prelude.{◌≡◌, ◌↔◌, ◌<ℤ◌, ℤ, IsTrue, Some, option_map, pos};
 ghost use Rattle.fixed_word.specs.Standing.{StandsFor};
@@ -7,14 +7,14 @@ ghost use Rattle.fixed_word.specs.Policies.{checked, overflowing, saturating, wr
 use fixed_num::Fixed;
 use fixed_word::{Outcome, RawWord, Word, checked_of, overflowing_of, saturating_of, wrapping_of};
 
-/// Whether the value of a word is above 0.
+/// Returns whether the value of a word is above 0.
 pub(crate) fn is_above_zero<T: Word>(word: T) -> bool
     ensures { IsTrue result ↔ (pos 0 <ℤ T.value word) }
 {
     !word.is_below_zero() && word.magnitude() > 0
 }
 
-/// The number, and None exactly where it does not fit.
+/// Returns the number, or `None` if it does not fit.
 pub(crate) fn checked_number<T: Word, const F: u32>(outcome: Outcome<T>) -> Option<Fixed<T, F>>
     ensures { (x : ℤ) → StandsFor T.value T.SIGNED T.BITS x outcome
         → option_map (λ r. T.value r.bits) result ≡ checked T.SIGNED T.BITS (Some x) }
@@ -25,7 +25,7 @@ pub(crate) fn checked_number<T: Word, const F: u32>(outcome: Outcome<T>) -> Opti
     }
 }
 
-/// The wrapped number, and whether the number does not fit.
+/// Returns the wrapped number, and whether the number does not fit.
 pub(crate) fn overflowing_number<T: Word, const F: u32>(outcome: Outcome<T>) -> (Fixed<T, F>, bool)
     ensures { (x : ℤ) → StandsFor T.value T.SIGNED T.BITS x outcome
         → Some (T.value result.0.bits, result.1) ≡ overflowing T.SIGNED T.BITS (Some x) }
@@ -34,7 +34,7 @@ pub(crate) fn overflowing_number<T: Word, const F: u32>(outcome: Outcome<T>) -> 
     (Fixed { bits }, overflows)
 }
 
-/// The wrapped number.
+/// Returns the wrapped number.
 pub(crate) fn wrapping_number<T: Word, const F: u32>(outcome: Outcome<T>) -> Fixed<T, F>
     ensures { (x : ℤ) → StandsFor T.value T.SIGNED T.BITS x outcome
         → Some (T.value result.bits) ≡ wrapping T.SIGNED T.BITS (Some x) }
@@ -44,7 +44,7 @@ pub(crate) fn wrapping_number<T: Word, const F: u32>(outcome: Outcome<T>) -> Fix
     }
 }
 
-/// The number that fits and is nearest.
+/// Returns the nearest number that fits.
 pub(crate) fn saturating_number<T: Word, const F: u32>(outcome: Outcome<T>) -> Fixed<T, F>
     ensures { (x : ℤ) → StandsFor T.value T.SIGNED T.BITS x outcome
         → Some (T.value result.bits) ≡ saturating T.SIGNED T.BITS (Some x) }

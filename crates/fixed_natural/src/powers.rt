@@ -1,4 +1,4 @@
-//! Powers of numbers above 0: powers of 2, whose exponents are times a logarithm.
+//! Powers of numbers above 0, computed as powers of 2. The exponent of 2 is a product by a logarithm.
 
 ghost use Rattle.std.specs.Prelude.{◌≡◌, ◌≤◌, ◌<◌, ◌+◌, ◌*◌, ◌^◌, ◌<ℤ◌, ℕ, ℤ, None, Some, min, pos};
 ghost use Rattle.fixed_word.specs.Format.{with_sign};
@@ -10,15 +10,16 @@ use crate::scaling::{broad_log2, difference, in_places, scaled};
 use fixed_elementary::exponentials::power_of;
 use fixed_word::{Outcome, RawWord, Valued, Word, outcome_of};
 
-/// A number times `2^64`.
+/// Returns a number times `2^64`.
 fn wide(number: u64) -> u128
     ensures { result ≡ number * 2 ^ 64 }
 {
     u128::from(number) * (1 << 64)
 }
 
-/// The exponent of 2 of a power whose exponent is not below 0, in units of `2^-57` and rounded up; None where it is below
-/// 0.
+/// Returns the number z such that `a` to the power of `exponent` is `2^z`, where operands and power are in units of
+/// `2^-frac`. The result is in units of `2^-57`, and 1 to 4 of them too large. It is `None` only if z is below 0, so
+/// that the power is less than a unit.
 fn rising(a: u64, frac: u32, exponent: u64) -> Option<u128>
     requires frac { frac ≤ 64 }
     requires some { 0 < a }
@@ -34,7 +35,7 @@ fn rising(a: u64, frac: u32, exponent: u64) -> Option<u128>
     }
 }
 
-/// The exponent of 2 of a power whose exponent is below 0, likewise.
+/// Returns the same number for the power of `-exponent`, with the same bound.
 fn falling(a: u64, frac: u32, exponent: u64) -> Option<u128>
     requires frac { frac ≤ 64 }
     requires some { 0 < a }
@@ -50,7 +51,7 @@ fn falling(a: u64, frac: u32, exponent: u64) -> Option<u128>
     }
 }
 
-/// The power with that exponent of 2, or `2^64` where it is greater.
+/// Returns the power with this exponent of 2, at most `2^64`, or 0 if there is no exponent.
 fn power_at(exponent: Option<u128>) -> u128
     ensures none { exponent ≡ None → result ≡ 0 }
     ensures some { (z : ℕ) → exponent ≡ Some z → (r : ℕ) × IsExp2Up 117 z 57 r × (result ≡ min r (2 ^ 64)) }
@@ -61,9 +62,10 @@ fn power_at(exponent: Option<u128>) -> u128
     }
 }
 
-/// `a 2^-frac` to the power of `b 2^-frac`, in units of `2^-frac`, rounded down up to a factor of `2^(2^-55)`: where the
-/// power lies less than that factor below a whole number of units, the result may be that number. The outcome has no
-/// bits of a number above the range: it then stands for another number above the range. Precondition: `a` is above 0.
+/// Returns `a 2^-frac` to the power of `b 2^-frac`, in units of `2^-frac`. For the result r and the exact power p in
+/// units, `r <= p 2^(2^-55)` and `p < r + 1`. A power that is a whole number of up to `2^54` units is exact. If the
+/// result is above the range, the outcome stands for some number above the range. Preconditions: `a` is above 0, and
+/// `frac` is at most the width.
 pub fn pow_of<T: Word>(a: T, b: T, frac: u32) -> Outcome<T>
     requires frac { frac ≤ T.BITS }
     requires sign { pos 0 <ℤ T.value a }

@@ -1,4 +1,4 @@
-//! Logarithms to the base 2 with more digits than a word has, and their products by a constant.
+//! Logarithms to the base 2 with more digits than a word has, and products by a constant.
 
 ghost use Rattle.std.specs.Prelude.{◌≡◌, ◌≤◌, ◌<◌, ◌+◌, ◌-◌, ◌*◌, ◌^◌, Some, None};
 ghost use Rattle.fixed_natural.specs.Logs.{log_room};
@@ -7,14 +7,15 @@ ghost use Rattle.fixed_natural.specs.inside.Scaling.{IsEnclosed, IsQuotient};
 use fixed_elementary::logarithms::{broad_squared, broad_whole, squared, whole};
 use fixed_elementary::wide::product;
 
-/// How many digits more than a result has.
+/// Returns how many more fraction bits than its result a logarithm is computed with.
 pub(crate) fn guard_of(bits: u32) -> u32
     ensures { result ≡ log_room bits + 1 }
 {
     if bits <= 32 { 25 } else { 33 }
 }
 
-/// The logarithm to the base 2, in units of `2^-places`, by a mantissa of 64 bits.
+/// Returns the logarithm of `a` to the base 2, in units of `2^-places`, from a mantissa of 64 bits. The exact logarithm
+/// is at least the result, and less than 2 units above it.
 fn narrow_log2(a: u64, places: u32) -> u64
     requires some { 0 < a }
     requires places { places ≤ 57 }
@@ -31,7 +32,8 @@ fn narrow_log2(a: u64, places: u32) -> u64
     digits
 }
 
-/// The logarithm to the base 2, in units of `2^-places`, by a mantissa of 128 bits.
+/// Returns the logarithm of `a` to the base 2, in units of `2^-places`, from a mantissa of 128 bits. The exact
+/// logarithm is at least the result, and less than 2 units above it.
 pub(crate) fn broad_log2(a: u64, places: u32) -> u128
     requires some { 0 < a }
     requires places { places ≤ 121 }
@@ -48,8 +50,8 @@ pub(crate) fn broad_log2(a: u64, places: u32) -> u128
     digits
 }
 
-/// The logarithm to the base 2, in units of `2^-places`, by a mantissa of 64 bits, and on words of 64 bits by one of
-/// 128.
+/// Returns the logarithm of `a` to the base 2, in units of `2^-places`, from a mantissa of 64 bits, or on words of 64
+/// bits from one of 128. The exact logarithm is at least the result, and less than 2 units above it.
 pub(crate) fn fine_log2(bits: u32, a: u64, places: u32) -> u128
     requires some { 0 < a }
     requires places { places ≤ 97 }
@@ -63,7 +65,7 @@ pub(crate) fn fine_log2(bits: u32, a: u64, places: u32) -> u128
     }
 }
 
-/// A whole number in units of `2^-places`.
+/// Returns a whole number in units of `2^-places`.
 pub(crate) fn in_places(whole: u32, places: u32) -> u128
     requires whole { whole ≤ 64 }
     requires places { places ≤ 121 }
@@ -72,7 +74,7 @@ pub(crate) fn in_places(whole: u32, places: u32) -> u128
     u128::from(whole) << places
 }
 
-/// The product over `2^(128 + guard)`, rounded down.
+/// Returns `units * factor / 2^(128+guard)`, rounded down.
 pub(crate) fn scaled(units: u128, factor: u128, guard: u32) -> u128
     requires { guard ≤ 64 }
     ensures { IsQuotient (units * factor) (2 ^ 128 * 2 ^ guard) result }
@@ -80,7 +82,7 @@ pub(crate) fn scaled(units: u128, factor: u128, guard: u32) -> u128
     product(units, factor).high >> guard
 }
 
-/// The difference, or None where it is below 0.
+/// Returns `units - less`, or `None` if it is below 0.
 pub(crate) fn difference(units: u128, less: u128) -> Option<u128>
     ensures below { units < less → result ≡ None }
     ensures above { less ≤ units → result ≡ Some (units - less) }

@@ -1,4 +1,4 @@
-//! The `strict_` calls of logarithms and powers. They are this project's own.
+//! The `strict_` calls of logarithms and powers. The Rust crate `fixed` does not have them.
 
 ghost use Rattle.std.specs.Prelude.{◌≤◌, ◌<ℤ◌, ℤ, pos};
 ghost use Rattle.fixed_word.specs.Format.{InRange};
@@ -12,13 +12,14 @@ use crate::powers::pow_of;
 use fixed_num::{Fixed, Held, Number, exact_number};
 use fixed_word::{RawWord, Word};
 
-/// The `strict_` calls of logarithms and powers. Operands and results are bits, in units of `2^-F`. The fraction
-/// has to be at most the width.
+/// The `strict_` calls of logarithms and powers. Preconditions of each call: the result fits, and F is at most the
+/// width. Operands and results are in units of `2^-F`.
 pub trait StrictNatural: Number {
-    /// The natural logarithm, rounded down, which has to fit. Precondition: the number is above 0.
+    /// Returns the natural logarithm, rounded down. Precondition: the number is above 0.
     ///
-    /// Where the logarithm lies less than `2^-k` units below a whole number of units, the result may be that number; k
-    /// is 24 on words of up to 32 bits, and 32 on words of 64 bits. The logarithm of 1 is exactly 0.
+    /// For the result r and the exact logarithm l in units, `r - 2^-k <= l < r + 1`, where k is 24 on words of up to 32
+    /// bits and 32 on words of 64 bits. So r is the logarithm rounded down, or one unit more if l is at most `2^-k`
+    /// below a whole number. The logarithm of 1 is exactly 0. Precondition: every r that these statements allow fits.
     fn strict_ln(self) -> Self
         requires fraction { Self.FRACTION ≤ Self.BITS }
         requires positive { pos 0 <ℤ Self.number self }
@@ -26,10 +27,12 @@ pub trait StrictNatural: Number {
             → InRange Self.SIGNED Self.BITS r }
         ensures { IsLn (log_room Self.BITS) (Self.number self) Self.FRACTION (Self.number result) };
 
-    /// The logarithm to the base 10, rounded down, which has to fit. Precondition: the number is above 0.
+    /// Returns the logarithm to the base 10, rounded down. Precondition: the number is above 0.
     ///
-    /// Where the logarithm lies less than `2^-k` units below a whole number of units, the result may be that number; k
-    /// is 24 on words of up to 32 bits, and 32 on words of 64 bits. The logarithm of a power of 10 is exact.
+    /// For the result r and the exact logarithm l in units, `r - 2^-k <= l < r + 1`, where k is 24 on words of up to 32
+    /// bits and 32 on words of 64 bits. So r is the logarithm rounded down, or one unit more if l is at most `2^-k`
+    /// below a whole number. The logarithm of a power of 10 is exact. Precondition: every r that these statements allow
+    /// fits.
     fn strict_log10(self) -> Self
         requires fraction { Self.FRACTION ≤ Self.BITS }
         requires positive { pos 0 <ℤ Self.number self }
@@ -37,23 +40,24 @@ pub trait StrictNatural: Number {
             → InRange Self.SIGNED Self.BITS r }
         ensures { IsLog10 (log_room Self.BITS) (Self.number self) Self.FRACTION (Self.number result) };
 
-    /// e to the power of the number, rounded down, which has to fit.
+    /// Returns e to the power of the number, rounded down.
     ///
-    /// Where the power lies less than a factor of `2^(2^-61)` below a whole number of units, the result may be that
-    /// number: on words of up to 32 bits, where it lies less than `2^-29` units below it. On words of 64 bits the
-    /// result is greater than the power rounded down by at most 6 units. e to the power of 0 is exactly 1.
+    /// For the result r and the exact power p in units, `r <= p 2^(2^-61)` and `p < r + 1`. On words of up to 32 bits,
+    /// r is the power rounded down, or one unit more if p is less than `2^-29` below a whole number. On words of 64
+    /// bits, r is at most 6 units more than the power rounded down. e to the power of 0 is exactly 1. Precondition:
+    /// every r that these statements allow fits.
     fn strict_exp(self) -> Self
         requires fraction { Self.FRACTION ≤ Self.BITS }
         requires fits { (r : ℤ) → IsExp (Self.number self) Self.FRACTION r
             → InRange Self.SIGNED Self.BITS r }
         ensures { IsExp (Self.number self) Self.FRACTION (Self.number result) };
 
-    /// The number to the power of another number, rounded down, which has to fit. Precondition: the number is above 0.
+    /// Returns the number to the power of `exponent`, rounded down. Precondition: the number is above 0.
     ///
-    /// Where the power lies less than a factor of `2^(2^-55)` below a whole number of units, the result may be that
-    /// number: on words of up to 32 bits, where it lies less than `2^-23` units below it. On words of 64 bits the
-    /// result is greater than the power rounded down by at most 355 units. A power that is a whole number of up to
-    /// `2^54` units is exact.
+    /// For the result r and the exact power p in units, `r <= p 2^(2^-55)` and `p < r + 1`. On words of up to 32 bits,
+    /// r is the power rounded down, or one unit more if p is less than `2^-23` below a whole number. On words of 64
+    /// bits, r is at most 355 units more than the power rounded down. A power that is a whole number of up to `2^54`
+    /// units is exact. Precondition: every r that these statements allow fits.
     fn strict_pow(self, exponent: Self) -> Self
         requires fraction { Self.FRACTION ≤ Self.BITS }
         requires positive { pos 0 <ℤ Self.number self }

@@ -1,4 +1,4 @@
-//! The `wrapping_` calls of logarithms. They are this project's own.
+//! The `wrapping_` calls of logarithms. The Rust crate `fixed` does not have them.
 
 ghost use Rattle.std.specs.Prelude.{◌≡◌, ◌≤◌, ◌<ℤ◌, ℤ, Some, pos};
 ghost use Rattle.fixed_word.specs.Policies.{wrapping};
@@ -9,23 +9,26 @@ use crate::numbers::wrapping_number;
 use fixed_num::{Fixed, Held, Number};
 use fixed_word::{RawWord, Word};
 
-/// The `wrapping_` calls of logarithms. Operands and results are bits, in units of `2^-F`. The fraction has to be
-/// at most the width.
+/// The `wrapping_` calls of logarithms. If the result does not fit, they return it wrapped. `exp` and `pow` have no
+/// such form, since the lowest bits of a power above the range are not known. Operands and results are in units of
+/// `2^-F`. Precondition of each call: F is at most the width.
 pub trait WrappingNatural: Number {
-    /// The natural logarithm, rounded down, wrapped. Precondition: the number is above 0.
+    /// Returns the natural logarithm, rounded down and wrapped. Precondition: the number is above 0.
     ///
-    /// Where the logarithm lies less than `2^-k` units below a whole number of units, the result may be that number; k
-    /// is 24 on words of up to 32 bits, and 32 on words of 64 bits. The logarithm of 1 is exactly 0.
+    /// For the result r before it is wrapped and the exact logarithm l in units, `r - 2^-k <= l < r + 1`, where k is 24
+    /// on words of up to 32 bits and 32 on words of 64 bits. So r is the logarithm rounded down, or one unit more if l
+    /// is at most `2^-k` below a whole number. The logarithm of 1 is exactly 0.
     fn wrapping_ln(self) -> Self
         requires fraction { Self.FRACTION ≤ Self.BITS }
         requires positive { pos 0 <ℤ Self.number self }
         ensures { (r : ℤ) × IsLn (log_room Self.BITS) (Self.number self) Self.FRACTION r
             × (Some (Self.number result) ≡ wrapping Self.SIGNED Self.BITS (Some r)) };
 
-    /// The logarithm to the base 10, rounded down, wrapped. Precondition: the number is above 0.
+    /// Returns the logarithm to the base 10, rounded down and wrapped. Precondition: the number is above 0.
     ///
-    /// Where the logarithm lies less than `2^-k` units below a whole number of units, the result may be that number; k
-    /// is 24 on words of up to 32 bits, and 32 on words of 64 bits. The logarithm of a power of 10 is exact.
+    /// For the result r before it is wrapped and the exact logarithm l in units, `r - 2^-k <= l < r + 1`, where k is 24
+    /// on words of up to 32 bits and 32 on words of 64 bits. So r is the logarithm rounded down, or one unit more if l
+    /// is at most `2^-k` below a whole number. The logarithm of a power of 10 is exact.
     fn wrapping_log10(self) -> Self
         requires fraction { Self.FRACTION ≤ Self.BITS }
         requires positive { pos 0 <ℤ Self.number self }

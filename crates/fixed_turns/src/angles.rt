@@ -1,4 +1,4 @@
-//! Angles in turns: quarters of a turn and a rest.
+//! Angles in turns, split into quarter turns and a rest.
 
 ghost use Rattle.std.specs.Prelude.{◌≡◌, ◌≤◌, ◌-◌, ◌*◌, ◌%◌, ◌^◌, ◌*ℤ◌, ℤ, pos};
 ghost use Rattle.fixed_word.specs.Format.{Congruent};
@@ -6,7 +6,7 @@ ghost use Rattle.fixed_turns.specs.inside.Rests.{IsParted};
 
 use fixed_word::{RawWord, Word};
 
-/// A number of quarter turns, and a rest in units of `2^-64` quarter turns, which may lie below 0.
+/// A number of quarter turns, and a rest in units of `2^-64` quarter turns, which is subtracted if `below`.
 #[derive(Clone, Copy)]
 pub(crate) struct Angle {
     pub(crate) quarter: u64,
@@ -14,7 +14,7 @@ pub(crate) struct Angle {
     pub(crate) rest: u64,
 }
 
-/// A magnitude in units of `2^-64`, without its whole number.
+/// Converts a magnitude from units of `2^-frac` to units of `2^-64`, without its whole part.
 #[inline(always)]
 fn moved(magnitude: u64, frac: u32) -> u64
     requires { frac ≤ 64 }
@@ -23,7 +23,8 @@ fn moved(magnitude: u64, frac: u32) -> u64
     ((u128::from(magnitude) << (64 - frac)) % (1 << 64)) as u64
 }
 
-/// The part of a turn, in units of `2^-64` turns.
+/// Returns the angle `a 2^-frac` without its whole turns, in units of `2^-64` turns. The result is not below 0.
+/// Precondition: `frac` is at most the width.
 #[inline(always)]
 pub(crate) fn part_of_turn<T: Word>(a: T, frac: u32) -> u64
     requires { frac ≤ T.BITS }
@@ -37,7 +38,8 @@ pub(crate) fn part_of_turn<T: Word>(a: T, frac: u32) -> u64
     }
 }
 
-/// The quarters of a turn, and the rest.
+/// Splits an angle in units of `2^-64` turns into quarter turns, at most 3, and a rest of at most an eighth of a turn.
+/// Whole turns are left out.
 #[inline(always)]
 pub(crate) fn parted(part: u64) -> Angle
     ensures { IsParted part result.quarter result.below result.rest }

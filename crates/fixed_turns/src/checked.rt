@@ -1,4 +1,4 @@
-//! The `checked_` calls of sines, cosines and angles of points. They are this project's own.
+//! The `checked_` calls of sines, cosines and angles of points. The Rust crate `fixed` does not have them.
 
 ghost use Rattle.std.specs.Prelude.{◌≡◌, ◌≤◌, ◌≢◌, ℤ, Some, option_map, None, pos};
 ghost use Rattle.fixed_word.specs.Policies.{checked};
@@ -11,31 +11,32 @@ use crate::sines::{cos_turns_of, sin_cos_turns_of, sin_turns_of};
 use fixed_num::{Fixed, Held, Number};
 use fixed_word::{RawWord, Word};
 
-/// The `checked_` calls of sines, cosines and angles of points. Operands of sines are bits, in units of `2^-F` turns, and
-/// angles are in the same units. The fraction has to be at most the width.
+/// The `checked_` calls of sines, cosines and angles of points. If a result does not fit, they return `None`. Operands
+/// and results are in units of `2^-F`; angles are in turns. Precondition of each call: F is at most the width.
 pub trait CheckedTurns: Number {
-    /// The sine of an angle in turns, rounded to the nearest; None exactly if that does not fit.
+    /// Returns the sine of an angle in turns, rounded to the nearest, or `None` if it does not fit.
     ///
-    /// The result differs from the sine by half a unit and `2^-k` at most; k is 41 on words of up to 32 bits, and 61 on
-    /// words of 64 bits. The sines of 0, 1/4, 1/2 and 3/4 are exact.
+    /// The result differs from the exact sine by at most half a unit plus `2^-k`, where k is 41 on words of up to 32
+    /// bits and 61 on words of 64 bits. Sines of whole quarter turns are exact, and none is above 1 or below -1.
     fn checked_sin_turns(self) -> Option<Self>
         requires { Self.FRACTION ≤ Self.BITS }
         ensures { (r : ℤ) × IsSine (sine_room Self.BITS) (Self.number self) Self.FRACTION r
             × (option_map Self.number result ≡ checked Self.SIGNED Self.BITS (Some r)) };
 
-    /// The cosine of an angle in turns, rounded to the nearest; None exactly if that does not fit.
+    /// Returns the cosine of an angle in turns, rounded to the nearest, or `None` if it does not fit.
     ///
-    /// The result differs from the cosine by half a unit and `2^-k` at most; k is 41 on words of up to 32 bits, and 61 on
-    /// words of 64 bits. The cosines of 0, 1/4, 1/2 and 3/4 are exact.
+    /// The result differs from the exact cosine by at most half a unit plus `2^-k`, where k is 41 on words of up to 32
+    /// bits and 61 on words of 64 bits. Cosines of whole quarter turns are exact, and none is above 1 or below -1.
     fn checked_cos_turns(self) -> Option<Self>
         requires { Self.FRACTION ≤ Self.BITS }
         ensures { (r : ℤ) × IsCosine (sine_room Self.BITS) (Self.number self) Self.FRACTION r
             × (option_map Self.number result ≡ checked Self.SIGNED Self.BITS (Some r)) };
 
-    /// Returns the sine and the cosine of an angle in turns, rounded to the nearest, or `None` if one of both does not fit.
+    /// Returns the sine and the cosine of an angle in turns, both rounded to the nearest, or `None` if one of them does
+    /// not fit.
     ///
-    /// Each result differs from its exact value by half a unit and `2^-k` at most; k is 41 on words of up to 32 bits,
-    /// and 61 on words of 64 bits. Results at 0, 1/4, 1/2 and 3/4 are exact.
+    /// Each result differs from its exact value by at most half a unit plus `2^-k`, where k is 41 on words of up to 32
+    /// bits and 61 on words of 64 bits. The results at whole quarter turns are exact, and none is above 1 or below -1.
     fn checked_sin_cos_turns(self) -> Option<(Self, Self)>
         requires { Self.FRACTION ≤ Self.BITS }
         ensures { (s c : ℤ) × IsSine (sine_room Self.BITS) (Self.number self) Self.FRACTION s
@@ -43,11 +44,12 @@ pub trait CheckedTurns: Number {
             × (option_map (λ pair. (Self.number pair.0, Self.number pair.1)) result
             ≡ both (checked Self.SIGNED Self.BITS (Some s)) (checked Self.SIGNED Self.BITS (Some c))) };
 
-    /// Returns the angle of the point `(x, self)` in turns, from -1/2 to 1/2, rounded to the nearest, or `None` if it does
-    /// not fit or both coordinates are 0.
+    /// Returns the angle of the point `(x, self)` in turns, from -1/2 to 1/2, rounded to the nearest, or `None` if both
+    /// coordinates are 0 or the result does not fit.
     ///
-    /// The result differs from the angle by half a unit and `2^-k` radians at most; k is 40 on words of up to 32 bits, and
-    /// 60 on words of 64 bits. Multiples of 1/8 are exact if they are whole numbers of units.
+    /// The result differs from the exact angle by at most half a unit plus `2^-k` radians, where k is 40 on words of up
+    /// to 32 bits and 60 on words of 64 bits. Multiples of 1/8 are exact if they are whole numbers of units. If `self`
+    /// is 0 and x is below 0, the exact angle is 1/2.
     fn checked_atan2_turns(self, x: Self) -> Option<Self>
         requires { Self.FRACTION ≤ Self.BITS }
         ensures none { Self.number x ≡ pos 0 → Self.number self ≡ pos 0 → result ≡ None }

@@ -1,5 +1,5 @@
-//! A guess at the angle of a point. No contract says how near it is: the search that begins there finds the result
-//! wherever it begins.
+//! A guess at the angle of a point. No contract states how near the guess is: the search returns a correct result from
+//! any start.
 
 ghost use Rattle.std.specs.Prelude.{◌≤◌, ◌<◌, ◌*◌, ◌^◌};
 
@@ -8,11 +8,11 @@ use crate::series::{cosine, high, radians_of, sine};
 /// 2 over pi, in units of `2^-64`: how many quarter turns a radian is.
 const QUARTERS: u64 = 0xa2f9_836e_4e44_1529;
 
-/// The most that a rest is, in units of `2^-64` quarter turns: an eighth of a turn.
+/// The largest rest, which is an eighth of a turn, in units of `2^-64` quarter turns.
 const EIGHTH: u64 = 1 << 63;
 
-/// The coefficients of the polynomial that is nearest to the angle of a slope, the highest first: of odd degrees up to
-/// 13, with signs in turn, in units of `2^-64` quarter turns.
+/// The coefficients of a polynomial that approximates the angle of a slope, the highest first. Its degrees are odd and
+/// at most 13, its signs alternate, and the coefficients are in units of `2^-64` quarter turns.
 const COEFFICIENTS: [u64; 7] = [
     0x011c_32ec_0a13_e5f6,
     0x057a_055a_ae55_3afd,
@@ -23,8 +23,8 @@ const COEFFICIENTS: [u64; 7] = [
     0xa2f9_59e6_6139_3c66,
 ];
 
-/// Returns the angle of a slope in units of `2^-64` quarter turns, up to some `2^-22` quarter turns. The slope is in units
-/// of `2^-64`.
+/// Returns the angle of a slope in units of `2^-64` quarter turns, with an error of some `2^-22` quarter turns. The
+/// slope is in units of `2^-64`.
 #[inline(always)]
 fn angle_of_slope(slope: u64) -> u64 {
     let square = high(slope, slope);
@@ -35,7 +35,7 @@ fn angle_of_slope(slope: u64) -> u64 {
     high(slope, sum)
 }
 
-/// Returns `part` over `whole`, in units of `2^-64`, if `part` has at most `64-scale` bits.
+/// Returns about `part / whole` in units of `2^-64`, if `part` has at most `64-scale` bits.
 #[inline(always)]
 fn quotient(part: u64, whole: u64, scale: u32) -> u64
     requires { scale ≤ 32 }
@@ -44,8 +44,8 @@ fn quotient(part: u64, whole: u64, scale: u32) -> u64
     ((part << scale) / divisor) << (32 - scale)
 }
 
-/// Returns a nearer angle by a step of Newton's method: the part of the point across the direction of the rest, over
-/// the part along it.
+/// Returns a nearer angle, by a step of Newton's method. The step is the part of the point across the direction of the
+/// rest, divided by the part along it.
 #[inline(always)]
 fn nearer(a: u64, b: u64, rest: u64, bits: u32, scale: u32) -> u64
     requires rest { rest ≤ 2 ^ 63 }
@@ -64,7 +64,8 @@ fn nearer(a: u64, b: u64, rest: u64, bits: u32, scale: u32) -> u64
     moved.min(EIGHTH)
 }
 
-/// Returns a rest in units of `2^-64` quarter turns, for an angle of some `2^-frac` turns.
+/// Returns about the angle of `(a, b)` in units of `2^-64` quarter turns. It is near enough for a guess in units of
+/// `2^-frac` turns.
 #[inline(always)]
 fn rest_near(a: u64, b: u64, bits: u32, frac: u32) -> u64
     requires { 0 < a }
@@ -85,7 +86,7 @@ fn rest_near(a: u64, b: u64, bits: u32, frac: u32) -> u64
     }
 }
 
-/// Returns about how many units of `2^-frac` turns the angle of `(a, b)` is.
+/// Returns about the angle of `(a, b)` in units of `2^-frac` turns.
 #[inline(always)]
 pub(crate) fn guess(a: u64, b: u64, bits: u32, frac: u32) -> u64
     requires some { 0 < a }

@@ -1,12 +1,13 @@
-//! Laws of sines and cosines. These functions do nothing: each contract is the law.
+//! Laws of sines, cosines and angles of points. These functions do nothing: the contract of each is the law.
 
 ghost use Rattle.std.specs.Prelude.{◌≡◌, ◌≢◌, ◌+◌, ◌*◌, ◌^◌, ◌<◌, ◌+ℤ◌, ◌*ℤ◌, ◌≤ℤ◌, ℕ, ℤ, true, pos, neg_ℤ};
 ghost use Rattle.fixed_word.specs.Format.{InRange};
 ghost use Rattle.fixed_turns.specs.Angles.{IsAngleOf};
 ghost use Rattle.fixed_turns.specs.Sines.{IsCosine, IsSine};
 
-/// Sines of quarter turns are exact. A whole turn more changes nothing, and the sine of minus the angle is minus the
-/// sine. No sine is above 1 or below -1. On signed words whose greatest number is at least 1 each sine fits.
+/// The sines of 0, 1/4, 1/2 and 3/4 are exact. A number that meets the bound for the sine of an angle also meets it a
+/// whole turn further, and its negative meets it for the sine of minus the angle. No sine is above 1 or below -1. On
+/// signed words whose largest number is at least 1, each sine fits.
 pub fn sine_law()
     ensures of_zero { (k f : ℕ) (r : ℤ) → IsSine k (pos 0) f r → r ≡ pos 0 }
     ensures of_quarter { (k f : ℕ) (a r : ℤ) → pos 4 *ℤ a ≡ pos (2 ^ f) → IsSine k a f r → r ≡ pos (2 ^ f) }
@@ -20,14 +21,15 @@ pub fn sine_law()
     ensures fits { (k n f : ℕ) (a r : ℤ) → f + 1 < n → IsSine k a f r → InRange true n r }
 {}
 
-/// The cosine is the sine of a quarter turn more.
+/// A number that meets the bound for the cosine of an angle meets it for the sine of a quarter turn more. On signed
+/// words whose largest number is at least 1, each cosine fits.
 pub fn cosine_law()
     ensures as_sine { (k f : ℕ) (a b r : ℤ) → pos 4 *ℤ b ≡ pos 4 *ℤ a +ℤ pos (2 ^ f) → IsCosine k a f r → IsSine k b f r }
     ensures fits { (k n f : ℕ) (a r : ℤ) → f + 1 < n → IsCosine k a f r → InRange true n r }
 {}
 
-/// Angles of points lie from -1/2 to 1/2. The angle of `(x, -y)` is minus that of `(x, y)`, unless y is 0. On signed words
-/// each angle fits, unless F is the width.
+/// Angles of points are from -1/2 to 1/2. If y is not 0, the negative of the angle of `(x, y)` is that of `(x, -y)`. On
+/// signed words, each angle fits if F is below the width.
 pub fn angle_law()
     ensures least { (k f : ℕ) (x y r : ℤ) → IsAngleOf k x y f r → neg_ℤ (pos (2 ^ f)) ≤ℤ (pos 2 *ℤ r) }
     ensures most { (k f : ℕ) (x y r : ℤ) → IsAngleOf k x y f r → (pos 2 *ℤ r) ≤ℤ pos (2 ^ f) }

@@ -1,7 +1,8 @@
-//! Sines and cosines of angles in turns, and angles of points, rounded to the nearest up to a stated part.
+//! Sines and cosines of angles in turns, and angles of points, each rounded to the nearest within a proved bound.
 //!
-//! Kernels work on bits: each returns an [`Outcome`](fixed_word::Outcome). Typed calls of [`Fixed`](fixed_num::Fixed)
-//! are named by their policy and their operation. No function takes memory.
+//! Each function `.._of` computes on bits, in units of `2^-frac`. It returns an [`Outcome`](fixed_word::Outcome) for
+//! each result: the wrapped result, and whether the result fits or is above or below the range. The methods of
+//! [`Fixed`](fixed_num::Fixed) are named by their policy and their operation. No function allocates.
 #![tactic(auto)]
 
 mod angles;

@@ -1,4 +1,4 @@
-//! The policies on numbers: what the typed calls stand on.
+//! The policies on numbers, which the typed calls use.
 
 ghost use Rattle.std.specs.Prelude.{◌≡◌, ◌↔◌, ◌<ℤ◌, ℤ, IsTrue, Some, option_map, pos};
 ghost use Rattle.fixed_word.specs.Standing.{StandsFor};
@@ -8,7 +8,7 @@ ghost use Rattle.fixed_word.specs.Policies.{checked, overflowing, saturating, wr
 use fixed_num::Fixed;
 use fixed_word::{Outcome, RawWord, Word, checked_of, overflowing_of, saturating_of, wrapping_of};
 
-/// The number, and None exactly where it does not fit.
+/// Returns the number, or `None` if it does not fit.
 pub(crate) fn checked_number<T: Word, const F: u32>(outcome: Outcome<T>) -> Option<Fixed<T, F>>
     ensures { (x : ℤ) → StandsFor T.value T.SIGNED T.BITS x outcome
         → option_map (λ r. T.value r.bits) result ≡ checked T.SIGNED T.BITS (Some x) }
@@ -19,7 +19,7 @@ pub(crate) fn checked_number<T: Word, const F: u32>(outcome: Outcome<T>) -> Opti
     }
 }
 
-/// The wrapped number, and whether the number does not fit.
+/// Returns the wrapped number, and whether the number does not fit.
 pub(crate) fn overflowing_number<T: Word, const F: u32>(outcome: Outcome<T>) -> (Fixed<T, F>, bool)
     ensures { (x : ℤ) → StandsFor T.value T.SIGNED T.BITS x outcome
         → Some (T.value result.0.bits, result.1) ≡ overflowing T.SIGNED T.BITS (Some x) }
@@ -28,7 +28,7 @@ pub(crate) fn overflowing_number<T: Word, const F: u32>(outcome: Outcome<T>) -> 
     (Fixed { bits }, overflows)
 }
 
-/// The wrapped number.
+/// Returns the wrapped number.
 pub(crate) fn wrapping_number<T: Word, const F: u32>(outcome: Outcome<T>) -> Fixed<T, F>
     ensures { (x : ℤ) → StandsFor T.value T.SIGNED T.BITS x outcome
         → Some (T.value result.bits) ≡ wrapping T.SIGNED T.BITS (Some x) }
@@ -38,7 +38,7 @@ pub(crate) fn wrapping_number<T: Word, const F: u32>(outcome: Outcome<T>) -> Fix
     }
 }
 
-/// The number that fits and is nearest.
+/// Returns the nearest number that fits.
 pub(crate) fn saturating_number<T: Word, const F: u32>(outcome: Outcome<T>) -> Fixed<T, F>
     ensures { (x : ℤ) → StandsFor T.value T.SIGNED T.BITS x outcome
         → Some (T.value result.bits) ≡ saturating T.SIGNED T.BITS (Some x) }
@@ -48,7 +48,7 @@ pub(crate) fn saturating_number<T: Word, const F: u32>(outcome: Outcome<T>) -> F
     }
 }
 
-/// Returns both numbers, or `None` if one of both is missing.
+/// Returns both numbers, or `None` if one of them is missing.
 pub(crate) fn both_numbers<T: Word, const F: u32>(
     first: Option<Fixed<T, F>>,
     second: Option<Fixed<T, F>>,

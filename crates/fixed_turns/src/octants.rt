@@ -1,4 +1,5 @@
-//! The angle of a point whose coordinates are at least 0, the second at most the first: an eighth of a turn at most.
+//! The angle of a point `(a, b)` whose coordinates are not below 0, if b is at most a. The angle is at most an eighth
+//! of a turn.
 
 ghost use Rattle.std.specs.Prelude.{◌≡◌, ◌≤◌, ◌<◌, ◌+◌, ◌-◌, ◌*◌, ◌^◌, ℕ, true, false};
 ghost use Rattle.fixed_turns.specs.Angles.{IsBeside, IsLeftOf, IsNearest, IsRestOf, IsRightOf, turn_room};
@@ -8,7 +9,7 @@ ghost use Rattle.fixed_turns.specs.inside.Rests.{IsUnder};
 use crate::guesses::guess;
 use crate::series::{cosine, radians_of, sine};
 
-/// Returns 2 to the power of `exponent`.
+/// Returns 2 to the power of `exponent`. Precondition: `exponent` is below 64.
 #[inline(always)]
 pub(crate) fn power(exponent: u32) -> u64
     requires { exponent < 64 }
@@ -17,7 +18,8 @@ pub(crate) fn power(exponent: u32) -> u64
     1 << exponent
 }
 
-/// Returns whether `(a, b)` lies to the left of the direction of `x` radians, in units of `2^-64`, by both sums.
+/// Returns whether `(a, b)` lies to the left of the direction of `x`, an angle in units of `2^-64` radians. The result
+/// is right up to `2^-k` times a, where k is 40 on words of up to 32 bits and 60 on words of 64 bits.
 #[inline(always)]
 fn is_left(a: u64, b: u64, x: u64, bits: u32) -> bool
     requires octant { b ≤ a }
@@ -30,7 +32,8 @@ fn is_left(a: u64, b: u64, x: u64, bits: u32) -> bool
     u128::from(a) * u128::from(sine(x, bits)) <= u128::from(b) * cosine(x, bits)
 }
 
-/// Returns whether `(a, b)` lies to the left of `units` and a half units of `2^-frac` turns, by both sums.
+/// Returns whether `(a, b)` lies to the left of the direction of `units + 1/2` units of `2^-frac` turns, up to the same
+/// bound. Precondition: that direction is below an eighth of a turn.
 #[inline(always)]
 fn is_above_half(a: u64, b: u64, units: u64, bits: u32, frac: u32) -> bool
     requires octant { b ≤ a }
@@ -45,8 +48,9 @@ fn is_above_half(a: u64, b: u64, units: u64, bits: u32, frac: u32) -> bool
     is_left(a, b, radians_of((2 * units + 1) << (65 - frac)), bits)
 }
 
-/// Returns where to look between `low` and `high`: at the guess, then beside it, then further and further from it, by at
-/// most half of what is left.
+/// Returns where the search looks next, from `low` to below `high`. That is the guess if it is in this range. If it is
+/// not, the search looks beside the nearer end: further away as the stride grows, but by at most half of the range, or
+/// by 1.
 #[inline(always)]
 fn probe(low: u64, high: u64, guess: u64, stride: u64) -> u64
     requires { low < high }
@@ -63,7 +67,7 @@ fn probe(low: u64, high: u64, guess: u64, stride: u64) -> u64
     }
 }
 
-/// Returns the angle of `(a, b)` in units of `2^-frac` turns.
+/// Returns the angle of `(a, b)` in units of `2^-frac` turns, rounded to the nearest up to the same bound.
 #[inline(always)]
 fn nearest(a: u64, b: u64, guess: u64, bits: u32, frac: u32) -> u64
     requires octant { b ≤ a }
@@ -87,7 +91,8 @@ fn nearest(a: u64, b: u64, guess: u64, bits: u32, frac: u32) -> u64
     low
 }
 
-/// Returns the angle of `(a, b)` in units of `2^-frac` turns: 0 on the axis, and an eighth of a turn on the diagonal.
+/// Returns the angle of `(a, b)` in units of `2^-frac` turns, rounded to the nearest up to the same bound. It is 0 on
+/// the axis. On the diagonal it is an eighth of a turn, rounded down.
 #[inline(always)]
 pub(crate) fn rest_of(a: u64, b: u64, bits: u32, frac: u32) -> u64
     requires some { 0 < a }

@@ -1,4 +1,4 @@
-//! The `overflowing_` calls of sines, cosines and angles of points. They are this project's own.
+//! The `overflowing_` calls of sines, cosines and angles of points. The Rust crate `fixed` does not have them.
 
 ghost use Rattle.std.specs.Prelude.{◌≡◌, ◌≤◌, ◌≢◌, ℤ, Some, pos};
 ghost use Rattle.fixed_word.specs.Policies.{overflowing};
@@ -11,32 +11,36 @@ use crate::sines::{cos_turns_of, sin_cos_turns_of, sin_turns_of};
 use fixed_num::{Fixed, Held, Number};
 use fixed_word::{RawWord, Word};
 
-/// The `overflowing_` calls of sines, cosines and angles of points. Operands of sines are bits, in units of `2^-F` turns, and
-/// angles are in the same units. The fraction has to be at most the width.
+/// The `overflowing_` calls of sines, cosines and angles of points. They return the wrapped result, and whether the
+/// result does not fit. Operands and results are in units of `2^-F`; angles are in turns. Precondition of each call: F
+/// is at most the width.
 pub trait OverflowingTurns: Number {
-    /// The sine of an angle in turns, rounded to the nearest, wrapped, and whether it does not fit.
+    /// Returns the sine of an angle in turns, rounded to the nearest and wrapped, and whether it does not fit.
     ///
-    /// The result differs from the sine by half a unit and `2^-k` at most; k is 41 on words of up to 32 bits, and 61 on
-    /// words of 64 bits. The sines of 0, 1/4, 1/2 and 3/4 are exact.
+    /// Before it is wrapped, the result differs from the exact sine by at most half a unit plus `2^-k`, where k is 41
+    /// on words of up to 32 bits and 61 on words of 64 bits. Sines of whole quarter turns are exact, and none is above
+    /// 1 or below -1.
     fn overflowing_sin_turns(self) -> (Self, bool)
         requires { Self.FRACTION ≤ Self.BITS }
         ensures { (r : ℤ) × IsSine (sine_room Self.BITS) (Self.number self) Self.FRACTION r
             × (Some (Self.number result.0, result.1) ≡ overflowing Self.SIGNED Self.BITS (Some r)) };
 
-    /// The cosine of an angle in turns, rounded to the nearest, wrapped, and whether it does not fit.
+    /// Returns the cosine of an angle in turns, rounded to the nearest and wrapped, and whether it does not fit.
     ///
-    /// The result differs from the cosine by half a unit and `2^-k` at most; k is 41 on words of up to 32 bits, and 61 on
-    /// words of 64 bits. The cosines of 0, 1/4, 1/2 and 3/4 are exact.
+    /// Before it is wrapped, the result differs from the exact cosine by at most half a unit plus `2^-k`, where k is 41
+    /// on words of up to 32 bits and 61 on words of 64 bits. Cosines of whole quarter turns are exact, and none is
+    /// above 1 or below -1.
     fn overflowing_cos_turns(self) -> (Self, bool)
         requires { Self.FRACTION ≤ Self.BITS }
         ensures { (r : ℤ) × IsCosine (sine_room Self.BITS) (Self.number self) Self.FRACTION r
             × (Some (Self.number result.0, result.1) ≡ overflowing Self.SIGNED Self.BITS (Some r)) };
 
-    /// Returns the sine and the cosine of an angle in turns, rounded to the nearest and wrapped, each with whether it does
-    /// not fit.
+    /// Returns the sine and the cosine of an angle in turns, both rounded to the nearest and wrapped, each with whether
+    /// it does not fit.
     ///
-    /// Each result differs from its exact value by half a unit and `2^-k` at most; k is 41 on words of up to 32 bits,
-    /// and 61 on words of 64 bits. Results at 0, 1/4, 1/2 and 3/4 are exact.
+    /// Before it is wrapped, each result differs from its exact value by at most half a unit plus `2^-k`, where k is 41
+    /// on words of up to 32 bits and 61 on words of 64 bits. The results at whole quarter turns are exact, and none is
+    /// above 1 or below -1.
     fn overflowing_sin_cos_turns(self) -> ((Self, bool), (Self, bool))
         requires { Self.FRACTION ≤ Self.BITS }
         ensures sine { (r : ℤ) × IsSine (sine_room Self.BITS) (Self.number self) Self.FRACTION r
@@ -47,8 +51,9 @@ pub trait OverflowingTurns: Number {
     /// Returns the angle of the point `(x, self)` in turns, from -1/2 to 1/2, rounded to the nearest and wrapped, and
     /// whether it does not fit. Precondition: the coordinates are not both 0.
     ///
-    /// The result differs from the angle by half a unit and `2^-k` radians at most; k is 40 on words of up to 32 bits, and
-    /// 60 on words of 64 bits. Multiples of 1/8 are exact if they are whole numbers of units.
+    /// Before it is wrapped, the result differs from the exact angle by at most half a unit plus `2^-k` radians, where
+    /// k is 40 on words of up to 32 bits and 60 on words of 64 bits. Multiples of 1/8 are exact if they are whole
+    /// numbers of units. If `self` is 0 and x is below 0, the exact angle is 1/2.
     fn overflowing_atan2_turns(self, x: Self) -> (Self, bool)
         requires fraction { Self.FRACTION ≤ Self.BITS }
         requires some { Self.number x ≡ pos 0 → Self.number self ≢ pos 0 }

@@ -8,8 +8,8 @@ ghost use Rattle.fixed_turns.specs.Angles.{IsAngleOf, IsByQuarters, IsUpperAngle
 use crate::octants::{power, rest_of};
 use fixed_word::{Outcome, RawWord, Word, outcome_of};
 
-/// Returns the angle of a point, from 0 to 1/2, in units of `2^-frac` turns. The point is `x` to the right of the
-/// origin or, if `below`, to its left, and `y` above it.
+/// Returns the angle of a point, from 0 to 1/2, in units of `2^-frac` turns. The point is `y` above the origin, and `x`
+/// to its right or, if `below`, to its left. Preconditions: the coordinates are not both 0, and `frac` is from 2 to 64.
 #[inline(always)]
 fn by_quarters(below: bool, x: u64, y: u64, bits: u32, frac: u32) -> u64
     requires some { 0 < x + y }
@@ -31,7 +31,7 @@ fn by_quarters(below: bool, x: u64, y: u64, bits: u32, frac: u32) -> u64
     }
 }
 
-/// Returns that angle for each fraction. Units of a turn, or of half a turn, are larger than a quarter turn.
+/// Returns the same angle for any `frac` of at most 64. If `frac` is 0 or 1, a unit is larger than a quarter turn.
 #[inline(always)]
 fn upper_angle(below: bool, x: u64, y: u64, bits: u32, frac: u32) -> u64
     requires some { 0 < x + y }
@@ -49,8 +49,9 @@ fn upper_angle(below: bool, x: u64, y: u64, bits: u32, frac: u32) -> u64
 }
 
 /// Returns the angle of the point `(x, y)` in units of `2^-frac` turns, from -1/2 to 1/2 turns, rounded to the nearest.
-/// It differs from the angle by half a unit and `2^-k` radians at most; k is 40 on words of up to 32 bits, and 60 on words
-/// of 64 bits. Multiples of 1/8 are exact if they are whole numbers of units.
+/// The result differs from the exact angle by at most half a unit plus `2^-k` radians, where k is 40 on words of up to
+/// 32 bits and 60 on words of 64 bits. Multiples of 1/8 are exact if they are whole numbers of units. If y is 0 and x
+/// is below 0, the exact angle is 1/2. Preconditions: the coordinates are not both 0, and `frac` is at most the width.
 #[inline(always)]
 pub fn atan2_turns_of<T: Word>(y: T, x: T, frac: u32) -> Outcome<T>
     requires fraction { frac ≤ T.BITS }

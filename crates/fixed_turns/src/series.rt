@@ -1,4 +1,4 @@
-//! The series of sine and cosine at an angle of up to an eighth of a turn, in units of `2^-64`.
+//! The series of sine and cosine at an angle of up to an eighth of a turn. Numbers are in units of `2^-64`.
 
 ghost use Rattle.std.specs.Prelude.{◌≡◌, ◌≤◌, ◌<◌, ◌+◌, ◌-◌, ◌*◌, ◌^◌, ℕ};
 ghost use Rattle.fixed_turns.specs.Series.{Fraction, cosine_series, sine_series};
@@ -8,7 +8,7 @@ ghost use Rattle.fixed_turns.specs.inside.Rests.{IsClose, IsLessened, IsNestedTo
 /// A quarter turn in radians, in units of `2^-63`.
 const QUARTER: u64 = 0xc90f_daa2_2168_c234;
 
-/// The higher half of a product.
+/// Returns the higher half of a product.
 #[inline(always)]
 pub(crate) fn high(a: u64, b: u64) -> u64
     ensures below { result * 2 ^ 64 ≤ a * b }
@@ -17,7 +17,7 @@ pub(crate) fn high(a: u64, b: u64) -> u64
     ((u128::from(a) * u128::from(b)) >> 64) as u64
 }
 
-/// `part` times 1 less `less`, rounded up.
+/// Returns `part` times the difference of 1 and `less`, rounded up.
 #[inline(always)]
 fn lessened(part: u64, less: u64) -> u64
     ensures { IsLessened part less result }
@@ -25,7 +25,7 @@ fn lessened(part: u64, less: u64) -> u64
     part - high(part, less)
 }
 
-/// How many quotients the sum needs.
+/// Returns how many quotients the sum needs.
 #[inline(always)]
 fn quotients(bits: u32) -> u64
     ensures { result ≡ quotients bits }
@@ -33,7 +33,8 @@ fn quotients(bits: u32) -> u64
     if bits <= 32 { 7 } else { 10 }
 }
 
-/// Quotients of `square`, nested: the first is by `first (first + 1)`.
+/// Returns `q (1 - r (1 - ..))`, where q, r and so on are `count` quotients of `square`. The first is by
+/// `first (first + 1)`, the next by `(first + 2) (first + 3)`. `first` is 1 for the cosine and 2 for the sine.
 #[inline(always)]
 fn nested(square: u64, first: u64, count: u64) -> u64
     requires least { 1 ≤ first }
@@ -51,7 +52,8 @@ fn nested(square: u64, first: u64, count: u64) -> u64
     less
 }
 
-/// Units of `2^-64` quarter turns, in radians, rounded down.
+/// Converts an angle from quarter turns to radians. The result is at most 2 units too small, and never too large.
+/// Precondition: the angle is at most an eighth of a turn.
 #[inline(always)]
 pub(crate) fn radians_of(rest: u64) -> u64
     requires { rest ≤ 2 ^ 63 }
@@ -64,7 +66,8 @@ pub(crate) fn radians_of(rest: u64) -> u64
     ((u128::from(rest) * u128::from(QUARTER)) >> 63) as u64
 }
 
-/// The sine of `x`.
+/// Returns the sine of `x` radians. If an exact angle is from `x` to `x + 2` units, the result differs from its sine by
+/// at most `2^23` units, or 8 units on words of 64 bits. Precondition: `x` is at most an eighth of a turn.
 #[inline(always)]
 pub(crate) fn sine(x: u64, bits: u32) -> u64
     requires { x ≤ 0xc90fdaa22168c234 }
@@ -74,7 +77,8 @@ pub(crate) fn sine(x: u64, bits: u32) -> u64
     lessened(x, nested(high(x, x), 2, quotients(bits)))
 }
 
-/// The cosine of `x`.
+/// Returns the cosine of `x` radians, with the same bound. It is at most 1. Precondition: `x` is at most an eighth of a
+/// turn.
 #[inline(always)]
 pub(crate) fn cosine(x: u64, bits: u32) -> u128
     requires { x ≤ 0xc90fdaa22168c234 }
@@ -85,7 +89,7 @@ pub(crate) fn cosine(x: u64, bits: u32) -> u128
     (1 << 64) - u128::from(nested(high(x, x), 1, quotients(bits)))
 }
 
-/// The quotient by `2^shift`, rounded to the nearest, a tie upward.
+/// Returns the quotient by `2^shift`, rounded to the nearest. A tie is rounded up.
 #[inline(always)]
 pub(crate) fn rounded(units: u128, shift: u32) -> u128
     requires units { units ≤ 2 ^ 64 }

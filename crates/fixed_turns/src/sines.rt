@@ -9,7 +9,7 @@ use crate::angles::{Angle, part_of_turn, parted};
 use crate::series::{cosine, radians_of, rounded, sine};
 use fixed_word::{Outcome, RawWord, Word, outcome_of};
 
-/// The sine of a rest, in units of `2^-frac`.
+/// Returns the sine of a rest, in units of `2^-frac`, rounded to the nearest.
 #[inline(always)]
 fn sine_of_rest(rest: u64, bits: u32, frac: u32) -> u128
     requires rest { rest ≤ 2 ^ 63 }
@@ -19,7 +19,7 @@ fn sine_of_rest(rest: u64, bits: u32, frac: u32) -> u128
     rounded(u128::from(sine(radians_of(rest), bits)), 64 - frac)
 }
 
-/// The cosine of a rest, likewise.
+/// Returns the cosine of a rest, in units of `2^-frac`, rounded to the nearest.
 #[inline(always)]
 fn cosine_of_rest(rest: u64, bits: u32, frac: u32) -> u128
     requires rest { rest ≤ 2 ^ 63 }
@@ -29,7 +29,8 @@ fn cosine_of_rest(rest: u64, bits: u32, frac: u32) -> u128
     rounded(cosine(radians_of(rest), bits), 64 - frac)
 }
 
-/// Whether a number with that sign, turned by quarters, lies below 0: a half turn changes the sign.
+/// Returns whether a number is below 0 after quarter turns, where `below` is whether it is so before them. A half turn
+/// changes the sign.
 #[inline(always)]
 fn turned(quarter: u64, below: bool) -> bool
     ensures same { ¬ (quarter / 2 ≡ 1) → result ≡ below }
@@ -38,7 +39,7 @@ fn turned(quarter: u64, below: bool) -> bool
     (quarter / 2 == 1) != below
 }
 
-/// The sine of quarter turns and a rest.
+/// Returns the sine of quarter turns and a rest, which is subtracted if `below`.
 #[inline(always)]
 fn outcome_at<T: Word>(quarter: u64, below: bool, rest: u64, frac: u32) -> Outcome<T>
     requires quarter { quarter ≤ 4 }
@@ -55,9 +56,9 @@ fn outcome_at<T: Word>(quarter: u64, below: bool, rest: u64, frac: u32) -> Outco
     }
 }
 
-/// The sine of `a 2^-frac` turns, in units of `2^-frac`, rounded to the nearest: it differs from the sine by half a unit
-/// and `2^-k` at most; k is 41 on words of up to 32 bits, and 61 on words of 64 bits. Sines of 0 and of quarter turns are
-/// exact.
+/// Returns the sine of `a 2^-frac` turns, in units of `2^-frac`, rounded to the nearest. The result differs from the
+/// exact sine by at most half a unit plus `2^-k`, where k is 41 on words of up to 32 bits and 61 on words of 64 bits.
+/// Sines of whole quarter turns are exact, and none is above 1 or below -1. Precondition: `frac` is at most the width.
 #[inline(always)]
 pub fn sin_turns_of<T: Word>(a: T, frac: u32) -> Outcome<T>
     requires { frac ≤ T.BITS }
@@ -67,7 +68,10 @@ pub fn sin_turns_of<T: Word>(a: T, frac: u32) -> Outcome<T>
     outcome_at(angle.quarter, angle.below, angle.rest, frac)
 }
 
-/// The cosine, likewise.
+/// Returns the cosine of `a 2^-frac` turns, in units of `2^-frac`, rounded to the nearest. The result differs from the
+/// exact cosine by at most half a unit plus `2^-k`, where k is 41 on words of up to 32 bits and 61 on words of 64 bits.
+/// Cosines of whole quarter turns are exact, and none is above 1 or below -1. Precondition: `frac` is at most the
+/// width.
 #[inline(always)]
 pub fn cos_turns_of<T: Word>(a: T, frac: u32) -> Outcome<T>
     requires { frac ≤ T.BITS }
@@ -77,7 +81,8 @@ pub fn cos_turns_of<T: Word>(a: T, frac: u32) -> Outcome<T>
     outcome_at(angle.quarter + 1, angle.below, angle.rest, frac)
 }
 
-/// Returns the sine and the cosine of an angle, of which it uses the quarter and the rest.
+/// Returns the sine and the cosine of an angle. Preconditions: its quarter turns are at most 3, and its rest is at most
+/// an eighth of a turn.
 #[inline(always)]
 fn outcomes_at<T: Word>(angle: Angle, frac: u32) -> (Outcome<T>, Outcome<T>)
     requires quarter { angle.quarter ≤ 3 }
@@ -102,7 +107,10 @@ fn outcomes_at<T: Word>(angle: Angle, frac: u32) -> (Outcome<T>, Outcome<T>)
     }
 }
 
-/// Returns the sine and the cosine of `a 2^-frac` turns, as `sin_turns_of` and `cos_turns_of` do.
+/// Returns the sine and the cosine of `a 2^-frac` turns, in units of `2^-frac`, both rounded to the nearest. Each
+/// result differs from its exact value by at most half a unit plus `2^-k`, where k is 41 on words of up to 32 bits and
+/// 61 on words of 64 bits. The results at whole quarter turns are exact, and none is above 1 or below -1. Precondition:
+/// `frac` is at most the width.
 #[inline(always)]
 pub fn sin_cos_turns_of<T: Word>(a: T, frac: u32) -> (Outcome<T>, Outcome<T>)
     requires { frac ≤ T.BITS }

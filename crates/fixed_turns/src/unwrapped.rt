@@ -1,4 +1,4 @@
-//! The `unwrapped_` calls of sines, cosines and angles of points. They are this project's own.
+//! The `unwrapped_` calls of sines, cosines and angles of points. The Rust crate `fixed` does not have them.
 
 ghost use Rattle.std.specs.Prelude.{◌≤◌, ◌≡◌, ◌≢◌, ℤ, pos};
 ghost use Rattle.fixed_word.specs.Format.{InRange};
@@ -9,33 +9,36 @@ use crate::strict::StrictTurns;
 use fixed_num::{Fixed, Held, Number};
 use fixed_word::{RawWord, Word};
 
-/// The `unwrapped_` calls of sines, cosines and angles of points. Operands of sines are bits, in units of `2^-F` turns, and
-/// angles are in the same units. The fraction has to be at most the width.
+/// The `unwrapped_` calls of sines, cosines and angles of points. Preconditions of each call: its results fit, and F is
+/// at most the width. Operands and results are in units of `2^-F`; angles are in turns.
 pub trait UnwrappedTurns: Number {
-    /// The sine of an angle in turns, rounded to the nearest, which has to fit.
+    /// Returns the sine of an angle in turns, rounded to the nearest.
     ///
-    /// The result differs from the sine by half a unit and `2^-k` at most; k is 41 on words of up to 32 bits, and 61 on
-    /// words of 64 bits. The sines of 0, 1/4, 1/2 and 3/4 are exact.
+    /// The result differs from the exact sine by at most half a unit plus `2^-k`, where k is 41 on words of up to 32
+    /// bits and 61 on words of 64 bits. Sines of whole quarter turns are exact, and none is above 1 or below -1.
+    /// Precondition: every result that these statements allow fits.
     fn unwrapped_sin_turns(self) -> Self
         requires fraction { Self.FRACTION ≤ Self.BITS }
         requires fits { (r : ℤ) → IsSine (sine_room Self.BITS) (Self.number self) Self.FRACTION r
             → InRange Self.SIGNED Self.BITS r }
         ensures { IsSine (sine_room Self.BITS) (Self.number self) Self.FRACTION (Self.number result) };
 
-    /// The cosine of an angle in turns, rounded to the nearest, which has to fit.
+    /// Returns the cosine of an angle in turns, rounded to the nearest.
     ///
-    /// The result differs from the cosine by half a unit and `2^-k` at most; k is 41 on words of up to 32 bits, and 61 on
-    /// words of 64 bits. The cosines of 0, 1/4, 1/2 and 3/4 are exact.
+    /// The result differs from the exact cosine by at most half a unit plus `2^-k`, where k is 41 on words of up to 32
+    /// bits and 61 on words of 64 bits. Cosines of whole quarter turns are exact, and none is above 1 or below -1.
+    /// Precondition: every result that these statements allow fits.
     fn unwrapped_cos_turns(self) -> Self
         requires fraction { Self.FRACTION ≤ Self.BITS }
         requires fits { (r : ℤ) → IsCosine (sine_room Self.BITS) (Self.number self) Self.FRACTION r
             → InRange Self.SIGNED Self.BITS r }
         ensures { IsCosine (sine_room Self.BITS) (Self.number self) Self.FRACTION (Self.number result) };
 
-    /// Returns the sine and the cosine of an angle in turns, rounded to the nearest. Precondition: both fit.
+    /// Returns the sine and the cosine of an angle in turns, both rounded to the nearest.
     ///
-    /// Each result differs from its exact value by half a unit and `2^-k` at most; k is 41 on words of up to 32 bits,
-    /// and 61 on words of 64 bits. Results at 0, 1/4, 1/2 and 3/4 are exact.
+    /// Each result differs from its exact value by at most half a unit plus `2^-k`, where k is 41 on words of up to 32
+    /// bits and 61 on words of 64 bits. The results at whole quarter turns are exact, and none is above 1 or below -1.
+    /// Precondition: every sine and every cosine that these statements allow fits.
     fn unwrapped_sin_cos_turns(self) -> (Self, Self)
         requires fraction { Self.FRACTION ≤ Self.BITS }
         requires sine { (r : ℤ) → IsSine (sine_room Self.BITS) (Self.number self) Self.FRACTION r
@@ -45,11 +48,12 @@ pub trait UnwrappedTurns: Number {
         ensures sine { IsSine (sine_room Self.BITS) (Self.number self) Self.FRACTION (Self.number result.0) }
         ensures cosine { IsCosine (sine_room Self.BITS) (Self.number self) Self.FRACTION (Self.number result.1) };
 
-    /// Returns the angle of the point `(x, self)` in turns, from -1/2 to 1/2, rounded to the nearest. Precondition: it
-    /// fits, and the coordinates are not both 0.
+    /// Returns the angle of the point `(x, self)` in turns, from -1/2 to 1/2, rounded to the nearest. Precondition: the
+    /// coordinates are not both 0.
     ///
-    /// The result differs from the angle by half a unit and `2^-k` radians at most; k is 40 on words of up to 32 bits, and
-    /// 60 on words of 64 bits. Multiples of 1/8 are exact if they are whole numbers of units.
+    /// The result differs from the exact angle by at most half a unit plus `2^-k` radians, where k is 40 on words of up
+    /// to 32 bits and 60 on words of 64 bits. Multiples of 1/8 are exact if they are whole numbers of units. If `self`
+    /// is 0 and x is below 0, the exact angle is 1/2. Precondition: every result that these statements allow fits.
     fn unwrapped_atan2_turns(self, x: Self) -> Self
         requires fraction { Self.FRACTION ≤ Self.BITS }
         requires some { Self.number x ≡ pos 0 → Self.number self ≢ pos 0 }
