@@ -1,4 +1,4 @@
-/* Each call over a block of 4,096 numbers, beside the same loop by hand, which it has to answer
+/* Each call over a block of 4,096 numbers, the dot product and a filter, beside the same loop by hand, which it has to answer
  * alike. bench/face.py compiles this by gcc -O3, and runs it. */
 #include "draws.h"
 #include "fixed.h"
@@ -9,36 +9,28 @@
 #define PASSES 401
 #define BY_HAND __attribute__((noipa)) static int32_t
 
-/* The three policies of one loop by hand: EXACT is the exact result of x and y in an integer that holds it. */
-#define LOOPS(label, W, WIDE, least, greatest, EXACT)                                                              \
-  BY_HAND label##_saturating(W *block, const W *others, size_t count, W k, uint32_t frac, size_t *place) {         \
+/* One loop by hand. EXACT is the exact result of x and y in an integer that holds it, WRITTEN is what the loop writes of it,
+ * and STOPS whether the loop stops there. */
+#define LOOP(label, policy, W, WIDE, EXACT, STOPS, WRITTEN)                                                        \
+  BY_HAND label##_##policy(W *block, const W *others, size_t count, W k, uint32_t frac, size_t *place) {           \
     for (size_t i = 0; i < count; i++) {                                                                           \
       const WIDE x = block[i], y = others[i], exact = (WIDE)(EXACT);                                               \
-      block[i] = (W)(exact > (WIDE)(greatest) ? (greatest) : exact < (WIDE)(least) ? (least) : exact);             \
       (void)y, (void)k, (void)frac, (void)place;                                                                   \
-    }                                                                                                              \
-    return 0;                                                                                                      \
-  }                                                                                                                \
-  BY_HAND label##_wrapping(W *block, const W *others, size_t count, W k, uint32_t frac, size_t *place) {           \
-    for (size_t i = 0; i < count; i++) {                                                                           \
-      const WIDE x = block[i], y = others[i], exact = (WIDE)(EXACT);                                               \
-      block[i] = (W)exact;                                                                                         \
-      (void)y, (void)k, (void)frac, (void)place;                                                                   \
-    }                                                                                                              \
-    return 0;                                                                                                      \
-  }                                                                                                                \
-  BY_HAND label##_checked(W *block, const W *others, size_t count, W k, uint32_t frac, size_t *place) {            \
-    for (size_t i = 0; i < count; i++) {                                                                           \
-      const WIDE x = block[i], y = others[i], exact = (WIDE)(EXACT);                                               \
-      (void)y, (void)k, (void)frac;                                                                                \
-      if (exact > (WIDE)(greatest) || exact < (WIDE)(least)) {                                                     \
+      if (STOPS) {                                                                                                 \
         *place = i;                                                                                                \
         return FIXED_OUT_OF_RANGE;                                                                                 \
       }                                                                                                            \
-      block[i] = (W)exact;                                                                                         \
+      block[i] = (W)(WRITTEN);                                                                                     \
     }                                                                                                              \
     return 0;                                                                                                      \
   }
+
+/* The three policies of a loop. */
+#define LOOPS(label, W, WIDE, least, greatest, EXACT)                                                              \
+  LOOP(label, saturating, W, WIDE, EXACT, 0,                                                                       \
+       exact > (WIDE)(greatest) ? (greatest) : exact < (WIDE)(least) ? (least) : exact)                            \
+  LOOP(label, wrapping, W, WIDE, EXACT, 0, exact)                                                                  \
+  LOOP(label, checked, W, WIDE, EXACT, exact > (WIDE)(greatest) || exact < (WIDE)(least), exact)
 
 /* One row of a policy: the least nanoseconds a number of both sides. Checked loops take numbers whose results fit. */
 #define ROW(name, W, operation, policy, number, ...)                                                               \
@@ -71,6 +63,87 @@
   ROW(name, W, operation, wrapping, FIXED_WRAPPING, __VA_ARGS__)                                                   \
   ROW(name, W, operation, checked, FIXED_CHECKED, __VA_ARGS__)
 
+/* The sum of the products by hand, in an integer that holds it. */
+#define DOT(name, W, TOTAL)                                                                                        \
+  __attribute__((noipa)) static TOTAL name##_hand_dot(const W *a, const W *b, size_t count) {                      \
+    TOTAL sum = 0;                                                                                                 \
+    for (size_t i = 0; i < count; i++) sum += (TOTAL)a[i] * b[i];                                                  \
+    return sum;                                                                                                    \
+  }                                                                                                                \
+  static void dot_##name(const W *a, const W *b, uint32_t frac) {                                                  \
+    double least = 1e18, least_by_hand = 1e18;                                                                     \
+    for (int pass = 0; pass < PASSES; pass++) {                                                                    \
+      name result = {0, 0};                                                                                        \
+      double start = now();                                                                                        \
+      const int32_t got = name##_dot(a, COUNT, b, COUNT, frac, &result);                                           \
+      double taken = now() - start;                                                                                \
+      if (taken < least) least = taken;                                                                            \
+      start = now();                                                                                               \
+      const TOTAL sum = name##_hand_dot(a, b, COUNT);                                                              \
+      taken = now() - start;                                                                                       \
+      if (taken < least_by_hand) least_by_hand = taken;                                                            \
+      if (got != FIXED_OK || result.bits != (W)(sum >> frac)) {                                                    \
+        printf(#name "_dot: the answers differ\n");                                                                \
+        exit(1);                                                                                                   \
+      }                                                                                                            \
+    }                                                                                                              \
+    printf(#name "_dot %.4f %.4f\n", least / COUNT, least_by_hand / COUNT);                                        \
+  }
+
+DOT(fixed_i8, int8_t, int64_t)
+DOT(fixed_i16, int16_t, int64_t)
+DOT(fixed_i32, int32_t, __int128)
+DOT(fixed_i64, int64_t, __int128)
+DOT(fixed_u8, uint8_t, uint64_t)
+DOT(fixed_u16, uint16_t, uint64_t)
+DOT(fixed_u32, uint32_t, unsigned __int128)
+DOT(fixed_u64, uint64_t, unsigned __int128)
+
+#define TAPS 64
+
+/* A filter of 64 taps, by hand in an integer that holds each sum. Samples before the block are those at its front. */
+#define FILTER(name, W, TOTAL)                                                                                     \
+  __attribute__((noipa)) static void name##_hand_filter(const W *taps, const W *from, W *output, uint32_t down) {  \
+    for (size_t i = TAPS; i < COUNT; i++) {                                                                        \
+      TOTAL sum = 0;                                                                                               \
+      for (size_t t = 0; t < TAPS; t++) sum += ((TOTAL)taps[t] * from[i - t]) >> down;                             \
+      output[i] = (W)sum;                                                                                          \
+    }                                                                                                              \
+  }                                                                                                                \
+  static void filter_##name(const W *from, uint32_t frac) {                                                        \
+    static W taps[TAPS], past[TAPS], output[COUNT], by_hand[COUNT];                                                \
+    const size_t count = COUNT - TAPS;                                                                             \
+    double least = 1e18, least_by_hand = 1e18;                                                                     \
+    for (int t = 0; t < TAPS; t++) taps[t] = (W)(draw() % ((W)1 << (frac - 3)));                                   \
+    for (int pass = 0; pass < PASSES; pass++) {                                                                    \
+      size_t sample, tap;                                                                                          \
+      for (int t = 0; t < TAPS; t++) past[t] = from[TAPS - 1 - t];                                                 \
+      double start = now();                                                                                        \
+      const int32_t got = name##_filter_block(taps, TAPS, past, TAPS, from + TAPS, count, output + TAPS, count,    \
+                                              frac, frac, frac, &sample, &tap);                                    \
+      double taken = now() - start;                                                                                \
+      if (taken < least) least = taken;                                                                            \
+      start = now();                                                                                               \
+      name##_hand_filter(taps, from, by_hand, frac);                                                               \
+      taken = now() - start;                                                                                       \
+      if (taken < least_by_hand) least_by_hand = taken;                                                            \
+      if (got != FIXED_OK || memcmp(output, by_hand, sizeof output) != 0) {                                        \
+        printf(#name "_filter_block: the answers differ\n");                                                       \
+        exit(1);                                                                                                   \
+      }                                                                                                            \
+    }                                                                                                              \
+    printf(#name "_filter_block %.4f %.4f\n", least / (double)count, least_by_hand / (double)count);               \
+  }
+
+FILTER(fixed_i8, int8_t, int32_t)
+FILTER(fixed_i16, int16_t, int32_t)
+FILTER(fixed_i32, int32_t, int64_t)
+FILTER(fixed_i64, int64_t, __int128)
+FILTER(fixed_u8, uint8_t, uint32_t)
+FILTER(fixed_u16, uint16_t, uint32_t)
+FILTER(fixed_u32, uint32_t, uint64_t)
+FILTER(fixed_u64, uint64_t, unsigned __int128)
+
 /* SUM holds sums, and PRODUCT products, of two numbers of the word; MORE also a product and a number. */
 #define WORD(name, W, SUM, PRODUCT, MORE, least, greatest, shift)                                                  \
   LOOPS(name##_hand_neg, W, SUM, least, greatest, -x)                                                              \
@@ -94,6 +167,8 @@
     POLICIES(name, W, mul, block, COUNT, others, COUNT, frac)                                                      \
     POLICIES(name, W, mul_add, block, COUNT, others, COUNT, k, frac)                                               \
     POLICIES(name, W, convert, block, COUNT, 2, 4, FIXED_DOWN)                                                     \
+    dot_##name(small, small + 1, frac);                                                                            \
+    filter_##name(small, frac);                                                                                    \
   }
 
 WORD(fixed_i8, int8_t, int32_t, int32_t, int32_t, INT8_MIN, INT8_MAX, 3)

@@ -1,6 +1,6 @@
 """Measures each operation of the face for C beside the same operation by hand (bench/by_hand.c), both by gcc -O2; each
-call over a block beside its loop by hand (bench/blocks.c), by gcc -O3; and where libfixmath is
-installed (Debian's libfixmath-dev), six operations beside those of libfixmath (bench/fixmath.c).
+call over a block, the dot product and a filter, beside its loop by hand (bench/blocks.c), by gcc -O3; and where
+libfixmath is installed (Debian's libfixmath-dev), six operations beside those of libfixmath (bench/fixmath.c).
 
     python3 bench/face.py [LIBRARY] [ROUNDS]
 

@@ -564,6 +564,20 @@ static void compare_near(const char *call, int32_t want, long double exact, long
                  (long double)number, least, greatest);                                                            \
   }
 
+/* The sine and the cosine by one call, beside two calls. */
+#define BOTH(name, a, f)                                                                                           \
+  {                                                                                                                \
+    word_of_##name sine = 77, cosine = 78, left_sine = 77, left_cosine = 78;                                       \
+    const int32_t got = name##_sin_cos_turns(a, f, &sine, &cosine);                                                \
+    const int32_t of_sine = name##_sin_turns(a, f, &left_sine), of_cosine = name##_cos_turns(a, f, &left_cosine);  \
+    if (of_sine != FIXED_OK || of_cosine != FIXED_OK) left_sine = 77, left_cosine = 78;                            \
+    compared++;                                                                                                    \
+    if (got != (of_sine != FIXED_OK ? of_sine : of_cosine) || sine != left_sine || cosine != left_cosine) {        \
+      printf(#name "_sin_cos_turns: code %d, %lld, %lld\n", (int)got, (long long)sine, (long long)cosine);         \
+      exit(1);                                                                                                     \
+    }                                                                                                              \
+  }
+
 /* Functions of numbers that are drawn. Those of 64 bits need a long double of as many. */
 #define CHECK_ELEMENTARY(name, word, width, from_end, to_end)                                                      \
   typedef word word_of_##name;                                                                                     \
@@ -591,6 +605,9 @@ static void compare_near(const char *call, int32_t want, long double exact, long
       NEAR(name, pow, above, power, power, a, b, f)                                                                \
       NEAR(name, sin_turns, FIXED_OK, sinl(angle) / unit + 0.5L, 1 / unit, a, f)                                   \
       NEAR(name, cos_turns, FIXED_OK, cosl(angle) / unit + 0.5L, 1 / unit, a, f)                                   \
+      NEAR(name, atan2_turns, a == 0 && b == 0 ? FIXED_NO_ANGLE : FIXED_OK,                                        \
+           atan2l(of_a, of_b) / (2 * acosl(-1)) / unit + 0.5L, (bits < 64 ? 4096 : 1) / unit, a, b, f)             \
+      BOTH(name, a, f)                                                                                             \
     }                                                                                                              \
   }
 
@@ -666,6 +683,97 @@ CHECK_ELEMENTARY(fixed_u64, uint64_t, 64, 0, UINT64_MAX)
     }                                                                                                              \
   }
 
+/* The sum of the products, beside single sums and products in a wider integer. */
+#define CHECK_DOTS(name, word, width, down, from_end, to_end)                                                      \
+  static void check_dots_##name(void) {                                                                            \
+    enum { most = 37 };                                                                                            \
+    const int64_t least = from_end, greatest = (int64_t)to_end;                                                    \
+    word a[most], b[most];                                                                                         \
+    for (int tried = 0; tried < 3000; tried++) {                                                                   \
+      const size_t count = (size_t)draw(0, most);                                                                  \
+      const uint32_t drawn = (uint32_t)draw(0, width + 1), f = drawn == 63 || drawn == 64 ? 62 : drawn;            \
+      const int by_bits = (int)draw(down, width - 1);                                                              \
+      int64_t sum = 0;                                                                                             \
+      for (size_t i = 0; i < count; i++) {                                                                         \
+        a[i] = (word)((word)draw(INT64_MIN / 2, INT64_MAX / 2) >> by_bits);                                        \
+        b[i] = (word)((word)draw(INT64_MIN / 2, INT64_MAX / 2) >> by_bits);                                        \
+        sum += (int64_t)a[i] * (int64_t)b[i];                                                                      \
+      }                                                                                                            \
+      const struct exact want = f > width ? code(FIXED_FRACTION_PAST_WIDTH) : number(floor_of(sum, power(f)));     \
+      const struct exact differ = f > width ? want : code(FIXED_COUNTS_DIFFER);                                    \
+      word bits = 77;                                                                                              \
+      name result = {bits, 99};                                                                                    \
+      int32_t got = name##_dot(a, count, b, count, f, &result);                                                    \
+      compared++;                                                                                                  \
+      if (want.code == FIXED_OK) bits = (word)want.number;                                                         \
+      const int32_t side = want.code != FIXED_OK ? 99                                                              \
+                           : want.number < least ? FIXED_BELOW                                                     \
+                           : want.number > greatest ? FIXED_ABOVE                                                  \
+                                                    : FIXED_FITS;                                                  \
+      const int good = got == want.code && result.bits == bits && result.side == side;                             \
+      got = name##_dot(a, count, b, count + 1, f, &result);                                                        \
+      if (!good || got != differ.code || result.bits != bits || result.side != side) {                             \
+        printf(#name "_dot: code %d, bits %lld, side %d\n", (int)got, (long long)result.bits, (int)result.side);   \
+        exit(1);                                                                                                   \
+      }                                                                                                            \
+    }                                                                                                              \
+  }
+
+CHECK_DOTS(fixed_i8, int8_t, 8, 0, INT8_MIN, INT8_MAX)
+CHECK_DOTS(fixed_i16, int16_t, 16, 0, INT16_MIN, INT16_MAX)
+CHECK_DOTS(fixed_i32, int32_t, 32, 4, INT32_MIN, INT32_MAX)
+CHECK_DOTS(fixed_i64, int64_t, 64, 36, INT64_MIN, INT64_MAX)
+CHECK_DOTS(fixed_u8, uint8_t, 8, 0, 0, UINT8_MAX)
+CHECK_DOTS(fixed_u16, uint16_t, 16, 0, 0, UINT16_MAX)
+CHECK_DOTS(fixed_u32, uint32_t, 32, 4, 0, UINT32_MAX)
+CHECK_DOTS(fixed_u64, uint64_t, 64, 36, 0, INT64_MAX)
+
+/* A filter over a block of samples, beside as many single steps. */
+#define CHECK_FILTER_BLOCKS(name, word, width)                                                                     \
+  static void check_filter_blocks_##name(void) {                                                                   \
+    enum { most = 20 };                                                                                            \
+    word taps[most], past[most], kept[most], input[most], output[most], expected[most];                            \
+    for (int tried = 0; tried < 3000; tried++) {                                                                   \
+      const size_t count = (size_t)draw(0, 6), samples = (size_t)draw(0, most - 1);                                \
+      const size_t past_count = count + (draw(0, 9) == 0), outputs = samples + (draw(0, 9) == 0);                  \
+      const int by_bits = (int)draw(64 - width, 63);                                                               \
+      for (size_t i = 0; i < most; i++) {                                                                          \
+        taps[i] = (word)(draw(INT64_MIN / 2, INT64_MAX / 2) * 2 >> by_bits);                                       \
+        input[i] = (word)(draw(INT64_MIN / 2, INT64_MAX / 2) * 2 >> by_bits);                                      \
+        past[i] = kept[i] = input[(i + 5) % most], output[i] = expected[i] = (word)i;                              \
+      }                                                                                                            \
+      const uint32_t f = (uint32_t)draw(0, width), g = (uint32_t)draw(0, width);                                   \
+      const uint32_t h = draw(0, 9) == 0 ? width + 1 : (uint32_t)draw(0, width);                                   \
+      size_t place = 98, tap = 99, want_place = 98, want_tap = 99;                                                 \
+      const int32_t got = name##_filter_block(taps, count, past, past_count, input, samples, output, outputs, f,   \
+                                              g, h, &place, &tap);                                                 \
+      int32_t want = h > width ? FIXED_FRACTION_PAST_WIDTH                                                         \
+                     : count == 0 ? FIXED_NO_ELEMENT                                                               \
+                     : past_count != count || outputs != samples ? FIXED_COUNTS_DIFFER                             \
+                                                                 : FIXED_OK;                                       \
+      for (size_t i = 0; i < samples && want == FIXED_OK; i++) {                                                   \
+        want = name##_filter(taps, count, kept, count, input[i], f, g, h, &expected[i], &want_tap);                \
+        if (want == FIXED_OUT_OF_RANGE) want_place = i;                                                            \
+      }                                                                                                            \
+      compared++;                                                                                                  \
+      if (got != want || place != want_place || tap != want_tap || memcmp(past, kept, sizeof past) != 0 ||         \
+          memcmp(output, expected, sizeof output) != 0) {                                                          \
+        printf(#name "_filter_block: code %d, sample %zu, tap %zu, but by single steps %d, %zu, %zu\n", (int)got,  \
+               place, tap, (int)want, want_place, want_tap);                                                       \
+        exit(1);                                                                                                   \
+      }                                                                                                            \
+    }                                                                                                              \
+  }
+
+CHECK_FILTER_BLOCKS(fixed_i8, int8_t, 8)
+CHECK_FILTER_BLOCKS(fixed_i16, int16_t, 16)
+CHECK_FILTER_BLOCKS(fixed_i32, int32_t, 32)
+CHECK_FILTER_BLOCKS(fixed_i64, int64_t, 64)
+CHECK_FILTER_BLOCKS(fixed_u8, uint8_t, 8)
+CHECK_FILTER_BLOCKS(fixed_u16, uint16_t, 16)
+CHECK_FILTER_BLOCKS(fixed_u32, uint32_t, 32)
+CHECK_FILTER_BLOCKS(fixed_u64, uint64_t, 64)
+
 #define convert_SIGNED(name, x, from, to, r) name##_convert(x, from, to, r, &result)
 #define convert_UNSIGNED(name, x, from, to, r) name##_convert_unsigned(x, from, to, r, &result)
 #define SIGNED_BLOCKS(name) \
@@ -712,10 +820,17 @@ static void compare_code(const char *call, int32_t want, int32_t got) {
     compare_code(#name "_neg_block", FIXED_OK, name##_neg_block(NULL, 0, FIXED_CHECKED, &place));                  \
     compare_code(#name "_add_block", FIXED_OK, name##_add_block(NULL, 0, NULL, 0, FIXED_WRAPPING, &place));        \
     compare_code(#name "_add_block", FIXED_COUNTS_DIFFER, name##_add_block(past, 1, NULL, 0, 0, &place));          \
+    compare_code(#name "_dot", FIXED_COUNTS_DIFFER, name##_dot(taps, 1, NULL, 0, 4, &answer));                     \
+    compare_code(#name "_filter_block", FIXED_COUNTS_DIFFER,                                                       \
+                 name##_filter_block(taps, 1, past, 1, taps, 1, NULL, 0, 4, 4, 4, &place, &place));                \
+    compare_code(#name "_filter_block", FIXED_OK,                                                                  \
+                 name##_filter_block(taps, 1, past, 1, NULL, 0, NULL, 0, 4, 4, 4, &place, &place));                \
     if (past[0] != 5 || left != 77 || place != 78 || answer.bits != 1 || answer.side != 2) {                       \
       printf(#name ": a call that returned a code has written\n");                                                 \
       exit(1);                                                                                                     \
     }                                                                                                              \
+    compare_code(#name "_dot", FIXED_OK, name##_dot(NULL, 0, NULL, 0, 4, &answer));                                \
+    compare_code(#name "_dot: bits", 0, (int32_t)answer.bits);                                                     \
   }
 
 CHECK_NULL(fixed_i8, int8_t)
@@ -741,6 +856,11 @@ int main(void) {
   check_elementary_fixed_u8(), check_elementary_fixed_u16(), check_elementary_fixed_u32(), check_elementary_fixed_u64();
   check_blocks_fixed_i8(), check_blocks_fixed_i16(), check_blocks_fixed_i32(), check_blocks_fixed_i64();
   check_blocks_fixed_u8(), check_blocks_fixed_u16(), check_blocks_fixed_u32(), check_blocks_fixed_u64();
+  check_dots_fixed_i8(), check_dots_fixed_i16(), check_dots_fixed_i32(), check_dots_fixed_i64();
+  check_dots_fixed_u8(), check_dots_fixed_u16(), check_dots_fixed_u32(), check_dots_fixed_u64();
+  check_filter_blocks_fixed_i8(), check_filter_blocks_fixed_i16(), check_filter_blocks_fixed_i32();
+  check_filter_blocks_fixed_i64(), check_filter_blocks_fixed_u8(), check_filter_blocks_fixed_u16();
+  check_filter_blocks_fixed_u32(), check_filter_blocks_fixed_u64();
   check_horner_fixed_i8(), check_horner_fixed_u8();
   check_filter_fixed_i8(), check_filter_fixed_u8();
   printf("%ld calls answer as plain C does\n", compared);

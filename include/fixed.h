@@ -58,7 +58,8 @@ enum {
   FIXED_TOO_MANY_PLACES = 13,    /* more than 64 digits after the point are requested */
   FIXED_NO_ROOM = 14,            /* the text and its '\0' do not fit into the buffer */
   FIXED_NO_POLICY = 15,          /* no policy of blocks has the number */
-  FIXED_NOT_POSITIVE = 16        /* the operand of recip_sqrt, log2, ln or log10, or the base of pow, is not positive */
+  FIXED_NOT_POSITIVE = 16,       /* the operand of recip_sqrt, log2, ln or log10, or the base of pow, is not positive */
+  FIXED_NO_ANGLE = 17            /* both coordinates of a point are 0 */
 };
 
 /* How a call that takes a rounding rounds a result that lies between two units. */
@@ -167,8 +168,8 @@ enum {
 
 /* Elementary functions, which write a number of the word to *number. Operands and results are units of 2^-frac. A call
  * fails with FIXED_FRACTION_PAST_WIDTH if frac is greater than the width of the word, otherwise with FIXED_NOT_POSITIVE
- * if the operand of a reciprocal root or a logarithm, or the base of a power, is not positive, and otherwise with
- * FIXED_OUT_OF_RANGE if the result does not fit.
+ * if the operand of a reciprocal root or a logarithm, or the base of a power, is not positive, or with FIXED_NO_ANGLE if
+ * both coordinates of a point are 0, and otherwise with FIXED_OUT_OF_RANGE if the result does not fit.
  *
  * hypot and recip_sqrt write the exact result, rounded down. Logarithms and powers are rounded down, too, with these
  * exceptions:
@@ -187,7 +188,10 @@ enum {
  * exact.
  *
  * Sines and cosines are rounded to the nearest unit. They differ from the exact value by at most half a unit plus 2^-k;
- * k is 41, or 61 in words of 64 bits. The sines and cosines of 0, 1/4, 1/2 and 3/4 are exact. */
+ * k is 41, or 61 in words of 64 bits. The sines and cosines of 0, 1/4, 1/2 and 3/4 are exact.
+ *
+ * Angles of points are rounded to the nearest unit. They differ from the exact value by at most half a unit plus 2^-k
+ * radians; k is 40, or 60 in words of 64 bits. Multiples of 1/8 are exact if they are whole numbers of units. */
 #define FIXED_ELEMENTARY(name, word)                                                                               \
   /* Writes the root of a^2 + b^2. */                                                                              \
   int32_t name##_hypot(word a, word b, word *number);                                                              \
@@ -203,7 +207,11 @@ enum {
   int32_t name##_pow(word a, word b, uint32_t frac, word *number);                                                 \
   /* These write the sine and the cosine of an angle of a turns: 1/4 is a right angle. */                          \
   int32_t name##_sin_turns(word a, uint32_t frac, word *number);                                                   \
-  int32_t name##_cos_turns(word a, uint32_t frac, word *number);
+  int32_t name##_cos_turns(word a, uint32_t frac, word *number);                                                   \
+  /* Writes both. Fails with FIXED_OUT_OF_RANGE if one of both does not fit: both are then unchanged. */           \
+  int32_t name##_sin_cos_turns(word angle, uint32_t frac, word *sine, word *cosine);                               \
+  /* Writes the angle of the point (x, y) in turns, from -1/2 to 1/2. Fails with FIXED_NO_ANGLE if both are 0. */  \
+  int32_t name##_atan2_turns(word y, word x, uint32_t frac, word *number);
 
 /* Decimal text. A call fails with FIXED_FRACTION_PAST_WIDTH if frac is greater than the width of the word, otherwise
  * with FIXED_TOO_MANY_PLACES if `places` is greater than 64, and otherwise with FIXED_NO_ROUNDING if no rounding has
@@ -252,7 +260,22 @@ enum {
    * past samples as taps: the past samples are then unchanged. Fails with FIXED_OUT_OF_RANGE if a partial sum     \
    * does not fit: *tap is then the index of the first such tap, and the sample is in front. */                    \
   int32_t name##_filter(const word *taps, size_t taps_count, word *past, size_t past_count, word sample,           \
-                        uint32_t out_frac, uint32_t coef_frac, uint32_t sample_frac, word *output, size_t *tap);
+                        uint32_t out_frac, uint32_t coef_frac, uint32_t sample_frac, word *output, size_t *tap);   \
+  /* Filters a block of samples, the oldest first, and writes the output after each to the same index of `output`: \
+   * as many steps of filter. Fails with FIXED_FRACTION_PAST_WIDTH and FIXED_NO_ELEMENT as filter does, and        \
+   * otherwise with FIXED_COUNTS_DIFFER if there are not as many past samples as taps, or not as many outputs as   \
+   * samples: nothing is then written. Fails with FIXED_OUT_OF_RANGE if a partial sum does not fit: *sample is then\
+   * the index of the first such sample, which is in front, *tap the index of its first such tap, and the outputs  \
+   * from there on are unchanged. Otherwise *sample and *tap are unchanged. */                                     \
+  int32_t name##_filter_block(const word *taps, size_t taps_count, word *past, size_t past_count,                  \
+                              const word *input, size_t input_count, word *output, size_t output_count,            \
+                              uint32_t out_frac, uint32_t coef_frac, uint32_t sample_frac, size_t *sample,         \
+                              size_t *tap);                                                                        \
+  /* Writes the sum of the products of two arrays, number by number, over 2^frac and rounded down once. Fails with \
+   * FIXED_FRACTION_PAST_WIDTH if frac is greater than the width of the word, otherwise with FIXED_COUNTS_DIFFER if\
+   * the arrays have different counts, and with FIXED_OUT_OF_RANGE only in words of 64 bits, if the sum of some    \
+   * products at the front does not fit in an integer of 128 bits. */                                              \
+  int32_t name##_dot(const word *a, size_t a_count, const word *b, size_t b_count, uint32_t frac, name *result);
 
 /* Operations on blocks: arrays whose numbers have the same number of fraction bits. A call writes the result for each
  * number of the block over that number, by a policy. A call fails with FIXED_FRACTION_PAST_WIDTH if a number of

@@ -1,5 +1,5 @@
 /* A filter: eight taps that add up to 1, over samples that step from 0 to 1 and back. Samples are units of 2^-16 and
- * taps of 2^-30. */
+ * taps of 2^-30. The first eight samples come one by one, and the others in a block. */
 #include "fixed.h"
 #include <stdio.h>
 
@@ -20,7 +20,11 @@ static int32_t pushed(int32_t past[TAPS], int32_t sample) {
 }
 
 int main(void) {
-  int32_t past[TAPS] = {0};
-  for (int t = 0; t < 16; t++) printf("%d\n", (int)pushed(past, t < 8 ? 65536 : 0));
+  int32_t past[TAPS] = {0}, output[8];
+  const int32_t input[8] = {0};
+  size_t sample, tap;
+  for (int t = 0; t < 8; t++) printf("%d\n", (int)pushed(past, 65536));
+  if (fixed_i32_filter_block(taps, TAPS, past, TAPS, input, 8, output, 8, 16, 30, 16, &sample, &tap) != FIXED_OK) return 1;
+  for (int t = 0; t < 8; t++) printf("%d\n", (int)output[t]);
   return 0;
 }

@@ -7,12 +7,13 @@ use std::ops::Range;
 const WORDS: [&str; 8] = ["i8", "i16", "i32", "i64", "u8", "u16", "u32", "u64"];
 
 /// The exports `fixed_WORD_NAME` that take slices, and the names of the slices.
-const SLICES: [(&str, &[&str]); 13] = [
+const SLICES: [(&str, &[&str]); 15] = [
     ("parse", &["decimal"]),
     ("print", &["buffer"]),
     ("print_shortest", &["buffer"]),
     ("horner", &["coefs"]),
     ("filter", &["taps", "past"]),
+    ("filter_block", &["taps", "past", "input", "output"]),
     ("neg_block", &["block"]),
     ("mul_int_block", &["block"]),
     ("scale_block", &["block"]),
@@ -21,6 +22,7 @@ const SLICES: [(&str, &[&str]); 13] = [
     ("sub_block", &["block", "others"]),
     ("mul_block", &["block", "others"]),
     ("mul_add_block", &["block", "others"]),
+    ("dot", &["a", "b"]),
 ];
 
 /// The same for the exports that only signed words have.

@@ -373,7 +373,7 @@ fn strict_calls_by_the_path_of_their_trait() {
 
 /// What the face for C is with a change in the file of one word.
 fn face(name: &str, old: &str, new: &str) -> Result<String, String> {
-    let planted = [("fixed_c/src/signed_8.rt", old, new)];
+    let planted = [("fixed_c/src/signed_8_functions.rt", old, new)];
     with_pointers(&of_crates(name, &["c"], &planted)?)
 }
 
@@ -393,7 +393,7 @@ fn slices_of_exports() {
         whole
             .matches("unsafe { crate::slice_mut(past, past_count) }")
             .count(),
-        8
+        16
     );
 }
 

@@ -1,8 +1,9 @@
 -- Sums of the products at the front.
-use Rattle.std.proofs.Common.{◌≡◌, ◌+◌, ◌-◌, ◌<◌, ◌≤◌, ◌^◌, ◌*◌, ◌≤ℤ◌, ℕ, ℤ, zero, suc, Bool, true, false, List, [], ◌∷◌, map, take, length, get_or, pos, refl, ap, sym, ◌∙◌, arith}
+use Rattle.std.proofs.Common.{◌≡◌, ◌+◌, ◌-◌, ◌<◌, ◌≤◌, ◌^◌, ◌*◌, ◌≤ℤ◌, ℕ, ℤ, zero, suc, Bool, true, false, List, [], ◌∷◌, map, take, drop, length, get_or, pos, refl, ap, sym, ◌∙◌, arith, mul-le-mul, mul-le-mul_right}
 use Rattle.std.specs.Prelude.{◌+ℤ◌, ◌*ℤ◌, nat_abs}
-use Rattle.std.proofs.lemmas.Int.{ints}
-use Rattle.std.proofs.lemmas.List.{length-map}
+use Rattle.std.proofs.lemmas.Int.{ints, unsigned_abs-mul}
+use Rattle.std.proofs.Math.Nat.{pow-le-pow_right}
+use Rattle.std.proofs.lemmas.List.{length-drop, length-map, length-take-le}
 use Rattle.fixed_word.specs.Format.{InRange}
 use Rattle.fixed_block.specs.Dots.{SumsFit, partial_sum, products, total}
 
@@ -62,3 +63,58 @@ pub whole_sum : {A : Type 0} (value : A → ℤ) (a b : List A) → length a ≡
 whole_sum value [] b e = refl
 whole_sum value (u ∷ a) [] e = absurd (omega arith)
 whole_sum value (u ∷ a) (v ∷ b) e = ap (λ (z : ℤ). (value u *ℤ value v) +ℤ z) (whole_sum value a b (omega arith))
+
+-- ---- sums without a test
+pub product_size : (x y : ℤ) (m : ℕ) → nat_abs x ≤ m → nat_abs y ≤ m → nat_abs (x *ℤ y) ≤ m * m
+product_size x y m p q = let is = unsigned_abs-mul x y in let le = mul-le-mul p q in omega (arith, is, le)
+
+pub sum_size : (s p : ℤ) (i m : ℕ) → nat_abs s ≤ i * m → nat_abs p ≤ m → nat_abs (s +ℤ p) ≤ (i + 1) * m
+sum_size s p i m l e = omega (arith, ints)
+
+pub halves_step : (high low more_high more_low s p : ℤ) → (high *ℤ pos 65536) +ℤ low ≡ s → (more_high *ℤ pos 65536) +ℤ more_low ≡ p → ((high +ℤ more_high) *ℤ pos 65536) +ℤ (low +ℤ more_low) ≡ s +ℤ p
+halves_step high low more_high more_low s p e f = omega (arith, ints)
+
+width_size : (n : ℕ) (v : ℤ) → n ≤ 32 → InRange true n v → nat_abs v ≤ 2147483648
+width_size n v l r = let less : n - 1 ≤ 31 = omega arith in let p : 2 ^ (n - 1) ≤ 2 ^ 31 = pow-le-pow_right (omega arith) less in let low = r.0 in let high = r.1 in omega (arith, ints, p, low, high)
+
+pub word_size : (s : Bool) (n : ℕ) (v : ℤ) → s ≡ true → n ≤ 32 → InRange s n v → nat_abs v ≤ 2147483648
+word_size true n v e l r = width_size n v l r
+word_size false n v e l r = absurd (cc)
+
+-- ---- a sum over chunks
+front_sum : {A : Type 0} (value : A → ℤ) (a b : List A) (k : ℕ) → partial_sum (map value (take k a)) (map value (take k b)) k ≡ partial_sum (map value a) (map value b) k
+front_sum value a b zero = refl
+front_sum value [] b (suc k) = refl
+front_sum value (u ∷ a) [] (suc k) = refl
+front_sum value (u ∷ a) (v ∷ b) (suc k) = ap (λ (z : ℤ). (value u *ℤ value v) +ℤ z) (front_sum value a b k)
+
+chunk_next : {A : Type 0} (value : A → ℤ) (a b : List A) (i k : ℕ) → i ≤ length a → length a ≡ length b
+    → partial_sum (map value a) (map value b) (i + k) ≡ partial_sum (map value a) (map value b) i +ℤ partial_sum (map value (take k (drop i a))) (map value (take k (drop i b))) k
+chunk_next value a b zero k l e =
+    let none : 0 + k ≡ k = omega arith in
+    ap (λ j. partial_sum (map value a) (map value b) j) none ∙ sym (start _ _ (front_sum value a b k))
+  where
+    start : (y z : ℤ) → y ≡ z → pos 0 +ℤ y ≡ z
+    start y z e = omega (arith, ints)
+chunk_next value [] b (suc i) k l e = absurd (omega arith)
+chunk_next value (u ∷ a) [] (suc i) k l e = absurd (omega arith)
+chunk_next value (u ∷ a) (v ∷ b) (suc i) k l e =
+    let more : suc i + k ≡ suc (i + k) = omega arith in
+    ap (λ j. partial_sum (map value (u ∷ a)) (map value (v ∷ b)) j) more ∙ grown (value u *ℤ value v) _ _ _ (chunk_next value a b i k (omega arith) (omega arith))
+
+-- a chunk as a loop slices it
+pub chunk_step : {A : Type 0} (value : A → ℤ) (a b : List A) (i k : ℕ) (s : ℤ) → i + k ≤ length a → length a ≡ length b
+    → s ≡ partial_sum (map value (take (i + k - i) (drop i a))) (map value (take (i + k - i) (drop i b))) (length (take (i + k - i) (drop i a)))
+    → partial_sum (map value a) (map value b) (i + k) ≡ partial_sum (map value a) (map value b) i +ℤ s
+chunk_step value a b i k s l e is =
+    let same : i + k - i ≡ k = omega arith in
+    let long : length (take k (drop i a)) ≡ k = length-take-le k (drop i a) (omega (arith, length-drop i a)) in
+    let sum : s ≡ partial_sum (map value (take k (drop i a))) (map value (take k (drop i b))) k = rw (same, long) at is in
+    chunk_next value a b i k (omega arith) e ∙ ap (λ (z : ℤ). partial_sum (map value a) (map value b) i +ℤ z) (sym sum)
+
+pub chunk_size : (s p : ℤ) (i k m : ℕ) → nat_abs s ≤ i * m → nat_abs p ≤ m → 1 ≤ k → nat_abs (s +ℤ p) ≤ (i + k) * m
+chunk_size s p i k m l e one =
+    let more : i + 1 ≤ i + k = omega arith in
+    let step = sum_size s p i m l e in
+    let le : (i + 1) * m ≤ (i + k) * m = mul-le-mul_right m more in
+    omega (arith, step, le)

@@ -4,3 +4,4 @@ pub mod EndsLeft
 pub mod PlacesLeft
 pub mod Unread
 pub mod NumbersLeft
+pub mod DotsLeft

@@ -1,13 +1,14 @@
--- The number that a call of an elementary function leaves.
+-- The numbers that a call of an elementary function leaves.
 use Rattle.std.proofs.Common.{◌≡◌, ◌⊎◌, ◌≤◌, ◌<ℤ◌, ℕ, ℤ, Bool, true, Option, Some, None, refl, ap, sym, ◌∙◌, inl, inr, pos, arith}
 use Rattle.std.specs.Prelude.{int_lt}
 use Rattle.std.specs.Option.{option_map}
 use Rattle.std.proofs.lemmas.Int.{ints}
 use Rattle.fixed_word.specs.Format.{highest}
 use Rattle.fixed_word.specs.Policies.{checked}
+use Rattle.fixed_turns.specs.Sines.{both}
 use Rattle.fixed_c.specs.declared.answer.Code.TheVariants.{OutOfRange}
 use Rattle.fixed_c.specs.Answers.{at_fraction, row_or}
-use Rattle.fixed_c.specs.Near.{Allowed, NearAnswers, NumberAnswers, allowed, positive}
+use Rattle.fixed_c.specs.Near.{Allowed, NearAnswers, NearPairAnswers, NumberAnswers, PairAnswers, allowed, both_or, positive}
 use Rattle.fixed_c.proofs.Choices.{first, fraction_is}
 
 pub number_left : {T : Type 0} (value : T → ℤ) (row : Option ℤ) (found old : T) → option_map value (Some found) ≡ row → NumberAnswers value (row_or OutOfRange row) old found (pos 0)
@@ -30,6 +31,11 @@ same_left s n x y found f (inr h) = f ∙ (sym (past s n y h.0) ∙ past s n x h
 pub near_left : {T : Type 0} (value : T → ℤ) (s : Bool) (n : ℕ) (given : Allowed) (Is : ℤ → Type 0) (r : ℤ) (old new : T) (code : ℤ) → given ≡ allowed → Is r → NumberAnswers value (row_or OutOfRange (checked s n (Some r))) old new code → NearAnswers value s n given Is old new code
 unfolding NearAnswers
 near_left value s n given Is r old new code e is left = rw e (r, is, left)
+
+pub pair_left : {T : Type 0} (value : T → ℤ) (s : Bool) (n : ℕ) (given : Allowed) (IsFirst IsSecond : ℤ → Type 0) (x y : ℤ) (old new : T × T) (code : ℤ) → given ≡ allowed → IsFirst x → IsSecond y
+    → PairAnswers value (both_or OutOfRange (both (checked s n (Some x)) (checked s n (Some y)))) old new code → NearPairAnswers value s n given IsFirst IsSecond old new code
+unfolding NearPairAnswers
+pair_left value s n given IsFirst IsSecond x y old new code e first second left = rw e (x, y, first, second, left)
 
 pub positive_is : (n f : ℕ) (a : ℤ) → f ≤ n → int_lt (pos 0) a ≡ true → at_fraction n f (positive a) ≡ allowed
 unfolding positive

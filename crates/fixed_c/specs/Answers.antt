@@ -5,7 +5,7 @@ use Rattle.fixed_word.specs.declared.outcome.Side.TheVariants.{Fits, Above, Belo
 use Rattle.fixed_word.specs.Format.{wrap}
 use Rattle.fixed_word.specs.Standing.{side_of}
 use Rattle.fixed_c.specs.declared.answer.Code.{Code}
-use Rattle.fixed_c.specs.declared.answer.Code.TheVariants.{FractionPastWidth, ZeroDivisor, NegativeRoot, EndsExchanged, OutOfRange, NoElement, CountsDiffer, NoRounding, NotFinite, NoDigits, InvalidDigit, TooManyPoints, TooManyPlaces, NoRoom, NoPolicy, NotPositive}
+use Rattle.fixed_c.specs.declared.answer.Code.TheVariants.{FractionPastWidth, ZeroDivisor, NegativeRoot, EndsExchanged, OutOfRange, NoElement, CountsDiffer, NoRounding, NotFinite, NoDigits, InvalidDigit, TooManyPoints, TooManyPlaces, NoRoom, NoPolicy, NotPositive, NoAngle}
 
 -- the numbers of codes and of sides
 abbrev pub code_number : Code → ℤ
@@ -25,6 +25,7 @@ code_number TooManyPlaces = pos 13
 code_number NoRoom = pos 14
 code_number NoPolicy = pos 15
 code_number NotPositive = pos 16
+code_number NoAngle = pos 17
 
 abbrev pub side_number : Side → ℤ
 side_number Fits = pos 0

@@ -3,9 +3,11 @@ pub mod Intervals
 pub mod Places
 pub mod Polynomials
 pub mod Filters
+pub mod FilterBlocks
 pub mod Words
 pub mod Roundings
 pub mod Texts
 pub mod Blocks
 pub mod Near
+pub mod Dots
 pub mod inside

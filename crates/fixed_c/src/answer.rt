@@ -41,6 +41,8 @@ pub enum Code {
     NoPolicy,
     /// The operand of a reciprocal root or a logarithm, or the base of a power, is not positive.
     NotPositive,
+    /// Both coordinates of a point are 0: it has no angle.
+    NoAngle,
 }
 
 impl Code {
@@ -66,6 +68,7 @@ impl Code {
             Code::NoRoom => 14,
             Code::NoPolicy => 15,
             Code::NotPositive => 16,
+            Code::NoAngle => 17,
         }
     }
 }

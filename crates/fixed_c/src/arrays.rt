@@ -1,10 +1,11 @@
-//! A polynomial, and one step of a filter, on arrays of the caller.
-#![tactic(auto, unfolding(crate::specs::Answers::at_fraction, crate::specs::Places::with_some, crate::specs::Places::with_as_many, crate::specs::Places::PlaceAnswers, crate::specs::Polynomials::horner_in, crate::specs::Filters::taking, crate::specs::Filters::output_in, crate::specs::Filters::past_after))]
+//! A polynomial, and filters, on arrays of the caller.
+#![tactic(auto, unfolding(crate::specs::Answers::at_fraction, crate::specs::Places::with_some, crate::specs::Places::with_as_many, crate::specs::Places::PlaceAnswers, crate::specs::Polynomials::horner_in, crate::specs::Filters::taking, crate::specs::Filters::output_in, crate::specs::Filters::past_after, crate::specs::FilterBlocks::taking_block, crate::specs::FilterBlocks::TakenAnswers, crate::specs::FilterBlocks::EndAnswers))]
 
 ghost use Rattle.std.specs.Prelude.{◌≡◌};
 ghost use Rattle.fixed_c.specs.Places.{PlaceAnswers};
 ghost use Rattle.fixed_c.specs.Polynomials.{horner_in};
 ghost use Rattle.fixed_c.specs.Filters.{filter_of, output_in, past_after};
+ghost use Rattle.fixed_c.specs.FilterBlocks.{FilterBlockAnswers, left_of};
 
 use crate::answer::Code;
 use fixed_filter::{Reply, Shape, output_of, put_in_front};
@@ -80,6 +81,46 @@ pub(crate) fn filter<T: Word>(
         }
         Reply::Overflow(place) => {
             *tap = place;
+            Code::OutOfRange.number()
+        }
+    }
+}
+
+/// Filters a block of samples, the oldest first, writes the output after each, and returns 0: as many steps of
+/// [`filter`].
+///
+/// Fails with `FractionPastWidth` if a number of fraction bits is greater than the width, with `NoElement` if there is
+/// no tap, and with `CountsDiffer` if there are not as many past samples as taps, or not as many outputs as samples:
+/// nothing is then written. Fails with `OutOfRange` if a partial sum does not fit: `sample` is then the index of the
+/// first such sample, which is in front of the past samples, and `tap` the index of its first such tap. The outputs
+/// from there on are unchanged.
+#[inline]
+pub(crate) fn filter_block<T: Word>(
+    taps: &[T],
+    past: &mut [T],
+    input: &[T],
+    output: &mut [T],
+    shape: Shape,
+    sample: &mut usize,
+    tap: &mut usize,
+) -> i32
+    ensures { FilterBlockAnswers T.value T.SIGNED T.BITS shape taps.now input.now
+        (left_of past.old output.old sample.old tap.old) (left_of past.new output.new sample.new tap.new) result }
+{
+    if shape.out_frac > T::BITS || shape.coef_frac > T::BITS || shape.sample_frac > T::BITS {
+        return Code::FractionPastWidth.number();
+    }
+    if taps.is_empty() {
+        return Code::NoElement.number();
+    }
+    if taps.len() != past.len() || input.len() != output.len() {
+        return Code::CountsDiffer.number();
+    }
+    match fixed_filter::filter_block(&shape, taps, past, input, output) {
+        Ok(()) => 0,
+        Err(stop) => {
+            *sample = stop.sample;
+            *tap = stop.tap;
             Code::OutOfRange.number()
         }
     }

@@ -1,8 +1,8 @@
-//! Lengths, reciprocal roots, logarithms, powers, sines and cosines.
+//! Lengths, reciprocal roots, logarithms, powers, sines, cosines and angles.
 //!
 //! Operands and results are bits, in units of `2^-frac`. Each function writes a number of the word and returns 0. If it
 //! fails, the number is unchanged.
-#![tactic(auto, unfolding(crate::specs::Answers::at_fraction, crate::specs::Answers::row_or, crate::specs::Near::positive, crate::specs::Near::NumberAnswers, crate::specs::Near::NearAnswers))]
+#![tactic(auto, unfolding(crate::specs::Answers::at_fraction, crate::specs::Answers::row_or, crate::specs::Near::positive, crate::specs::Near::off_origin, crate::specs::Near::NumberAnswers, crate::specs::Near::NearAnswers, crate::specs::Near::both_or, crate::specs::Near::PairAnswers, crate::specs::Near::NearPairAnswers))]
 
 ghost use Rattle.std.specs.Prelude.{◌≡◌, ℤ, Some, int_lt, pos};
 ghost use Rattle.fixed_word.specs.Policies.{checked};
@@ -13,15 +13,16 @@ ghost use Rattle.fixed_elementary.specs.Log2.{IsLog2Of, log2_room};
 ghost use Rattle.fixed_natural.specs.Exps.{IsExp};
 ghost use Rattle.fixed_natural.specs.Logs.{IsLn, IsLog10, log_room};
 ghost use Rattle.fixed_natural.specs.Pows.{IsPow};
-ghost use Rattle.fixed_turns.specs.Sines.{IsCosine, IsSine, sine_room};
+ghost use Rattle.fixed_turns.specs.Angles.{IsAngleOf, turn_room};
+ghost use Rattle.fixed_turns.specs.Sines.{IsCosine, IsSine, both, sine_room};
 ghost use Rattle.fixed_c.specs.declared.answer.Code.TheVariants.{OutOfRange};
 ghost use Rattle.fixed_c.specs.Answers.{at_fraction, row_or};
-ghost use Rattle.fixed_c.specs.Near.{NearAnswers, NumberAnswers, allowed, positive};
+ghost use Rattle.fixed_c.specs.Near.{NearAnswers, NearPairAnswers, NumberAnswers, PairAnswers, allowed, both_or, off_origin, positive};
 
 use crate::answer::Code;
 use fixed_elementary::{exp2_of, hypot_of, log2_of, recip_sqrt_of};
 use fixed_natural::{exp_of, ln_of, log10_of, pow_of};
-use fixed_turns::{cos_turns_of, sin_turns_of};
+use fixed_turns::{atan2_turns_of, cos_turns_of, sin_cos_turns_of, sin_turns_of};
 use fixed_word::{Outcome, RawWord, Word, checked_of};
 
 /// Returns whether `a` is positive.
@@ -47,6 +48,26 @@ fn leave<T: Word>(outcome: Outcome<T>, number: &mut T) -> i32
             0
         }
         None => Code::OutOfRange.number(),
+    }
+}
+
+/// Writes the numbers that both outcomes stand for, and returns 0. If one of both does not fit, leaves both numbers
+/// unchanged, and returns the number of `OutOfRange`.
+#[inline]
+fn leave_both<T: Word>(outcomes: (Outcome<T>, Outcome<T>), first: &mut T, second: &mut T) -> i32
+    ensures { (x y : ℤ) → StandsFor T.value T.SIGNED T.BITS x outcomes.0
+        → StandsFor T.value T.SIGNED T.BITS y outcomes.1
+        → PairAnswers T.value
+        (both_or OutOfRange (both (checked T.SIGNED T.BITS (Some x)) (checked T.SIGNED T.BITS (Some y))))
+        (first.old, second.old) (first.new, second.new) result }
+{
+    match (checked_of(outcomes.0), checked_of(outcomes.1)) {
+        (Some(one), Some(other)) => {
+            *first = one;
+            *second = other;
+            0
+        }
+        _ => Code::OutOfRange.number(),
     }
 }
 
@@ -204,4 +225,38 @@ pub(crate) fn cos_turns<T: Word>(a: T, frac: u32, number: &mut T) -> i32
         return Code::FractionPastWidth.number();
     }
     leave(cos_turns_of(a, frac), number)
+}
+
+/// Writes the sine and the cosine of `a / 2^frac` turns, as `sin_turns` and `cos_turns` do. Fails with
+/// `FractionPastWidth` if `frac` is greater than the width, and with `OutOfRange` if one of both does not fit: both
+/// numbers are then unchanged.
+#[inline]
+pub(crate) fn sin_cos_turns<T: Word>(a: T, frac: u32, sine: &mut T, cosine: &mut T) -> i32
+    ensures { NearPairAnswers T.value T.SIGNED T.BITS (at_fraction T.BITS frac allowed)
+        (IsSine (sine_room T.BITS) (T.value a) frac) (IsCosine (sine_room T.BITS) (T.value a) frac)
+        (sine.old, cosine.old) (sine.new, cosine.new) result }
+{
+    if frac > T::BITS {
+        return Code::FractionPastWidth.number();
+    }
+    leave_both(sin_cos_turns_of(a, frac), sine, cosine)
+}
+
+/// Writes the angle of the point `(x, y)` in units of `2^-frac` turns, from -1/2 to 1/2 turns, rounded to the nearest.
+/// It differs from the exact angle by at most half a unit plus `2^-k` radians, where k is 40 on words of up to 32 bits
+/// and 60 on words of 64 bits. Multiples of 1/8 are exact if they are whole numbers of units. Fails with
+/// `FractionPastWidth` if `frac` is greater than the width, with `NoAngle` if both coordinates are 0, and with
+/// `OutOfRange` if the number does not fit.
+#[inline]
+pub(crate) fn atan2_turns<T: Word>(y: T, x: T, frac: u32, number: &mut T) -> i32
+    ensures { NearAnswers T.value T.SIGNED T.BITS (at_fraction T.BITS frac (off_origin (T.value y) (T.value x)))
+        (IsAngleOf (turn_room T.BITS) (T.value x) (T.value y) frac) number.old number.new result }
+{
+    if frac > T::BITS {
+        return Code::FractionPastWidth.number();
+    }
+    if y.magnitude() == 0 && x.magnitude() == 0 {
+        return Code::NoAngle.number();
+    }
+    leave(atan2_turns_of(y, x, frac), number)
 }

@@ -21,6 +21,7 @@ mod arrays;
 mod blocks;
 mod calls;
 mod conversions;
+mod dots;
 mod elementary;
 mod intervals;
 mod one_sign;

@@ -23,18 +23,17 @@ ghost use Rattle.fixed_block.specs.Blocks.{of_pairs};
 ghost use Rattle.fixed_c.specs.Answers.{ValueAnswers, at_fraction, row_or};
 ghost use Rattle.fixed_c.specs.Blocks.{BlockAnswers, at_policy};
 ghost use Rattle.fixed_c.specs.inside.Calls.{IsResultOf, given};
-ghost use Rattle.fixed_c.specs.Filters.{filter_of, fractions, output_in, past_after};
+ghost use Rattle.fixed_c.specs.Dots.{IsDot};
 ghost use Rattle.fixed_c.specs.Intervals.{difference_in, from_to, product_in, quotient_in, root_in, sum_in};
-ghost use Rattle.fixed_c.specs.Places.{PlaceAnswers, with_as_many};
-ghost use Rattle.fixed_c.specs.Polynomials.{horner_in};
+ghost use Rattle.fixed_c.specs.Near.{allowed};
+ghost use Rattle.fixed_c.specs.Places.{with_as_many};
 ghost use Rattle.fixed_c.specs.Roundings.{at_rounding};
 ghost use Rattle.fixed_c.specs.Texts.{TextAnswers, at_places, or_code};
 ghost use Rattle.fixed_c.specs.Words.{AnswersI32, EndsI32Answers};
 
 use crate::answer::{Code, side_of};
 use crate::calls::{Call, result_of};
-use crate::{arrays, blocks, conversions, intervals, one_sign, texts};
-use fixed_filter::Shape;
+use crate::{blocks, conversions, dots, intervals, one_sign, texts};
 use fixed_word::Outcome;
 
 /// The result of an operation.
@@ -591,49 +590,6 @@ pub extern "C" fn fixed_i32_sqrt_in(a_low: i32, a_high: i32, frac: u32, answer: 
     intervals::sqrt(a_low, a_high, frac, &mut answer.low, &mut answer.high)
 }
 
-/// Writes the value at `x` of the polynomial with these coefficients, the lowest first. Fails with `FractionPastWidth`,
-/// `NoElement` or `OutOfRange`, which writes the index of the coefficient whose step does not fit.
-#[unsafe(no_mangle)]
-pub extern "C" fn fixed_i32_horner(
-    coefs: &[i32],
-    x: i32,
-    frac: u32,
-    value: &mut i32,
-    step: &mut usize,
-) -> i32
-    ensures { PlaceAnswers (λ x. x) (horner_in (λ x. x) true 32 frac x coefs.now)
-        (value.old, step.old) (value.new, step.new) result }
-{
-    arrays::horner(coefs, x, frac, value, step)
-}
-
-/// Puts the sample in front of the past samples, drops the oldest, and writes the output. Fails with
-/// `FractionPastWidth`, `NoElement` or `CountsDiffer`, and the past samples are unchanged; or with `OutOfRange`, which
-/// takes the sample, and writes the index of the tap whose partial sum does not fit.
-#[unsafe(no_mangle)]
-pub extern "C" fn fixed_i32_filter(
-    taps: &[i32],
-    past: &mut [i32],
-    sample: i32,
-    out_frac: u32,
-    coef_frac: u32,
-    sample_frac: u32,
-    output: &mut i32,
-    tap: &mut usize,
-) -> i32
-    ensures answer { PlaceAnswers (λ x. x)
-        (output_in (λ x. x) true 32 (fractions out_frac coef_frac sample_frac) sample (filter_of taps.now past.old))
-        (output.old, tap.old) (output.new, tap.new) result }
-    ensures past { past.new ≡ past_after 32 (fractions out_frac coef_frac sample_frac) sample (filter_of taps.now past.old) }
-{
-    let shape = Shape {
-        out_frac,
-        coef_frac,
-        sample_frac,
-    };
-    arrays::filter(taps, past, sample, shape, output, tap)
-}
-
 /// Writes `-x` over each x of the block. Fails with `NoPolicy` or `OutOfRange`.
 #[unsafe(no_mangle)]
 pub extern "C" fn fixed_i32_neg_block(block: &mut [i32], policy: u32, place: &mut usize) -> i32
@@ -770,4 +726,15 @@ pub extern "C" fn fixed_i32_mul_add_block(
         (block.old, place.old) (block.new, place.new) result }
 {
     blocks::mul_add(block, others, by, frac, policy, place)
+}
+
+/// Writes the sum of the products of the numbers at the same index, over `2^frac` and rounded down once. Fails with
+/// `FractionPastWidth` or `CountsDiffer`; or with `OutOfRange` if a partial sum is far too large, as [`dots`] states.
+#[unsafe(no_mangle)]
+pub extern "C" fn fixed_i32_dot(a: &[i32], b: &[i32], frac: u32, answer: &mut AnswerI32) -> i32
+    ensures { (found : Result ℤ Code)
+        × IsDot true (at_fraction 32 frac (with_as_many a.now b.now allowed)) (map (λ x. x) a.now) (map (λ x. x) b.now) frac found
+        × AnswersI32 found answer.old answer.new result }
+{
+    answer.leave(dots::dot(a, b, frac))
 }

@@ -1,8 +1,8 @@
-//! The elementary functions of `u32`.
+//! The elementary functions, polynomials and filters of `u32`.
 //!
 //! Operands and results are bits, in units of `2^-frac`. A call returns 0 and writes a number, or it fails: it returns
-//! the number of a code and leaves the number unchanged. If several codes apply, it returns the first one that its
-//! comment names. [`elementary`] states the bounds.
+//! the number of a code and leaves the number unchanged, unless its comment says otherwise. If several codes apply, it
+//! returns the first one that its comment names. [`elementary`] states the bounds.
 
 ghost use Rattle.std.specs.Prelude.{◌≡◌, false, pos};
 ghost use Rattle.fixed_elementary.specs.ElementaryRows.{exact_hypot, exact_recip_sqrt};
@@ -11,11 +11,17 @@ ghost use Rattle.fixed_elementary.specs.Log2.{IsLog2Of, log2_room};
 ghost use Rattle.fixed_natural.specs.Exps.{IsExp};
 ghost use Rattle.fixed_natural.specs.Logs.{IsLn, IsLog10, log_room};
 ghost use Rattle.fixed_natural.specs.Pows.{IsPow};
+ghost use Rattle.fixed_turns.specs.Angles.{IsAngleOf, turn_room};
 ghost use Rattle.fixed_turns.specs.Sines.{IsCosine, IsSine, sine_room};
 ghost use Rattle.fixed_c.specs.Answers.{at_fraction};
-ghost use Rattle.fixed_c.specs.Near.{NearAnswers, allowed, positive};
+ghost use Rattle.fixed_c.specs.FilterBlocks.{FilterBlockAnswers, left_of};
+ghost use Rattle.fixed_c.specs.Filters.{filter_of, fractions, output_in, past_after};
+ghost use Rattle.fixed_c.specs.Near.{NearAnswers, NearPairAnswers, allowed, off_origin, positive};
+ghost use Rattle.fixed_c.specs.Places.{PlaceAnswers};
+ghost use Rattle.fixed_c.specs.Polynomials.{horner_in};
 
-use crate::elementary;
+use crate::{arrays, elementary};
+use fixed_filter::Shape;
 
 /// Writes the length of the pair `(a, b)`, which is the root of `a^2 + b^2`, rounded down. Fails with `OutOfRange`.
 #[unsafe(no_mangle)]
@@ -124,4 +130,101 @@ pub extern "C" fn fixed_u32_cos_turns(a: u32, frac: u32, number: &mut u32) -> i3
         number.old number.new result }
 {
     elementary::cos_turns(a, frac, number)
+}
+
+/// Writes the sine and the cosine of `angle / 2^frac` turns, as `fixed_u32_sin_turns` and `fixed_u32_cos_turns` do. Fails
+/// with `FractionPastWidth`, or with `OutOfRange` if one of both does not fit: both numbers are then unchanged.
+#[unsafe(no_mangle)]
+pub extern "C" fn fixed_u32_sin_cos_turns(
+    angle: u32,
+    frac: u32,
+    sine: &mut u32,
+    cosine: &mut u32,
+) -> i32
+    ensures { NearPairAnswers pos false 32
+        (at_fraction 32 frac allowed) (IsSine (sine_room 32) (pos angle) frac) (IsCosine (sine_room 32) (pos angle) frac)
+        (sine.old, cosine.old) (sine.new, cosine.new) result }
+{
+    elementary::sin_cos_turns(angle, frac, sine, cosine)
+}
+
+/// Writes the angle of the point `(x, y)` in units of `2^-frac` turns, from -1/2 to 1/2 turns, rounded to the nearest
+/// within the bound of `IsAngleOf`. Fails with `FractionPastWidth`, `NoAngle` or `OutOfRange`.
+#[unsafe(no_mangle)]
+pub extern "C" fn fixed_u32_atan2_turns(y: u32, x: u32, frac: u32, number: &mut u32) -> i32
+    ensures { NearAnswers pos false 32
+        (at_fraction 32 frac (off_origin (pos y) (pos x))) (IsAngleOf (turn_room 32) (pos x) (pos y) frac)
+        number.old number.new result }
+{
+    elementary::atan2_turns(y, x, frac, number)
+}
+
+/// Writes the value at `x` of the polynomial with these coefficients, the lowest first. Fails with `FractionPastWidth`,
+/// `NoElement` or `OutOfRange`, which writes the index of the coefficient whose step does not fit.
+#[unsafe(no_mangle)]
+pub extern "C" fn fixed_u32_horner(
+    coefs: &[u32],
+    x: u32,
+    frac: u32,
+    value: &mut u32,
+    step: &mut usize,
+) -> i32
+    ensures { PlaceAnswers pos (horner_in pos false 32 frac x coefs.now)
+        (value.old, step.old) (value.new, step.new) result }
+{
+    arrays::horner(coefs, x, frac, value, step)
+}
+
+/// Puts the sample in front of the past samples, drops the oldest, and writes the output. Fails with
+/// `FractionPastWidth`, `NoElement` or `CountsDiffer`, and the past samples are unchanged; or with `OutOfRange`, which
+/// takes the sample, and writes the index of the tap whose partial sum does not fit.
+#[unsafe(no_mangle)]
+pub extern "C" fn fixed_u32_filter(
+    taps: &[u32],
+    past: &mut [u32],
+    sample: u32,
+    out_frac: u32,
+    coef_frac: u32,
+    sample_frac: u32,
+    output: &mut u32,
+    tap: &mut usize,
+) -> i32
+    ensures answer { PlaceAnswers pos
+        (output_in pos false 32 (fractions out_frac coef_frac sample_frac) sample (filter_of taps.now past.old))
+        (output.old, tap.old) (output.new, tap.new) result }
+    ensures past { past.new ≡ past_after 32 (fractions out_frac coef_frac sample_frac) sample (filter_of taps.now past.old) }
+{
+    let shape = Shape {
+        out_frac,
+        coef_frac,
+        sample_frac,
+    };
+    arrays::filter(taps, past, sample, shape, output, tap)
+}
+
+/// Filters a block of samples, the oldest first, and writes the output after each: as many steps of
+/// `fixed_u32_filter`. Fails with `FractionPastWidth`, `NoElement` or `CountsDiffer`, and nothing is written; or with
+/// `OutOfRange`, and writes the index of the first sample whose output does not fit, and of its tap: that sample is in
+/// front of the past samples, and the outputs from there on are unchanged.
+#[unsafe(no_mangle)]
+pub extern "C" fn fixed_u32_filter_block(
+    taps: &[u32],
+    past: &mut [u32],
+    input: &[u32],
+    output: &mut [u32],
+    out_frac: u32,
+    coef_frac: u32,
+    sample_frac: u32,
+    sample: &mut usize,
+    tap: &mut usize,
+) -> i32
+    ensures { FilterBlockAnswers pos false 32 (fractions out_frac coef_frac sample_frac) taps.now input.now
+        (left_of past.old output.old sample.old tap.old) (left_of past.new output.new sample.new tap.new) result }
+{
+    let shape = Shape {
+        out_frac,
+        coef_frac,
+        sample_frac,
+    };
+    arrays::filter_block(taps, past, input, output, shape, sample, tap)
 }

@@ -2,6 +2,7 @@ pub mod Sums
 pub mod Blocks
 pub mod Places
 pub mod Alone
+pub mod SectionRuns
 pub mod Past
 pub mod Counted
 pub mod Simulated

@@ -2,6 +2,7 @@ pub mod Replies
 pub mod Banks
 pub mod Outputs
 pub mod Blocks
+pub mod Sections
 pub mod Text
 pub mod Parser
 pub mod Runs

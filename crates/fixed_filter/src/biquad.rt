@@ -66,7 +66,9 @@ impl<T: Word, const F: u32, const G: u32> Biquad<T, F, G> {
     /// Takes a sample and returns the output: the sum of the products of the five coefficients, each rounded down. If a
     /// partial sum does not fit, the reply is `Overflow` with the index of the first such coefficient, from 0 for `b0`
     /// to 4 for `a2`, and the section is unchanged. By [`output_law`](crate::laws::output_law), the output lies at or
-    /// below the exact sum of these products, by less than five units. Preconditions: F and G are at most the width.
+    /// below the exact sum of these products, by less than five units. By [`run_law`](crate::laws::run_law), outputs of
+    /// a run lie within `5 / (1 - A)` units of the exact ones if the magnitudes of `a1` and `a2` sum to A, below 1.
+    /// Preconditions: F and G are at most the width.
     pub fn push(&mut self, sample: Fixed<T, F>) -> Reply<Fixed<T, F>>
         requires samples { F ≤ T.BITS }
         requires coefficients { G ≤ T.BITS }

@@ -1,6 +1,6 @@
 //! Laws of the definitions. These functions do nothing: the contract of each is the law.
 
-ghost use Rattle.std.specs.Prelude.{◌≡◌, ◌-◌, ◌*◌, ◌^◌, ◌≤ℤ◌, ◌-ℤ◌, ◌*ℤ◌, Bool, List, [], ◌∷◌, length, negsuc, pos, suc, true, ℕ, ℤ};
+ghost use Rattle.std.specs.Prelude.{◌≡◌, ◌-◌, ◌*◌, ◌^◌, ◌<◌, ◌≤◌, ◌≤ℤ◌, ◌-ℤ◌, ◌*ℤ◌, Bool, List, [], ◌∷◌, Some, length, negsuc, pos, suc, true, ℕ, ℤ};
 ghost use Rattle.fixed_text.specs.Runs.{Printed};
 ghost use Rattle.fixed_text.specs.Texts.{IsReader};
 ghost use Rattle.fixed_text.specs.Words.{is_signed, width};
@@ -11,6 +11,7 @@ ghost use Rattle.fixed_filter.specs.Parser.{header_of, line_of};
 ghost use Rattle.fixed_filter.specs.Replies.{filter_reply};
 ghost use Rattle.fixed_filter.specs.Runs.{filter_output, shape_fits, shape_of};
 ghost use Rattle.fixed_filter.specs.Scripts.{all_fit, are_samples, channels_and_samples, reply_texts, script_text, taps_of_channels};
+ghost use Rattle.fixed_filter.specs.Sections.{Coefficients, SectionPast, computed_past, feedback, run_error};
 ghost use Rattle.fixed_filter.specs.Text.{FilterHeader, header_text, line_text};
 ghost use Rattle.fixed_filter.specs.declared.reply.Reply.TheVariants.{Value};
 
@@ -26,6 +27,18 @@ pub fn output_law()
     ensures exact { (signed : Bool) (n t : ℕ) (v : ℤ) (ps : List (ℤ × ℤ))
         → filter_reply signed n (negsuc t) ps ≡ Value v
         → v ≡ products ps *ℤ pos (2 ^ suc t) }
+{}
+
+/// If each output of a run of a second-order section fits, it lies within `5 (S - 1) / (S - A)` units of the output of
+/// the exact run, which begins with the same samples and outputs, and rounds no product. S is `2^g`, and A, which is below
+/// S, is the sum of the magnitudes of the bits of `a1` and `a2`. The clause has this bound times `S^k (S - A)`, where k
+/// is the number of samples.
+pub fn run_law()
+    ensures { (signed : Bool) (n g : ℕ) (c : Coefficients) (start last : SectionPast) (samples : List ℤ)
+        → computed_past signed n g c start samples ≡ Some last
+        → feedback c < 2 ^ g
+        → run_error g c start samples last.y1 * (2 ^ g - feedback c)
+        ≤ 5 * (2 ^ g - 1) * 2 ^ (g * length samples) }
 {}
 
 /// The replies to the samples of one channel are those of a bank that has only this channel and takes only these

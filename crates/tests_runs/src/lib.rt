@@ -6,9 +6,13 @@ mod enclosure;
 #[cfg(test)]
 mod filter;
 #[cfg(test)]
+mod fir;
+#[cfg(test)]
 mod interval;
 #[cfg(test)]
 mod poly;
 #[cfg(test)]
 mod sine;
+#[cfg(test)]
+mod table;
 pub mod whole;

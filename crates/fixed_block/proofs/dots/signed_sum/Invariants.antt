@@ -1,4 +1,4 @@
-use Rattle.std.specs.Prelude.{◌≡◌, map, pos}
+use Rattle.std.specs.Prelude.{◌≡◌, map}
 use Rattle.fixed_block.specs.Dots.{partial_sum}
 use Rattle.fixed_block.proofs.dots.signed_sum.Given as goal
 
