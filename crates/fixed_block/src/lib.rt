@@ -7,6 +7,7 @@
 //! The Rust crate `fixed` does not have these items.
 #![tactic(auto)]
 
+mod chunks;
 mod dots;
 mod each;
 mod operations;

@@ -2,7 +2,7 @@ use Rattle.std.proofs.Common.{rules, ◌≡◌, ◌≤◌, ◌+◌, ◌+ℤ◌, 
 use Rattle.std.specs.Int.{w128}
 use Rattle.std.proofs.lemmas.Int.{to_z-of_z}
 use Rattle.fixed_block.proofs.Sums.{chunk_size, chunk_step}
-use Rattle.fixed_block.proofs.dots.short_sum.Goals as goal
+use Rattle.fixed_block.proofs.chunks.short_sum.Goals as goal
 
 pub loop-at-preserved : goal.loop-at-preserved
 loop-at-preserved g c =

@@ -1,7 +1,7 @@
 use Rattle.std.proofs.Common.{rules, ◌≡◌, ◌+ℤ◌, w32, FitsSigned, of_z, to_z, sym, ◌∙◌, arith}
 use Rattle.std.proofs.lemmas.Int.{to_z-of_z}
 use Rattle.fixed_block.proofs.Sums.{halves_step, next_sum, sum_size}
-use Rattle.fixed_block.proofs.dots.chunk_sum.Goals as goal
+use Rattle.fixed_block.proofs.chunks.chunk_sum.Goals as goal
 
 pub loop-at-preserved : goal.loop-at-preserved
 loop-at-preserved g c =

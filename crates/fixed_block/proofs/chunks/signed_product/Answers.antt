@@ -1,7 +1,7 @@
 use Rattle.std.proofs.Common.{rules, ◌≡◌, ◌≤◌, nat_abs, ◌*ℤ◌, w32, FitsSigned, of_z, to_z}
 use Rattle.std.proofs.lemmas.Int.{to_z-of_z}
 use Rattle.fixed_block.proofs.Sums.{product_size}
-use Rattle.fixed_block.proofs.dots.signed_product.Goals as goal
+use Rattle.fixed_block.proofs.chunks.signed_product.Goals as goal
 
 pub returns : goal.returns
 returns c =
