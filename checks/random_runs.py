@@ -2,7 +2,7 @@
 
     python3 checks/random_runs.py SEED COUNT
 
-The model is written from docs/DEFINITIONS.md and shares nothing with the crates; the runs are those of the example of
+The model is written from the pages of the crates and shares nothing with the crates; the runs are those of the example of
 the Cargo package. In every third script one line is spoilt.
 """
 import math

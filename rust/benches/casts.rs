@@ -7,39 +7,29 @@
 
 mod counting;
 mod draws;
+mod timing;
 
 use draws::Draws;
 use std::hint::black_box;
-use std::time::{Duration, Instant};
+use std::time::Duration;
+use timing::{Timing, is_wanted};
 use zugyelmas::kernel::Rounding::{Even, Zero};
 use zugyelmas::prelude::*;
 
 /// How many numbers an array has.
 const LENGTH: usize = 4096;
 
-/// How many samples are taken of each side, each of at least so long a time.
-const SAMPLES: u32 = 201;
-const SAMPLE: Duration = Duration::from_micros(20);
+const TIMING: Timing = Timing {
+    length: LENGTH,
+    samples: 201,
+    sample: Duration::from_micros(20),
+};
 
 /// One pass over the arrays.
 #[inline(never)]
 fn pass<A: Copy, R>(numbers: &[A], results: &mut [R], f: impl Fn(A) -> R) {
     for (result, number) in results.iter_mut().zip(numbers) {
         *result = f(*number);
-    }
-}
-
-/// Nanoseconds an element of one sample.
-fn sample(mut pass: impl FnMut()) -> f64 {
-    let start = Instant::now();
-    let mut passes = 0;
-    loop {
-        pass();
-        passes += 1;
-        let taken = start.elapsed();
-        if taken >= SAMPLE {
-            return taken.as_nanos() as f64 / (LENGTH * passes) as f64;
-        }
     }
 }
 
@@ -50,11 +40,7 @@ fn row<A: Copy, R: Clone + Default + PartialEq>(
     by_hand: impl Fn(A) -> R + Copy,
     call: impl Fn(A) -> R + Copy,
 ) {
-    let wanted: Vec<String> = std::env::args()
-        .skip(1)
-        .filter(|word| !word.starts_with('-'))
-        .collect();
-    if !wanted.is_empty() && !wanted.iter().any(|word| name.contains(word.as_str())) {
+    if !is_wanted(name) {
         return;
     }
     let mut draws = Draws(42);
@@ -63,20 +49,15 @@ fn row<A: Copy, R: Clone + Default + PartialEq>(
     pass(&numbers, &mut plain, by_hand);
     pass(&numbers, &mut typed, call);
     assert!(plain == typed, "{name}: both sides agree");
-    let mut by_hand = || pass(black_box(&numbers), black_box(&mut plain), by_hand);
-    let mut call = || pass(black_box(&numbers), black_box(&mut typed), call);
+    let by_hand = || pass(black_box(&numbers), black_box(&mut plain), by_hand);
+    let call = || pass(black_box(&numbers), black_box(&mut typed), call);
     if counting::is_on() {
         counting::count(c"by hand", by_hand);
         counting::count(c"call", call);
         println!("{name}");
         return;
     }
-    let (mut ours, mut theirs) = (f64::MAX, f64::MAX);
-    for _ in 0..SAMPLES {
-        theirs = theirs.min(sample(&mut by_hand));
-        ours = ours.min(sample(&mut call));
-    }
-    println!("{name:44} {theirs:8.3} {ours:8.3} {:6.2}", ours / theirs);
+    TIMING.row(name, by_hand, call);
 }
 
 /// A float of about 29 bits before the point, half of them below 0.

@@ -7,18 +7,22 @@
 
 mod counting;
 mod draws;
+mod timing;
 
 use draws::Draws;
 use std::fmt::Write;
 use std::hint::black_box;
-use std::time::{Duration, Instant};
+use std::time::Duration;
+use timing::{Timing, is_wanted};
 use zugyelmas::prelude::*;
 
 const LENGTH: usize = 4096;
 
-/// How many samples are taken of each side, each of at least so long a time.
-const SAMPLES: u32 = 51;
-const SAMPLE: Duration = Duration::from_micros(200);
+const TIMING: Timing = Timing {
+    length: LENGTH,
+    samples: 51,
+    sample: Duration::from_micros(200),
+};
 
 /// The powers of ten up to `10^18`.
 fn tens(power: usize) -> u64 {
@@ -34,27 +38,9 @@ fn tens(power: usize) -> u64 {
     TENS[power]
 }
 
-/// Nanoseconds a text of one sample.
-fn sample(mut pass: impl FnMut()) -> f64 {
-    let start = Instant::now();
-    let mut passes = 0;
-    loop {
-        pass();
-        passes += 1;
-        let taken = start.elapsed();
-        if taken >= SAMPLE {
-            return taken.as_nanos() as f64 / (LENGTH * passes) as f64;
-        }
-    }
-}
-
 /// Prints what both sides take.
-fn row(name: &str, mut by_hand: impl FnMut(), mut call: impl FnMut()) {
-    let wanted: Vec<String> = std::env::args()
-        .skip(1)
-        .filter(|word| !word.starts_with('-'))
-        .collect();
-    if !wanted.is_empty() && !wanted.iter().any(|word| name.contains(word.as_str())) {
+fn row(name: &str, by_hand: impl FnMut(), call: impl FnMut()) {
+    if !is_wanted(name) {
         return;
     }
     if counting::is_on() {
@@ -63,12 +49,7 @@ fn row(name: &str, mut by_hand: impl FnMut(), mut call: impl FnMut()) {
         println!("{name}");
         return;
     }
-    let (mut ours, mut theirs) = (f64::MAX, f64::MAX);
-    for _ in 0..SAMPLES {
-        theirs = theirs.min(sample(&mut by_hand));
-        ours = ours.min(sample(&mut call));
-    }
-    println!("{name:44} {theirs:8.3} {ours:8.3} {:6.2}", ours / theirs);
+    TIMING.row(name, by_hand, call);
 }
 
 /// A number of so many digits.
@@ -110,7 +91,10 @@ fn read_by_hand(text: &str, frac: u32) -> Option<i64> {
     let scaled = u128::from(value) << frac;
     let (quotient, rest) = match u64::try_from(scaled) {
         Ok(scaled) => (scaled / unit, scaled % unit),
-        Err(_) => ((scaled / u128::from(unit)) as u64, (scaled % u128::from(unit)) as u64),
+        Err(_) => (
+            (scaled / u128::from(unit)) as u64,
+            (scaled % u128::from(unit)) as u64,
+        ),
     };
     let up = 2 * rest + quotient % 2 > unit;
     let magnitude = i64::try_from(quotient + u64::from(up)).ok()?;
@@ -154,7 +138,12 @@ fn read(digits: usize) {
         },
         &mut call,
     );
-    assert!(numbers.iter().zip(&bits).all(|(number, bits)| number.to_bits() == *bits));
+    assert!(
+        numbers
+            .iter()
+            .zip(&bits)
+            .all(|(number, bits)| number.to_bits() == *bits)
+    );
 }
 
 /// Makes a pass of texts, each written over the one before.
@@ -180,8 +169,10 @@ fn written(digits: usize) {
     let (mut out, mut other) = (String::with_capacity(100), String::with_capacity(100));
     let integer = |number: i64, out: &mut String| write!(out, "{number}").expect("it is taken");
     let by_hand = |number: FixedI32<16>, out: &mut String| write_by_hand(number.to_bits(), out);
-    let places = |number: FixedI32<16>, out: &mut String| write!(out, "{number:.4}").expect("it is taken");
-    let shortest = |number: FixedI32<16>, out: &mut String| write!(out, "{number}").expect("it is taken");
+    let places =
+        |number: FixedI32<16>, out: &mut String| write!(out, "{number:.4}").expect("it is taken");
+    let shortest =
+        |number: FixedI32<16>, out: &mut String| write!(out, "{number}").expect("it is taken");
     for number in &numbers {
         write_each(&[*number], &mut out, by_hand);
         write_each(&[*number], &mut other, places);

@@ -154,5 +154,5 @@ fn the_page_quotes_the_sources() {
         assert!(sources.contains(block), "stands nowhere:\n{block}");
         blocks += 1;
     }
-    assert!(blocks >= 5);
+    assert!(blocks >= 3);
 }
