@@ -4,7 +4,8 @@
 //! fails, the number is unchanged.
 #![tactic(auto, unfolding(crate::specs::Answers::at_fraction, crate::specs::Answers::row_or, crate::specs::Near::positive, crate::specs::Near::off_origin, crate::specs::Near::NumberAnswers, crate::specs::Near::NearAnswers, crate::specs::Near::both_or, crate::specs::Near::PairAnswers, crate::specs::Near::NearPairAnswers))]
 
-ghost use Rattle.std.specs.Prelude.{◌≡◌, ℤ, Some, int_lt, pos};
+ghost use Rattle.std.specs.Prelude.{◌≡◌, ◌&&◌, ℤ, Some, int_lt, pos};
+ghost use Rattle.std.specs.Ordering.{int_eq};
 ghost use Rattle.fixed_word.specs.Policies.{checked};
 ghost use Rattle.fixed_word.specs.Standing.{StandsFor};
 ghost use Rattle.fixed_elementary.specs.ElementaryRows.{exact_hypot, exact_recip_sqrt};
@@ -31,6 +32,14 @@ fn is_positive<T: Word>(a: T) -> bool
     ensures { result ≡ int_lt (pos 0) (T.value a) }
 {
     !a.is_below_zero() && a.magnitude() > 0
+}
+
+/// Returns whether the point `(x, y)` is the origin.
+#[inline]
+fn is_origin<T: Word>(y: T, x: T) -> bool
+    ensures { result ≡ (int_eq (T.value y) (pos 0) && int_eq (T.value x) (pos 0)) }
+{
+    y.magnitude() == 0 && x.magnitude() == 0
 }
 
 /// Writes the number that the outcome stands for, and returns 0. If that does not fit, leaves the number unchanged, and
@@ -255,7 +264,7 @@ pub(crate) fn atan2_turns<T: Word>(y: T, x: T, frac: u32, number: &mut T) -> i32
     if frac > T::BITS {
         return Code::FractionPastWidth.number();
     }
-    if y.magnitude() == 0 && x.magnitude() == 0 {
+    if is_origin(y, x) {
         return Code::NoAngle.number();
     }
     leave(atan2_turns_of(y, x, frac), number)
