@@ -17,7 +17,7 @@ from mpmath import mp, mpf
 
 TOP = Path(__file__).resolve().parent.parent
 WORDS = {f"{sign}{bits}": (sign == "i", bits) for bits in (8, 16, 32, 64) for sign in "iu"}
-FITS, NOT_POSITIVE, OUT_OF_RANGE = 0, 16, 5
+FITS, OUT_OF_RANGE, NOT_POSITIVE, NO_ANGLE = 0, 5, 16, 17
 mp.prec = 240
 
 
@@ -35,13 +35,13 @@ class Down:
 
 
 class Nearest:
-    """Rounded to the nearest, up to 2^-k units."""
+    """Rounded to the nearest, up to 2^-k, which is 2^(frac - k) units."""
 
     def __init__(self, narrow, wide):
         self.k = {False: narrow, True: wide}
 
     def ends(self, units, frac, wide):
-        most = mpf("0.5") + mpf(2) ** -self.k[wide]
+        most = mpf("0.5") + mpf(2) ** (frac - self.k[wide])
         return units - most, units + most
 
     def rounded(self, exact):
@@ -69,6 +69,18 @@ def exact_exponential(logarithm):
     return lambda a, one, frac: power(logarithm, mpf(a) / one, one)
 
 
+def any_operand(a, b=0):
+    return FITS
+
+
+def above_0(a, b=0):
+    return FITS if a > 0 else NOT_POSITIVE
+
+
+def off_origin(y, x):
+    return FITS if y or x else NO_ANGLE
+
+
 EXACT = Down()
 LOG2 = Down(above=lambda units, frac, wide: units + mpf(2) ** -((126 if wide else 62) - frac))
 EXP2 = Down(above=lambda units, frac, wide: units * factor(54, 117)(frac, wide))
@@ -76,20 +88,21 @@ LOG = Down(below=lambda units, frac, wide: units - mpf(2) ** -(32 if wide else 2
 EXP = Down(below=lambda units, frac, wide: units / factor(61, 61)(frac, wide))
 POW = Down(below=lambda units, frac, wide: units / factor(55, 55)(frac, wide))
 
-# By name: the exact number in units, whether operands are above 0, and how it is rounded.
+# By name: the exact number in units, the code of operands that are refused, and how the number is rounded.
 ONE_OPERAND = {
-    "recip_sqrt": (lambda a, one, frac: mp.sqrt(mpf(one) ** 3 / a), True, EXACT),
-    "log2": (lambda a, one, frac: mp.log(mpf(a) / one, 2) * one, True, LOG2),
-    "ln": (lambda a, one, frac: mp.log(mpf(a) / one) * one, True, LOG),
-    "log10": (lambda a, one, frac: mp.log10(mpf(a) / one) * one, True, LOG),
-    "exp2": (exact_exponential(mp.log(2)), False, EXP2),
-    "exp": (exact_exponential(mpf(1)), False, EXP),
-    "sin_turns": (lambda a, one, frac: mp.sinpi(2 * mpf(a % one) / one) * one, False, Nearest(41, 61)),
-    "cos_turns": (lambda a, one, frac: mp.cospi(2 * mpf(a % one) / one) * one, False, Nearest(41, 61)),
+    "recip_sqrt": (lambda a, one, frac: mp.sqrt(mpf(one) ** 3 / a), above_0, EXACT),
+    "log2": (lambda a, one, frac: mp.log(mpf(a) / one, 2) * one, above_0, LOG2),
+    "ln": (lambda a, one, frac: mp.log(mpf(a) / one) * one, above_0, LOG),
+    "log10": (lambda a, one, frac: mp.log10(mpf(a) / one) * one, above_0, LOG),
+    "exp2": (exact_exponential(mp.log(2)), any_operand, EXP2),
+    "exp": (exact_exponential(mpf(1)), any_operand, EXP),
+    "sin_turns": (lambda a, one, frac: mp.sinpi(2 * mpf(a % one) / one) * one, any_operand, Nearest(41, 61)),
+    "cos_turns": (lambda a, one, frac: mp.cospi(2 * mpf(a % one) / one) * one, any_operand, Nearest(41, 61)),
 }
 TWO_OPERANDS = {
-    "hypot": (lambda a, b, one, frac: mp.sqrt(mpf(a) ** 2 + mpf(b) ** 2), False, EXACT),
-    "pow": (lambda a, b, one, frac: power(mp.log(mpf(a) / one), mpf(b) / one, one), True, POW),
+    "hypot": (lambda a, b, one, frac: mp.sqrt(mpf(a) ** 2 + mpf(b) ** 2), any_operand, EXACT),
+    "atan2_turns": (lambda y, x, one, frac: mp.atan2(y, x) / (2 * mp.pi) * one, off_origin, Nearest(40, 60)),
+    "pow": (lambda a, b, one, frac: power(mp.log(mpf(a) / one), mpf(b) / one, one), above_0, POW),
 }
 
 
@@ -163,20 +176,20 @@ def formats(word, draws):
 
 
 def one_operand(library, word, draws):
-    for name, (exact_of, is_positive, rounding) in ONE_OPERAND.items():
+    for name, (exact_of, refused, rounding) in ONE_OPERAND.items():
         call, tally = function_of(library, name, word, 1, True), Tally(name, word)
         for frac, operands in formats(word, draws):
             for a in operands:
                 code, bits = call(a, frac)
-                if is_positive and a <= 0:
-                    assert code == NOT_POSITIVE, (name, word, a, frac)
+                if refused(a):
+                    assert code == refused(a), (name, word, a, frac)
                 else:
                     tally.judge(code, bits, exact_of(a, 1 << frac, frac), rounding, frac, (a,))
         yield tally
 
 
 def two_operands(library, word, draws):
-    for name, (exact_of, is_positive, rounding) in TWO_OPERANDS.items():
+    for name, (exact_of, refused, rounding) in TWO_OPERANDS.items():
         has_frac = name != "hypot"
         call, tally = function_of(library, name, word, 2, has_frac), Tally(name, word)
         width = WORDS[word][1]
@@ -184,8 +197,8 @@ def two_operands(library, word, draws):
             pairs = ((a, b) for a in all_words(word) for b in all_words(word))
             for a, b in pairs if width == 8 else zip(drawn(word, draws), drawn(word, draws)):
                 code, bits = call(a, b, frac) if has_frac else call(a, b)
-                if is_positive and a <= 0:
-                    assert code == NOT_POSITIVE, (name, word, a, b, frac)
+                if refused(a, b):
+                    assert code == refused(a, b), (name, word, a, b, frac)
                 else:
                     tally.judge(code, bits, exact_of(a, b, 1 << frac, frac), rounding, frac, (a, b))
         yield tally
