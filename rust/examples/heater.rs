@@ -26,8 +26,8 @@ pub struct Controller {
     last: Number,
 }
 
-impl Controller {
-    pub fn new() -> Self {
+impl Default for Controller {
+    fn default() -> Self {
         Controller {
             proportional: Gain::lit("0.05"),
             integral: Gain::lit("0.003"),
@@ -36,7 +36,9 @@ impl Controller {
             last: Number::ZERO,
         }
     }
+}
 
+impl Controller {
     /// The power after an error. Only errors at which the power is not held count in the sum.
     pub fn power(&mut self, error: Number) -> Number {
         let change = error.saturating_sub(self.last);
@@ -63,7 +65,7 @@ fn heated(temperature: Number, power: Number) -> Number {
 
 /// Temperatures and powers, step by step.
 pub fn steps(count: usize) -> Vec<(Number, Number)> {
-    let mut controller = Controller::new();
+    let mut controller = Controller::default();
     let mut temperature = ROOM;
     let step = |_| {
         let power = controller.power(TARGET.saturating_sub(temperature));
