@@ -8,19 +8,24 @@
 
 mod counting;
 mod draws;
+#[allow(dead_code)]
+mod timing;
 
 use draws::Draws;
 use std::hint::black_box;
-use std::time::{Duration, Instant};
+use std::time::Duration;
+use timing::Timing;
 use zugyelmas::Held;
 use zugyelmas::prelude::*;
 
 /// How many numbers an array has.
 const LENGTH: usize = 4096;
 
-/// How many samples are taken of each side, each of at least so long a time.
-const SAMPLES: u32 = 201;
-const SAMPLE: Duration = Duration::from_micros(20);
+const TIMING: Timing = Timing {
+    length: LENGTH,
+    samples: 201,
+    sample: Duration::from_micros(20),
+};
 
 /// What was measured of a call in a word.
 struct Row {
@@ -114,34 +119,15 @@ impl<N: Copy, R> Arrays<N, R> {
     }
 }
 
-/// Nanoseconds an element of one sample.
-fn sample(mut pass: impl FnMut()) -> f64 {
-    let start = Instant::now();
-    let mut passes = 0;
-    loop {
-        pass();
-        passes += 1;
-        let taken = start.elapsed();
-        if taken >= SAMPLE {
-            return taken.as_nanos() as f64 / (LENGTH * passes) as f64;
-        }
-    }
-}
-
 /// Nanoseconds an element of a call, and by hand: each the least of many samples, taken in turn. Where instructions are
 /// counted, callgrind writes them, and there are none.
-fn beside(mut by_hand: impl FnMut(), mut call: impl FnMut()) -> (f64, f64) {
+fn beside(by_hand: impl FnMut(), call: impl FnMut()) -> (f64, f64) {
     if counting::is_on() {
         counting::count(c"by hand", by_hand);
         counting::count(c"call", call);
         return (f64::NAN, f64::NAN);
     }
-    let (mut ours, mut theirs) = (f64::MAX, f64::MAX);
-    for _ in 0..SAMPLES {
-        theirs = theirs.min(sample(&mut by_hand));
-        ours = ours.min(sample(&mut call));
-    }
-    (ours, theirs)
+    TIMING.least(by_hand, call)
 }
 
 /// Measures a call and the loop by hand.

@@ -1,4 +1,4 @@
-//! What the benches `casts`, `texts` and `functions` share: which rows are wanted, and how both sides of one are timed.
+//! What the benches share: which rows are wanted, and how both sides of a row are timed.
 
 use std::time::{Duration, Instant};
 
@@ -36,13 +36,19 @@ impl Timing {
         }
     }
 
-    /// Prints nanoseconds an element of both sides, whose samples are taken in turn, and the ratio.
-    pub fn row(&self, name: &str, mut by_hand: impl FnMut(), mut call: impl FnMut()) {
+    /// Nanoseconds an element of a call, and by hand: each the least of the samples, which are taken in turn.
+    pub fn least(&self, mut by_hand: impl FnMut(), mut call: impl FnMut()) -> (f64, f64) {
         let (mut ours, mut theirs) = (f64::MAX, f64::MAX);
         for _ in 0..self.samples {
             theirs = theirs.min(self.sample(&mut by_hand));
             ours = ours.min(self.sample(&mut call));
         }
+        (ours, theirs)
+    }
+
+    /// Prints nanoseconds an element of both sides, and the ratio.
+    pub fn row(&self, name: &str, by_hand: impl FnMut(), call: impl FnMut()) {
+        let (ours, theirs) = self.least(by_hand, call);
         println!("{name:44} {theirs:8.3} {ours:8.3} {:6.2}", ours / theirs);
     }
 }
