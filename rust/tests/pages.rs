@@ -98,6 +98,12 @@ fn the_first_program_in_rattle() {
 }
 
 #[test]
+fn the_names_of_the_whole_library_in_rattle() {
+    let names = block(&read("crates/fixed/README.md"), "rattle");
+    assert!(read("crates/fixed_guide/src/controller.rt").contains(&names));
+}
+
+#[test]
 fn the_tutorial() {
     let page = read("docs/TUTORIAL.md");
     let source = read("rust/examples/sensor.rs");

@@ -5,7 +5,7 @@ ghost use Rattle.std.specs.Int.{int_max};
 ghost use Rattle.fixed_word.specs.Format.{InRange, clamp, fits, wrap};
 ghost use Rattle.fixed_word.specs.Policies.{checked};
 
-use fixed::{Checked, Overflowing, RawWord, Saturating, Strict, Unwrapped, Wrapping};
+use fixed::{Checked, Overflowing, Saturating, Strict, Unwrapped, Wrapping};
 
 /// Returns the sum of three numbers of one format. Returns `None` if and only if the sum of the first two, or of all
 /// three, does not fit.
@@ -71,8 +71,8 @@ pub fn left_of<N: Checked>(stock: N, taken: N) -> Option<N>
     ensures { option_map N.number result
         ≡ checked N.SIGNED N.BITS (Some (int_max (N.number stock -ℤ N.number taken) (pos 0))) }
 {
-    if stock.to_bits() < taken.to_bits() {
-        return Some(N::from_bits(N::Bits::ZERO));
+    if stock < taken {
+        return Some(N::ZERO);
     }
     stock.checked_sub(taken)
 }

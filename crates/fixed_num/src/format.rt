@@ -1,8 +1,9 @@
 //! The number type, its constants, and the traits by which generic calls name its parts.
 
-ghost use Rattle.std.specs.Prelude.{◌≡◌, ◌≤◌, ◌-◌, ◌^◌, ◌↔◌, ℕ, ℤ, Bool, IsTrue, false, neg_ℤ, pos, refl, true};
+ghost use Rattle.std.specs.Prelude.{◌≡◌, ◌≤◌, ◌-◌, ◌^◌, ◌↔◌, ℕ, ℤ, Bool, IsTrue, Some, false, neg_ℤ, pos, refl, true};
+ghost use Rattle.std.specs.Ordering.{int_cmp};
 ghost use Rattle.std.proofs.Common.{ap};
-ghost use Rattle.fixed_word.specs.Format.{InRange};
+ghost use Rattle.fixed_word.specs.Format.{InRange, highest, lowest};
 
 use fixed_word::{RawWord, Word};
 
@@ -81,9 +82,9 @@ impl<T: RawWord, const F: u32> Held for Fixed<T, F> {
     ghost equal_law = { λ x y e. ap (λ b. record { bits = b }) e };
 }
 
-/// The related types and the fraction of a number, by which generic calls name them. It has its own signedness and
-/// width, since a law cannot cite one of a supertrait. (`fixed` does not have this trait.)
-pub trait Number: Held {
+/// A number of any format, as generic code sees it: its constants, its order, its related types and its fraction. It
+/// has its own signedness and width, since a law cannot cite one of a supertrait. (`fixed` does not have this trait.)
+pub trait Number: Held + Constants + Eq + Ord + Default {
     /// The unsigned number type of the same width and fraction.
     type Unsigned: Held;
 
@@ -99,6 +100,10 @@ pub trait Number: Held {
 
     ghost BITS: { ℕ };
 
+    /// Returns whether the number is 0.
+    fn is_zero(self) -> bool
+        ensures { IsTrue result ↔ (Self.number self ≡ pos 0) };
+
     // sign and width are those of the bits, so that generic code has the laws of words, `width_law` among them
     ghost sign_law: { SIGNED ≡ Self.Bits.SIGNED };
 
@@ -111,6 +116,29 @@ pub trait Number: Held {
     ghost signed_bits_law: { Self.Signed.Bits.BITS ≡ BITS };
 
     ghost signed_is_signed_law: { Self.Signed.Bits.SIGNED ≡ true };
+
+    // what the constants and the default are
+    ghost zero_law: { Self.number Self.ZERO ≡ pos 0 };
+
+    ghost delta_law: { Self.number Self.DELTA ≡ pos 1 };
+
+    ghost min_law: { Self.number Self.MIN ≡ lowest SIGNED BITS };
+
+    ghost max_law: { Self.number Self.MAX ≡ highest SIGNED BITS };
+
+    ghost is_signed_law: { Self.IS_SIGNED ≡ SIGNED };
+
+    ghost fraction_law: { Self.FRAC_NBITS ≡ FRACTION };
+
+    ghost default_law: { (x : Self) → Self.is_default x → Self.number x ≡ pos 0 };
+
+    // equality and order are those of the whole numbers
+    ghost eq_law: { (x y : Self) → IsTrue (Self.eq x y) ↔ (Self.number x ≡ Self.number y) };
+
+    ghost order_law: { (x y : Self) → Self.cmp x y ≡ int_cmp (Self.number x) (Self.number y) };
+
+    ghost partial_order_law: { (x y : Self) → Self.partial_cmp x y
+        ≡ Some (int_cmp (Self.number x) (Self.number y)) };
 }
 
 impl<T: RawWord, const F: u32> Fixed<T, F> {
@@ -142,6 +170,10 @@ impl<T: Word, const F: u32> Number for Fixed<T, F> {
 
     ghost BITS = { T.BITS };
 
+    fn is_zero(self) -> bool {
+        Fixed::is_zero(self)
+    }
+
     ghost sign_law = { refl };
 
     ghost bits_law = { refl };
@@ -153,6 +185,26 @@ impl<T: Word, const F: u32> Number for Fixed<T, F> {
     ghost signed_bits_law = { T.signed_width_law };
 
     ghost signed_is_signed_law = { T.signed_sign_law };
+
+    ghost zero_law = { T.zero_law };
+
+    ghost delta_law = { T.one_law };
+
+    ghost min_law = { T.min_law };
+
+    ghost max_law = { T.max_law };
+
+    ghost is_signed_law = { refl };
+
+    ghost fraction_law = { refl };
+
+    ghost default_law = { λ x zero. zero };
+
+    ghost eq_law = { λ x y. T.eq_law x.bits y.bits };
+
+    ghost order_law = { λ x y. T.order_law x.bits y.bits };
+
+    ghost partial_order_law = { λ x y. T.partial_order_law x.bits y.bits };
 }
 
 impl<T: RawWord, const F: u32> Default for Fixed<T, F> {

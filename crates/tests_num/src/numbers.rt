@@ -80,6 +80,29 @@ fn bits_of_every_byte(rt: HostRuntime) {
     }
 }
 
+/// What generic code sees of a format: zero by each name, and the order of its constants.
+fn constants<N: Number>() -> [bool; 6] {
+    [
+        N::ZERO.is_zero(),
+        N::DELTA.is_zero(),
+        N::default() == N::ZERO,
+        N::ZERO < N::DELTA,
+        N::MIN <= N::ZERO,
+        N::MAX < N::DELTA,
+    ]
+}
+
+#[test]
+fn constants_of_any_format(rt: HostRuntime) {
+    let found = [
+        constants::<FixedI8<4>>(),
+        constants::<FixedU8<8>>(),
+        constants::<FixedI64<0>>(),
+        constants::<FixedU64<64>>(),
+    ];
+    assert_eq!(rt; found, [[true, false, true, true, true, false]; 4]);
+}
+
 /// The answers of the calls on the size of a signed number.
 fn signed_answers<T: SignedWord, const F: u32>(x: Fixed<T, F>) -> (bool, bool, bool, u32) {
     (
