@@ -4,7 +4,7 @@ pub mod Squarings
 pub mod Reading
 pub mod LogLaws
 pub mod Powers
-mod TwoRoots
+mod Groups
 pub mod Raised
 mod ExpLaws
 pub mod Rows

@@ -1,9 +1,16 @@
 -- Powers of 2 with a fractional exponent: their roots, squares and products, rounded down.
 use Rattle.std.proofs.Common.{◌≡◌, ◌+◌, ◌-◌, ◌*◌, ◌/◌, ◌%◌, ◌^◌, ◌<◌, ◌≤◌, ℕ, suc, refl, ap, sym, subst, ◌∙◌, inl, inr, arith}
-use Rattle.std.proofs.Math.Nat.{le_of_mul-le-mul_right, mul-le-mul_right, mul-le-mul_left, pow-le-pow_left, pow-le-pow_right, one-le-pow, pow-suc, pow-zero, div-div-eq-div-mul}
+use Rattle.std.proofs.Math.Nat.{le_of_mul-le-mul_right, lt_of_mul-lt-mul_right, mul-le-mul_right, mul-le-mul_left, pow-le-pow_left, pow-le-pow_right, pow-lt-pow_left, one-le-pow, pow-suc, pow-zero, div-div-eq-div-mul}
 use Rattle.std.proofs.lemmas.Nat.{mul-le, mul-pow, pow-add, pow_pos, div-add-mod', mod_below, div_below}
 use Rattle.std.proofs.lemmas.Bool.{cases_lt}
-use Rattle.fixed_elementary.specs.inside.Power.{IsFactor, IsFloored, IsPart, IsPower, IsRootOfTwo}
+use Rattle.fixed_elementary.specs.inside.Power.{IsFloored, IsPart, IsPower}
+use Rattle.fixed_elementary.proofs.Reading.{pow_times}
+
+-- c is 2 ^ (1 / 2 ^ b)
+pub record IsRootOfTwo (w b c : ℕ) : Type 0 where
+  pub least : w ≤ c
+  pub most : c ≤ 2 * w
+  pub power : IsPower w (2 ^ b) 1 (2 * 2 ^ b) c
 
 twice_suc : (b : ℕ) → 2 ^ suc b ≡ 2 ^ b + 2 ^ b
 twice_suc b = omega (arith, pow-suc 2 b)
@@ -85,18 +92,43 @@ first_root w c e =
       power = record { below = rw (x, y, a, b) (omega arith); above = rw (x, y, a, b) (omega arith) };
     })
 
--- ---- squares and products
+-- ---- powers and products
 
-squared : (w q z i p : ℕ) → IsPower w q z i p → IsPower w (q + q) (z + z) (i + i) p
-squared w q z i p h =
-    let low = mul-le (p ^ q) (p ^ q) (2 ^ z * w ^ q) (2 ^ z * w ^ q) h.below h.below in
-    let high = mul-le (2 ^ z * w ^ q * w ^ i) (2 ^ z * w ^ q * w ^ i) (p ^ q * (w + 1) ^ i) (p ^ q * (w + 1) ^ i) h.above h.above in
-    let a = pow-add p q q in
-    let b = pow-add 2 z z in
-    let c = pow-add w q q in
-    let d = pow-add w i i in
-    let e = pow-add (w + 1) i i in
-    record { below = rw (a, b, c) (omega arith); above = rw (a, b, c, d, e) (omega arith) }
+times_below : (w q z m : ℕ) → (2 ^ z * w ^ q) ^ m ≡ 2 ^ (z * m) * w ^ (q * m)
+times_below w q z m = mul-pow (2 ^ z) (w ^ q) m ∙ ap (λ k. k * (w ^ q) ^ m) (pow_times 2 z m) ∙ ap (λ k. 2 ^ (z * m) * k) (pow_times w q m)
+
+times_above : (w q z i m : ℕ) → (2 ^ z * w ^ q * w ^ i) ^ m ≡ 2 ^ (z * m) * w ^ (q * m) * w ^ (i * m)
+times_above w q z i m = mul-pow (2 ^ z * w ^ q) (w ^ i) m ∙ ap (λ k. k * (w ^ i) ^ m) (times_below w q z m) ∙ ap (λ k. 2 ^ (z * m) * w ^ (q * m) * k) (pow_times w i m)
+
+times_over : (w q i m p : ℕ) → (p ^ q * (w + 1) ^ i) ^ m ≡ p ^ (q * m) * (w + 1) ^ (i * m)
+times_over w q i m p = mul-pow (p ^ q) ((w + 1) ^ i) m ∙ ap (λ k. k * ((w + 1) ^ i) ^ m) (pow_times p q m) ∙ ap (λ k. p ^ (q * m) * k) (pow_times (w + 1) i m)
+
+root_below : (a b m : ℕ) → 0 < m → a ^ m ≤ b ^ m → a ≤ b
+root_below a b m o h = elim (cases_lt b a) [
+  | inl less ↦ let t : b ^ m < a ^ m = pow-lt-pow_left less (omega arith) in absurd (omega arith)
+  | inr fine ↦ fine
+]
+
+raised : (w q z i m p : ℕ) → IsPower w q z i p → IsPower w (q * m) (z * m) (i * m) p
+raised w q z i m p h =
+    let low : (p ^ q) ^ m ≤ (2 ^ z * w ^ q) ^ m = pow-le-pow_left h.below m in
+    let high : (2 ^ z * w ^ q * w ^ i) ^ m ≤ (p ^ q * (w + 1) ^ i) ^ m = pow-le-pow_left h.above m in
+    record { below = rw (sym (times_below w q z m), sym (pow_times p q m)) low; above = rw (sym (times_above w q z i m), sym (times_over w q i m p)) high }
+
+rooted : (w q z i m p : ℕ) → 0 < m → IsPower w (q * m) (z * m) (i * m) p → IsPower w q z i p
+rooted w q z i m p o h =
+    let low : (p ^ q) ^ m ≤ (2 ^ z * w ^ q) ^ m = rw (times_below w q z m, pow_times p q m) h.below in
+    let high : (2 ^ z * w ^ q * w ^ i) ^ m ≤ (p ^ q * (w + 1) ^ i) ^ m = rw (times_above w q z i m, times_over w q i m p) h.above in
+    record { below = root_below (p ^ q) (2 ^ z * w ^ q) m o low; above = root_below (2 ^ z * w ^ q * w ^ i) (p ^ q * (w + 1) ^ i) m o high }
+
+weaker : (w q z i j p : ℕ) → i ≤ j → IsPower w q z i p → IsPower w q z j p
+weaker w q z i j p l h =
+    let e : j ≡ i + (j - i) = omega arith in
+    let s : w ^ (j - i) ≤ (w + 1) ^ (j - i) = pow-le-pow_left (omega arith) (j - i) in
+    let m = mul-le (2 ^ z * w ^ q * w ^ i) (w ^ (j - i)) (p ^ q * (w + 1) ^ i) ((w + 1) ^ (j - i)) h.above s in
+    let a : w ^ j ≡ w ^ i * w ^ (j - i) = ap (λ k. w ^ k) e ∙ pow-add w i (j - i) in
+    let b : (w + 1) ^ j ≡ (w + 1) ^ i * (w + 1) ^ (j - i) = ap (λ k. (w + 1) ^ k) e ∙ pow-add (w + 1) i (j - i) in
+    record { below = h.below; above = rw (a, b) (omega arith) }
 
 product_below : (w q y z m n p : ℕ) → 0 < w → p * w ≤ m * n → m ^ q ≤ 2 ^ y * w ^ q → n ^ q ≤ 2 ^ z * w ^ q → p ^ q ≤ 2 ^ (y + z) * w ^ q
 product_below w q y z m n p o f g h =
@@ -146,88 +178,154 @@ less_than_two w q z i p o l h = elim (cases_lt p (2 * w)) [
       absurd (omega arith)
 ]
 
--- ---- one digit more
+-- ---- parts
 
-doubled_part : (w b z p : ℕ) → IsPart w b z p → IsPower w (2 ^ suc b) (2 * z) (3 * b * 2 ^ suc b) p
-doubled_part w b z p h =
-    let e = twice_suc b in
-    let s = squared w (2 ^ b) z (3 * b * 2 ^ b) p h.power in
-    let f : 2 * z ≡ z + z = omega arith in
-    let g : 3 * b * 2 ^ suc b ≡ 3 * b * 2 ^ b + 3 * b * 2 ^ b = rw e (omega arith) in
-    rw (f, g, e) s
-
-pub factor_none : (w b d c : ℕ) → d ≡ 0 → c ≡ w → IsFactor w b d c
-factor_none w b d c e f =
+pub part_none : (w b : ℕ) → 0 < w → IsPart w b 0 0 w
+part_none w b o =
     let z = pow-zero 2 in
-    let s : w ^ (2 * 2 ^ b) ≤ (w + 1) ^ (2 * 2 ^ b) = pow-le-pow_left (omega arith) (2 * 2 ^ b) in
-    let t = mul-le-mul_left (w ^ 2 ^ b) s in
-    rw (e, f) (record {
+    let n : 0 * 2 ^ b ≡ 0 = omega arith in
+    let x = pow-zero w in
+    let y = pow-zero (w + 1) in
+    record {
+      digits = pow_pos b;
       least = omega arith;
       most = omega arith;
-      power = record { below = rw z (omega arith); above = rw z (omega arith) };
+      power = record { below = rw z (omega arith); above = rw (z, n, x, y) (omega arith) };
       unit = λ k. refl;
-    })
+    }
 
-pub factor_one : (w b d c : ℕ) → d ≡ 1 → IsRootOfTwo w b c → IsFactor w b d c
-factor_one w b d c e h = rw e (record { least = h.least; most = h.most; power = h.power; unit = λ k. absurd (omega arith) })
+pub part_of_root : (w b c : ℕ) → 0 < w → 1 ≤ b → IsRootOfTwo w b c → IsPart w b 2 1 c
+part_of_root w b c o l h =
+    let p : 2 ^ 1 ≤ 2 ^ b = pow-le-pow_right {n = 2} (omega arith) {i = 1} {j = b} l in
+    let two : 2 ^ 1 ≡ 2 = refl in
+    let digits : 1 < 2 ^ b = omega arith in
+    record {
+      digits = digits;
+      least = h.least;
+      most = less_than_two w (2 ^ b) 1 (2 * 2 ^ b) c o digits h.power;
+      power = h.power;
+      unit = λ k. absurd (omega arith);
+    }
 
-pub part_on : (w b z p c n d : ℕ) → 0 < w → d ≤ 1 → IsPart w b z p → IsFactor w (b + 1) d c → IsFloored w p c n → IsPart w (b + 1) (2 * z + d) n
-part_on w b z p c n d o small h r f =
-    let e : b + 1 ≡ suc b = omega arith in
-    let factor = subst (λ k. IsFactor w k d c) e r in
-    let t = twice_suc b in
-    let all = product_is w (2 ^ suc b) (2 * z) d p c n (3 * b * 2 ^ suc b) (2 * 2 ^ suc b) o f (doubled_part w b z p h) factor.power in
-    let i : 3 * b * 2 ^ suc b + 2 * 2 ^ suc b + 2 ^ suc b ≡ 3 * suc b * 2 ^ suc b = errors b (2 ^ suc b) in
-    let power = subst (λ k. IsPower w (2 ^ suc b) (2 * z + d) k n) i all in
-    let digits : 2 * z + d < 2 ^ suc b = omega (arith, h.digits) in
-    rw e (record {
+pub part_weaker : (w b n m z p : ℕ) → n ≤ m → IsPart w b n z p → IsPart w b m z p
+part_weaker w b n m z p l h = record {
+  digits = h.digits;
+  least = h.least;
+  most = h.most;
+  power = weaker w (2 ^ b) z (n * 2 ^ b) (m * 2 ^ b) p (mul-le-mul_right (2 ^ b) l) h.power;
+  unit = h.unit;
+}
+
+-- k digits 0 more
+pub part_longer : (w b k n z p : ℕ) → IsPart w b n z p → IsPart w (b + k) n (z * 2 ^ k) p
+part_longer w b k n z p h =
+    let e = pow-add 2 b k in
+    let i : n * (2 ^ b * 2 ^ k) ≡ n * 2 ^ b * 2 ^ k = omega arith in
+    let more = mul-le-mul_right (2 ^ k) h.digits in
+    let some = pow_pos k in
+    record {
+      digits = rw e (omega arith);
+      least = h.least;
+      most = h.most;
+      power = rw (e, i) (raised w (2 ^ b) z (n * 2 ^ b) (2 ^ k) p h.power);
+      unit = λ g. h.unit (no_digits z (2 ^ k) some g);
+    }
+  where
+    no_digits : (z m : ℕ) → 0 < m → z * m ≡ 0 → z ≡ 0
+    no_digits z m o e = let t : z * m ≤ 0 * m = omega arith in let l = le_of_mul-le-mul_right t o in omega arith
+
+-- and fewer
+pub part_shorter : (w b k n z p : ℕ) → IsPart w (b + k) n (z * 2 ^ k) p → IsPart w b n z p
+part_shorter w b k n z p h =
+    let e = pow-add 2 b k in
+    let i : n * (2 ^ b * 2 ^ k) ≡ n * 2 ^ b * 2 ^ k = omega arith in
+    let less : z * 2 ^ k < 2 ^ b * 2 ^ k = omega (arith, h.digits) in
+    let power : IsPower w (2 ^ b * 2 ^ k) (z * 2 ^ k) (n * 2 ^ b * 2 ^ k) p = subst (λ x. IsPower w (2 ^ b * 2 ^ k) (z * 2 ^ k) x p) i (subst (λ x. IsPower w x (z * 2 ^ k) (n * x) p) e h.power) in
+    record {
+      digits = lt_of_mul-lt-mul_right (2 ^ k) less;
+      least = h.least;
+      most = h.most;
+      power = rooted w (2 ^ b) z (n * 2 ^ b) (2 ^ k) p (pow_pos k) power;
+      unit = λ g. h.unit (rw g (omega arith));
+    }
+
+part_times : (w b n m y z p c r : ℕ) → 0 < w → y + z < 2 ^ b → IsPart w b n y p → IsPart w b m z c → IsFloored w p c r → IsPart w b (n + m + 1) (y + z) r
+part_times w b n m y z p c r o digits g h f =
+    let all = product_is w (2 ^ b) y z p c r (n * 2 ^ b) (m * 2 ^ b) o f g.power h.power in
+    let i : n * 2 ^ b + m * 2 ^ b + 2 ^ b ≡ (n + m + 1) * 2 ^ b = omega arith in
+    let power = subst (λ k. IsPower w (2 ^ b) (y + z) k r) i all in
+    record {
       digits = digits;
       least = f.least;
-      most = less_than_two w (2 ^ suc b) (2 * z + d) (3 * suc b * 2 ^ suc b) n o digits power;
+      most = less_than_two w (2 ^ b) (y + z) ((n + m + 1) * 2 ^ b) r o digits power;
       power = power;
-      unit = λ k. unit_product w p c n o f.least f.below (h.unit (omega arith)) (factor.unit (omega arith));
-    })
+      unit = λ k. unit_product w p c r o f.least f.below (g.unit (omega arith)) (h.unit (omega arith));
+    }
   where
-    errors : (b q : ℕ) → 3 * b * q + 2 * q + q ≡ 3 * suc b * q
-    errors b q = omega arith
-
     unit_product : (w p c n : ℕ) → 0 < w → w ≤ n → n * w ≤ p * c → p ≡ w → c ≡ w → n ≡ w
     unit_product w p c n o l h e f =
         let t : n * w ≤ w * w = subst (λ k. n * w ≤ w * k) f (subst (λ k. n * w ≤ k * c) e h) in
         let s = le_of_mul-le-mul_right t o in
         omega arith
 
+-- k digits more, which are d
+pub part_on : (w b k n m z d p c r : ℕ) → 0 < w → d < 2 ^ k → IsPart w b n z p → IsPart w (b + k) m d c → IsFloored w p c r → IsPart w (b + k) (n + m + 1) (z * 2 ^ k + d) r
+part_on w b k n m z d p c r o small g h f =
+    let e = pow-add 2 b k in
+    let t = mul-le-mul_right (2 ^ k) g.digits in
+    part_times w (b + k) n m (z * 2 ^ k) d p c r o (rw e (omega arith)) (part_longer w b k n z p g) h f
+
+pub turned : (w g n z d p c r : ℕ) → 0 < w → d < 16 → IsPart w (4 * g) n z p → IsPart w (4 * g + 4) 12 d c → IsFloored w p c r → IsPart w (4 * g + 4) (n + 13) (16 * z + d) r
+turned w g n z d p c r o small h f b =
+    let four : 2 ^ 4 ≡ 16 = refl in
+    let i : n + 12 + 1 ≡ n + 13 = omega arith in
+    let e : z * 2 ^ 4 + d ≡ 16 * z + d = omega arith in
+    let all = part_on w (4 * g) 4 n 12 z d p c r o (omega arith) h f b in
+    subst (λ k. IsPart w (4 * g + 4) (n + 13) k r) e (subst (λ k. IsPart w (4 * g + 4) k (z * 2 ^ 4 + d) r) i all)
+
+-- ---- the fraction
+
+-- with as many digits as g
+pub digits_fit : (x f g : ℕ) → f ≤ g → g ≤ 64 → x % (1 * 2 ^ f % 2 ^ 128) * 2 ^ (g - f) % 2 ^ 128 < 2 ^ g
+digits_fit x f g l h =
+    let most : 2 ^ f ≤ 2 ^ 64 = pow-le-pow_right {n = 2} (omega arith) {i = f} {j = 64} (omega arith) in
+    let same : 1 * 2 ^ f % 2 ^ 128 ≡ 2 ^ f = omega arith in
+    let m = mod_below x (2 ^ f) (pow_pos f) in
+    let t = mul-le-mul_right (2 ^ (g - f)) m in
+    let o = pow_pos (g - f) in
+    let e : f + (g - f) ≡ g = omega arith in
+    let p : 2 ^ g ≡ 2 ^ f * 2 ^ (g - f) = ap (λ k. 2 ^ k) (sym e) ∙ pow-add 2 f (g - f) in
+    rw (same, p) (omega arith)
+
 -- ---- the loop
 
-pub part_begun : (w x f : ℕ) → 0 < w → x < 2 ^ f → IsPart w 0 (x / 2 ^ (f - 0)) w
-part_begun w x f o h =
-    let e : f - 0 ≡ f = omega arith in
-    let z : x / 2 ^ f ≡ 0 = let d = div_below x (2 ^ f) 1 (pow_pos f) (omega arith) in omega arith in
-    let a : 2 ^ 0 ≡ 1 = refl in
-    let b = pow-zero w in
-    let c = pow-zero (w + 1) in
-    let n : 3 * 0 * 2 ^ 0 ≡ 0 = refl in
-    rw (e, z) (record {
-      digits = omega arith;
-      least = omega arith;
-      most = omega arith;
-      power = record { below = omega arith; above = rw (n, b, c) (omega arith) };
-      unit = λ k. refl;
-    })
+pub part_begun : (w x g : ℕ) → 0 < w → x < 2 ^ (4 * g) → IsPart w (4 * 0) (13 * 0) (x / 2 ^ (4 * (g - 0))) w
+part_begun w x g o h =
+    let e : g - 0 ≡ g = omega arith in
+    let z : x / 2 ^ (4 * g) ≡ 0 = let d = div_below x (2 ^ (4 * g)) 1 (pow_pos (4 * g)) (omega arith) in omega arith in
+    rw (e, z) (part_none w 0 o)
 
 -- the digits so far, and the next
-pub digits_on : (x f i : ℕ) → i < f → 2 * (x / 2 ^ (f - i)) + x / 2 ^ (f - 1 - i) % 2 ≡ x / 2 ^ (f - (i + 1))
-digits_on x f i h =
-    let e : f - 1 - i ≡ f - (i + 1) = omega arith in
-    let g : f - i ≡ suc (f - (i + 1)) = omega arith in
-    let p = pow-suc 2 (f - (i + 1)) in
-    let d = div-div-eq-div-mul x (2 ^ (f - (i + 1))) 2 in
-    let m = div-add-mod' (x / 2 ^ (f - (i + 1))) 2 in
-    rw (e, g, p, sym d) (omega arith)
+digits_on : (x g i : ℕ) → i < g → 16 * (x / 2 ^ (4 * (g - i))) + x / 2 ^ (4 * (g - 1 - i)) % 16 ≡ x / 2 ^ (4 * (g - (i + 1)))
+digits_on x g i h =
+    let e : g - 1 - i ≡ g - (i + 1) = omega arith in
+    let f : 4 * (g - i) ≡ 4 * (g - (i + 1)) + 4 = omega arith in
+    let four : 2 ^ 4 ≡ 16 = refl in
+    let p : 2 ^ (4 * (g - (i + 1)) + 4) ≡ 2 ^ (4 * (g - (i + 1))) * 16 = pow-add 2 (4 * (g - (i + 1))) 4 ∙ ap (λ k. 2 ^ (4 * (g - (i + 1))) * k) four in
+    let d = div-div-eq-div-mul x (2 ^ (4 * (g - (i + 1)))) 16 in
+    let m = div-add-mod' (x / 2 ^ (4 * (g - (i + 1)))) 16 in
+    rw (e, f, p, sym d) (omega arith)
 
-pub part_all : (w x f i p : ℕ) → i ≡ f → IsPart w i (x / 2 ^ (f - i)) p → IsPart w f x p
-part_all w x f i p e h =
-    let z : f - f ≡ 0 = omega arith in
+pub part_turned : (w x g i d r : ℕ) → i < g → d ≡ x / 2 ^ (4 * (g - 1 - i)) % 16 → IsPart w (4 * i + 4) (13 * i + 13) (16 * (x / 2 ^ (4 * (g - i))) + d) r → IsPart w (4 * (i + 1)) (13 * (i + 1)) (x / 2 ^ (4 * (g - (i + 1)))) r
+part_turned w x g i d r l e h =
+    let b : 4 * i + 4 ≡ 4 * (i + 1) = omega arith in
+    let n : 13 * i + 13 ≡ 13 * (i + 1) = omega arith in
+    let z = ap (λ (k : ℕ). 16 * (x / 2 ^ (4 * (g - i))) + k) e ∙ digits_on x g i l in
+    subst (λ k. IsPart w k (13 * (i + 1)) (x / 2 ^ (4 * (g - (i + 1)))) r) b (subst (λ k. IsPart w (4 * i + 4) k (x / 2 ^ (4 * (g - (i + 1)))) r) n (subst (λ k. IsPart w (4 * i + 4) (13 * i + 13) k r) z h))
+
+pub part_all : (w x g i p : ℕ) → i ≡ g → IsPart w (4 * i) (13 * i) (x / 2 ^ (4 * (g - i))) p → IsPart w (4 * g) (13 * g) x p
+part_all w x g i p e h =
+    let z : 4 * (g - g) ≡ 0 = omega arith in
     let one : x / 2 ^ 0 ≡ x = let d = div-add-mod' x 1 in let m = mod_below x 1 (omega arith) in omega arith in
-    let a = subst (λ k. IsPart w k (x / 2 ^ (f - k)) p) e h in
-    subst (λ k. IsPart w f k p) (ap (λ k. x / 2 ^ k) z ∙ one) a
+    let a = subst (λ k. IsPart w (4 * k) (13 * k) (x / 2 ^ (4 * (g - k))) p) e h in
+    subst (λ k. IsPart w (4 * g) (13 * g) k p) (ap (λ k. x / 2 ^ k) z ∙ one) a

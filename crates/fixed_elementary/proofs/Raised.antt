@@ -10,6 +10,7 @@ use Rattle.fixed_word.specs.Standing.{StandsFor}
 use Rattle.fixed_word.specs.declared.outcome.Outcome.{Outcome}
 use Rattle.fixed_elementary.specs.Exp2.{IsExp2, IsExp2At, IsExp2Up, StandsUpTo, exp2_room}
 use Rattle.fixed_elementary.specs.inside.Power.{IsPart}
+use Rattle.fixed_elementary.proofs.Powers.{part_shorter}
 use Rattle.fixed_elementary.proofs.Reading.{pow_times}
 use Rattle.fixed_elementary.proofs.Squarings.{growth_within}
 
@@ -76,13 +77,13 @@ quotient_of x w o =
     let m = mod_below x w o in
     (omega arith, omega arith)
 
-power_near : (w f z n p k : ℕ) → 0 < w → 2 * (3 * f * 2 ^ k) ≤ w → IsPart w f z p → IsExp2 (n * 2 ^ f + z) f k (p * 2 ^ n / w)
-power_near w f z n p k o h part =
+power_near : (w f m z n p k : ℕ) → 0 < w → 2 * (m * 2 ^ k) ≤ w → IsPart w f m z p → IsExp2 (n * 2 ^ f + z) f k (p * 2 ^ n / w)
+power_near w f m z n p k o h part =
     let q = 2 ^ f in
     let v = quotient_of (p * 2 ^ n) w o in
     let low = up_below w q z n p (p * 2 ^ n / w) o v.0 part.power.below in
-    let high = up_above w q z n p (p * 2 ^ n / w) (3 * f * q) o (pow_pos f) v.1 part.power.above in
-    record { below = low; above = above_raised w (3 * f) q (2 ^ k) (n * q + z) (p * 2 ^ n / w) o (pow_pos k) h high }
+    let high = up_above w q z n p (p * 2 ^ n / w) (m * q) o (pow_pos f) v.1 part.power.above in
+    record { below = low; above = above_raised w m q (2 ^ k) (n * q + z) (p * 2 ^ n / w) o (pow_pos k) h high }
 
 whole_exponent : (q n z j : ℕ) → z < q → n * q + z ≡ j * q → (z ≡ 0) × (n ≡ j)
 whole_exponent q n z j h e =
@@ -101,29 +102,31 @@ whole_exponent q n z j h e =
     less : (n j q z : ℕ) → n ≡ j → n * q + z ≡ j * q → z ≡ 0
     less n j q z t e = let u = ap (λ k. k * q) t in omega arith
 
-power_exact : (w f z n p j : ℕ) → 0 < w → IsPart w f z p → n * 2 ^ f + z ≡ j * 2 ^ f → p * 2 ^ n / w ≡ 2 ^ j
-power_exact w f z n p j o part e =
+power_exact : (w f m z n p j : ℕ) → 0 < w → IsPart w f m z p → n * 2 ^ f + z ≡ j * 2 ^ f → p * 2 ^ n / w ≡ 2 ^ j
+power_exact w f m z n p j o part e =
     let v = whole_exponent (2 ^ f) n z j part.digits e in
     let unit = part.unit v.0 in
     let a : w * 2 ^ n / w ≡ 2 ^ n = let s : w * 2 ^ n ≡ 2 ^ n * w = omega arith in ap (λ k. k / w) s ∙ mul-div_left (2 ^ n) o in
     ap (λ k. k * 2 ^ n / w) unit ∙ a ∙ ap (λ k. 2 ^ k) v.1
 
--- b is the number of the unit's bits less those of 6 f
-enough : (f k b c : ℕ) → 6 * f ≤ 2 ^ c → k ≤ b → 2 * (3 * f * 2 ^ k) ≤ 2 ^ (c + b)
-enough f k b c h l =
+-- b is the number of the unit's bits less those of 2 m
+enough : (m k b c : ℕ) → 2 * m ≤ 2 ^ c → k ≤ b → 2 * (m * 2 ^ k) ≤ 2 ^ (c + b)
+enough m k b c h l =
     let p : 2 ^ k ≤ 2 ^ b = pow-le-pow_right {n = 2} (omega arith) {i = k} {j = b} l in
-    let m = mul-le (6 * f) (2 ^ k) (2 ^ c) (2 ^ b) h p in
+    let x = mul-le (2 * m) (2 ^ k) (2 ^ c) (2 ^ b) h p in
     let e = pow-add 2 c b in
     omega arith
 
-pub power_is : (f e b c p : ℕ) → 6 * f ≤ 2 ^ c → IsPart (2 ^ (c + b)) f (e % 2 ^ f) p → IsExp2Up b e f (p * 2 ^ (e / 2 ^ f) / 2 ^ (c + b))
-power_is f e b c p h part =
+-- the power has d digits more, which are 0
+pub power_is : (f d g e b c m p : ℕ) → f + d ≡ g → 2 * m ≤ 2 ^ c → IsPart (2 ^ (c + b)) g m (e % 2 ^ f * 2 ^ d) p → IsExp2Up b e f (p * 2 ^ (e / 2 ^ f) / 2 ^ (c + b))
+power_is f d g e b c m p all h more =
     let w = 2 ^ (c + b) in
-    let d = div-add-mod' e (2 ^ f) in
+    let part = part_shorter w f d m (e % 2 ^ f) p (subst (λ k. IsPart w k m (e % 2 ^ f * 2 ^ d) p) (sym all) more) in
+    let q = div-add-mod' e (2 ^ f) in
     let s : e / 2 ^ f * 2 ^ f + e % 2 ^ f ≡ e = omega arith in
     record {
-      near = λ k l. subst (λ x. IsExp2 x f k (p * 2 ^ (e / 2 ^ f) / w)) s (power_near w f (e % 2 ^ f) (e / 2 ^ f) p k (pow_pos (c + b)) (enough f k b c h l) part);
-      exact = λ j g. power_exact w f (e % 2 ^ f) (e / 2 ^ f) p j (pow_pos (c + b)) part (s ∙ g);
+      near = λ k l. subst (λ x. IsExp2 x f k (p * 2 ^ (e / 2 ^ f) / w)) s (power_near w f m (e % 2 ^ f) (e / 2 ^ f) p k (pow_pos (c + b)) (enough m k b c h l) part);
+      exact = λ j y. power_exact w f m (e % 2 ^ f) (e / 2 ^ f) p j (pow_pos (c + b)) part (s ∙ y);
     }
 
 -- ---- in a word

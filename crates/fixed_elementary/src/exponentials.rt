@@ -1,13 +1,13 @@
-//! Powers of 2 with a fractional exponent: one product for each binary digit of the exponent.
+//! Powers of 2 with a fractional exponent: one product for each four binary digits of the exponent.
 
 ghost use Rattle.std.specs.Prelude.{◌≡◌, ◌≤◌, ◌<◌, ◌+◌, ◌-◌, ◌*◌, ◌/◌, ◌%◌, ◌^◌, ◌+ℤ◌, ℕ, ℤ, pos, min};
 ghost use Rattle.fixed_word.specs.Format.{with_sign};
 ghost use Rattle.fixed_elementary.specs.Exp2.{IsExp2Of, IsExp2Up, StandsUpTo, exp2_room};
-ghost use Rattle.fixed_elementary.specs.inside.Power.{IsExponent, IsFactor, IsFloored, IsPart};
+ghost use Rattle.fixed_elementary.specs.inside.Power.{IsExponent, IsFloored, IsPart};
 
 use crate::logarithms::in_units;
+use crate::powers_of_two::{broad_factor, narrow_factor};
 use crate::reciprocals::power_of_two;
-use crate::roots_of_two::{broad_root, narrow_root};
 use crate::wide::product;
 use fixed_word::{Outcome, RawWord, Valued, Word, outcome_of};
 
@@ -36,85 +36,63 @@ fn broad_product(a: u128, b: u128) -> u128
     4 * double.high + double.low / (1 << 126)
 }
 
-/// Returns a binary digit of a number.
+/// Returns a group of four binary digits of a number. Group 0 is the last four.
 #[inline]
-fn digit_of(number: u64, place: u32) -> u64
-    requires { place < 64 }
-    ensures { result ≡ number / 2 ^ place % 2 }
+fn digits_of(number: u64, group: u32) -> u64
+    requires { group < 16 }
+    ensures { result ≡ number / 2 ^ (4 * group) % 16 }
 {
-    (number >> place) % 2
+    (number >> (4 * group)) % 16
 }
 
-/// Returns the factor of a digit, in units of `2^-62`. The root is read before the digit is known, so that loops select
-/// it without a jump.
+/// Returns the power after four more digits of the exponent, in units of `2^-62`.
 #[inline]
-fn narrow_factor(digit: u64, place: u32) -> u64
-    requires place { place < 32 }
-    requires digit { digit ≤ 1 }
-    ensures { IsFactor (2 ^ 62) (place + 1) digit result }
-{
-    let root = narrow_root(place as usize + 1);
-    if digit == 0 { 1 << 62 } else { root }
-}
-
-/// Returns the power after one more digit of the exponent, in units of `2^-62`.
-#[inline]
-fn narrow_turn(power: u64, digit: u64, place: u32) -> u64
-    requires place { place < 32 }
-    requires digit { digit ≤ 1 }
+fn narrow_turn(power: u64, digits: u64, group: u32) -> u64
+    requires group { group < 8 }
+    requires digits { digits < 16 }
     requires least { 2 ^ 62 ≤ power }
     requires most { power < 2 ^ 63 }
-    ensures { (z : ℕ) → IsPart (2 ^ 62) place z power → IsPart (2 ^ 62) (place + 1) (2 * z + digit) result }
+    ensures { (n z : ℕ) → IsPart (2 ^ 62) (4 * group) n z power
+        → IsPart (2 ^ 62) (4 * group + 4) (n + 13) (16 * z + digits) result }
 {
-    narrow_product(power, narrow_factor(digit, place))
+    narrow_product(power, narrow_factor(digits, group))
 }
 
-/// Returns the factor of a digit, in units of `2^-126`. The root is read before the digit is known, so that loops
-/// select it without a jump.
+/// Returns the power after four more digits of the exponent, in units of `2^-126`.
 #[inline]
-fn broad_factor(digit: u64, place: u32) -> u128
-    requires place { place < 64 }
-    requires digit { digit ≤ 1 }
-    ensures { IsFactor (2 ^ 126) (place + 1) digit result }
-{
-    let root = broad_root(place as usize + 1);
-    if digit == 0 { 1 << 126 } else { root }
-}
-
-/// Returns the power after one more digit of the exponent, in units of `2^-126`.
-#[inline]
-fn broad_turn(power: u128, digit: u64, place: u32) -> u128
-    requires place { place < 64 }
-    requires digit { digit ≤ 1 }
+fn broad_turn(power: u128, digits: u64, group: u32) -> u128
+    requires group { group < 16 }
+    requires digits { digits < 16 }
     requires least { 2 ^ 126 ≤ power }
     requires most { power < 2 ^ 127 }
-    ensures { (z : ℕ) → IsPart (2 ^ 126) place z power → IsPart (2 ^ 126) (place + 1) (2 * z + digit) result }
+    ensures { (n z : ℕ) → IsPart (2 ^ 126) (4 * group) n z power
+        → IsPart (2 ^ 126) (4 * group + 4) (n + 13) (16 * z + digits) result }
 {
-    broad_product(power, broad_factor(digit, place))
+    broad_product(power, broad_factor(digits, group))
 }
 
-/// Returns `2^(part / 2^places)` in units of `2^-62`, or slightly less.
-fn narrow_exp2(part: u64, places: u32) -> u64
-    requires places { places ≤ 32 }
-    requires part { part < 2 ^ places }
-    ensures { IsPart (2 ^ 62) places part result }
+/// Returns `2^(part / 16^groups)` in units of `2^-62`, or slightly less.
+fn narrow_exp2(part: u64, groups: u32) -> u64
+    requires groups { groups ≤ 8 }
+    requires part { part < 2 ^ (4 * groups) }
+    ensures { IsPart (2 ^ 62) (4 * groups) (13 * groups) part result }
 {
     let mut power = 1 << 62;
-    for i in 0..places {
-        power = narrow_turn(power, digit_of(part, places - 1 - i), i);
+    for i in 0..groups {
+        power = narrow_turn(power, digits_of(part, groups - 1 - i), i);
     }
     power
 }
 
-/// Returns `2^(part / 2^places)` in units of `2^-126`, or slightly less.
-fn broad_exp2(part: u64, places: u32) -> u128
-    requires places { places ≤ 64 }
-    requires part { part < 2 ^ places }
-    ensures { IsPart (2 ^ 126) places part result }
+/// Returns `2^(part / 16^groups)` in units of `2^-126`, or slightly less.
+fn broad_exp2(part: u64, groups: u32) -> u128
+    requires groups { groups ≤ 16 }
+    requires part { part < 2 ^ (4 * groups) }
+    ensures { IsPart (2 ^ 126) (4 * groups) (13 * groups) part result }
 {
     let mut power = 1 << 126;
-    for i in 0..places {
-        power = broad_turn(power, digit_of(part, places - 1 - i), i);
+    for i in 0..groups {
+        power = broad_turn(power, digits_of(part, groups - 1 - i), i);
     }
     power
 }
@@ -134,12 +112,23 @@ fn in_bits(mantissa: u128, unit: u32, whole: u128, bits: u32) -> u128
     }
 }
 
-/// Returns the fraction of an exponent in units of `2^-places`.
-fn part_of(exponent: u128, places: u32) -> u64
+/// Returns how many groups of four digits have these digits.
+fn groups_of(places: u32) -> u32
     requires { places ≤ 64 }
-    ensures { result ≡ exponent % 2 ^ places }
+    ensures least { places ≤ 4 * result }
+    ensures most { 4 * result < places + 4 }
 {
-    (exponent % (1 << places)) as u64
+    places.div_ceil(4)
+}
+
+/// Returns the fraction of an exponent, converted from units of `2^-places` to units of `16^-groups`.
+fn part_of(exponent: u128, places: u32, groups: u32) -> u64
+    requires places { places ≤ 4 * groups }
+    requires groups { groups ≤ 16 }
+    ensures digits { result < 2 ^ (4 * groups) }
+    ensures value { result ≡ exponent % 2 ^ places * 2 ^ (4 * groups - places) }
+{
+    ((exponent % (1 << places)) << (4 * groups - places)) as u64
 }
 
 /// Returns `2^(exponent / 2^places)`, rounded as by `exp2_of`, at most `2^bits`. Precondition: `places <= bits <= 64`.
@@ -148,12 +137,13 @@ pub fn power_of(exponent: u128, places: u32, bits: u32) -> u128
     requires places { places ≤ bits }
     ensures { (r : ℕ) × IsExp2Up (exp2_room bits) exponent places r × (result ≡ min r (2 ^ bits)) }
 {
-    let part = part_of(exponent, places);
+    let groups = groups_of(places);
+    let part = part_of(exponent, places, groups);
     let whole = exponent >> places;
     if bits <= 32 {
-        in_bits(u128::from(narrow_exp2(part, places)), 62, whole, bits)
+        in_bits(u128::from(narrow_exp2(part, groups)), 62, whole, bits)
     } else {
-        in_bits(broad_exp2(part, places), 126, whole, bits)
+        in_bits(broad_exp2(part, groups), 126, whole, bits)
     }
 }
 

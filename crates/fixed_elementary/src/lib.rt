@@ -10,9 +10,9 @@ pub mod exponentials;
 pub mod laws;
 mod lengths;
 pub mod logarithms;
+mod powers_of_two;
 mod reciprocals;
 mod roots;
-mod roots_of_two;
 pub mod wide;
 
 pub use exponentials::exp2_of;

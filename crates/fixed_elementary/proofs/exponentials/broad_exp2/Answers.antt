@@ -1,19 +1,16 @@
-use Rattle.std.proofs.Common.{◌+◌, ◌-◌, ◌*◌, ◌/◌, ◌^◌, ◌<◌, ℕ, ap, subst, ◌∙◌, arith, rules}
-use Rattle.fixed_elementary.specs.inside.Power.{IsPart}
-use Rattle.fixed_elementary.proofs.Powers.{digits_on, part_all, part_begun}
+use Rattle.std.proofs.Common.{◌-◌, ◌*◌, ◌/◌, ◌^◌, arith, rules}
+use Rattle.fixed_elementary.proofs.Powers.{part_all, part_begun, part_turned}
 use Rattle.fixed_elementary.proofs.exponentials.broad_exp2.Goals as goal
 
 pub loop-i-init : goal.loop-i-init
-loop-i-init c = part_begun (2 ^ 126) c.args.part c.args.places (omega arith) c.requires.part
+loop-i-init c = part_begun (2 ^ 126) c.args.part c.args.groups (omega arith) c.requires.part
 
 pub loop-i-preserved : goal.loop-i-preserved
 loop-i-preserved c =
     let x = c.args.part in
-    let f = c.args.places in
+    let g = c.args.groups in
     let i = c.loop-i.i in
-    let less : i < f = search rules in
-    let digits = ap (λ (d : ℕ). 2 * (x / 2 ^ (f - i)) + d) c.digit_of.ensures ∙ digits_on x f i less in
-    subst (λ (z : ℕ). IsPart (2 ^ 126) (i + 1) z c.broad_turn-power.result) digits (c.broad_turn-power.ensures (x / 2 ^ (f - i)) c.loop-i.invariant)
+    part_turned (2 ^ 126) x g i c.digits_of.result c.broad_turn-power.result (search rules) c.digits_of.ensures (c.broad_turn-power.ensures (13 * i) (x / 2 ^ (4 * (g - i))) c.loop-i.invariant)
 
 pub returns : goal.returns
-returns c = part_all (2 ^ 126) c.args.part c.args.places c.loop-i.i c.loop-i.power (search rules) c.loop-i.invariant
+returns c = part_all (2 ^ 126) c.args.part c.args.groups c.loop-i.i c.loop-i.power (search rules) c.loop-i.invariant

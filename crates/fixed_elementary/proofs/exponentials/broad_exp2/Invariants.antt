@@ -1,6 +1,6 @@
-use Rattle.std.proofs.Common.{◌-◌, ◌/◌, ◌^◌}
+use Rattle.std.proofs.Common.{◌-◌, ◌*◌, ◌/◌, ◌^◌}
 use Rattle.fixed_elementary.specs.inside.Power.{IsPart}
 use Rattle.fixed_elementary.proofs.exponentials.broad_exp2.Given as goal
 
 abbrev pub invariant-loop-i : goal.invariant-loop-i
-invariant-loop-i l = IsPart (2 ^ 126) l.i (l.fn.part / 2 ^ (l.fn.places - l.i)) l.power
+invariant-loop-i l = IsPart (2 ^ 126) (4 * l.i) (13 * l.i) (l.fn.part / 2 ^ (4 * (l.fn.groups - l.i))) l.power

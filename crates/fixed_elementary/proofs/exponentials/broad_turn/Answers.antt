@@ -1,7 +1,7 @@
 use Rattle.std.proofs.Common.{◌^◌, arith}
-use Rattle.fixed_elementary.proofs.Powers.{part_on}
+use Rattle.fixed_elementary.proofs.Powers.{turned}
 use Rattle.fixed_elementary.proofs.exponentials.broad_turn.Goals as goal
 
 pub returns : goal.returns
-returns c = λ z h.
-    part_on (2 ^ 126) c.args.place z c.args.power c.broad_factor.result c.broad_product.result c.args.digit (omega arith) c.requires.digit h c.broad_factor.ensures c.broad_product.ensures
+returns c = λ n z h.
+    turned (2 ^ 126) c.args.group n z c.args.digits c.args.power c.broad_factor.result c.broad_product.result (omega arith) c.requires.digits h c.broad_factor.ensures c.broad_product.ensures
