@@ -8,11 +8,11 @@ use Rattle.fixed_word.specs.declared.outcome.Outcome.{Outcome}
 use Rattle.fixed_word.specs.declared.rounding.Rounding.{Rounding}
 use Rattle.fixed_word.specs.Format.{InRange, fits}
 use Rattle.fixed_word.specs.Policies.{checked}
-use Rattle.fixed_word.specs.Standing.{StandsFor}
+use Rattle.fixed_word.specs.Standing.{IsOutcomeOfRow, StandsFor}
 use Rattle.fixed_word.specs.declared.outcome.Side.TheVariants.{Fits}
 use Rattle.fixed_word.proofs.Sides.{side_fits}
 use Rattle.fixed_word.proofs.Nearest.{fits_is}
-use Rattle.fixed_float.specs.Rows.{IsOutcomeOfRow, saturated_float}
+use Rattle.fixed_float.specs.Rows.{saturated_float}
 
 is_some_if : (b : Bool) (x : ℤ) → IsSome (if b then Some x else None) → b ≡ true
 is_some_if true x h = refl

@@ -2,9 +2,9 @@
 
 ghost use Rattle.std.specs.Prelude.{◌≡◌, ◌≤◌, Some, IsSome, option_map};
 ghost use Rattle.fixed_word.specs.Policies.{checked, overflowing, saturating, wrapping};
+ghost use Rattle.fixed_word.specs.Standing.{IsOutcomeOfRow};
 ghost use Rattle.fixed_word.specs.declared.rounding.Rounding.TheVariants.{Down};
 ghost use Rattle.fixed_convert.specs.Convert.{rounded_mul_into};
-ghost use Rattle.fixed_float.specs.Rows.{IsOutcomeOfRow};
 
 use crate::numeric::Numeric;
 use crate::policies::{

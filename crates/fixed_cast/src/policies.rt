@@ -4,8 +4,7 @@ ghost use Rattle.std.specs.Prelude.{◌≡◌, ℤ, Option, Some, IfSome, IsSome
 ghost use Rattle.fixed_word.specs.declared.outcome.Side.TheVariants.{Fits};
 ghost use Rattle.fixed_word.specs.Format.{InRange};
 ghost use Rattle.fixed_word.specs.Policies.{checked, overflowing, saturating, wrapping};
-ghost use Rattle.fixed_word.specs.Standing.{StandsFor};
-ghost use Rattle.fixed_float.specs.Rows.{IsOutcomeOfRow};
+ghost use Rattle.fixed_word.specs.Standing.{IsOutcomeOfRow, StandsFor};
 
 use crate::numeric::Numeric;
 use fixed_word::{

@@ -2,10 +2,10 @@
 
 ghost use Rattle.std.specs.Prelude.{◌≡◌, ℕ, ℤ, Bool, Option, Some, IsSome, refl, option_map};
 ghost use Rattle.fixed_word.specs.Policies.{saturating};
+ghost use Rattle.fixed_word.specs.Standing.{IsOutcomeOfRow};
 ghost use Rattle.fixed_word.specs.declared.rounding.Rounding.{Rounding};
 ghost use Rattle.fixed_word.specs.declared.rounding.Rounding.TheVariants.{Down};
 ghost use Rattle.fixed_convert.specs.Convert.{rounded_convert};
-ghost use Rattle.fixed_float.specs.Rows.{IsOutcomeOfRow};
 
 use crate::numeric::Numeric;
 use fixed_convert::{Castable, convert_round_of, saturating_convert_of};

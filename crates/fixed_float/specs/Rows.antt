@@ -1,6 +1,6 @@
 -- What a float is in units, and which float is nearest to a number of units.
 -- A finite float is `fin s m e`: the number m * 2 ^ e, or minus it if s is true. `up e` over `down e` is 2 ^ e.
-use Rattle.std.specs.Prelude.{◌≡◌, ◌*◌, ◌^◌, ◌*ℤ◌, ℕ, ℤ, Bool, true, false, suc, pos, negsuc, Option, Some, None, if◌then◌else◌}
+use Rattle.std.specs.Prelude.{◌*◌, ◌^◌, ◌*ℤ◌, ℕ, ℤ, Bool, true, false, suc, pos, negsuc, Option, Some, None, if◌then◌else◌}
 use Rattle.std.specs.Float.{Float, Format, nan, inf, fin}
 use Rattle.std.specs.Ordering.{int_cmp}
 use Rattle.std.specs.declared.cmp.Ordering.{Ordering}
@@ -8,8 +8,6 @@ use Rattle.std.specs.declared.cmp.Ordering.TheVariants.{Less, Greater}
 use Rattle.std.specs.Float.Ieee.{up, down, round}
 use Rattle.fixed_word.specs.Format.{highest, lowest, with_sign}
 use Rattle.fixed_word.specs.Policies.{saturating}
-use Rattle.fixed_word.specs.Standing.{StandsFor}
-use Rattle.fixed_word.specs.declared.outcome.Outcome.{Outcome}
 use Rattle.fixed_word.specs.declared.rounding.Rounding.{Rounding}
 use Rattle.fixed_kernel.specs.Rounded.{rounded}
 
@@ -35,8 +33,3 @@ abbrev pub float_order : ℤ → ℕ → Float → Option Ordering
 float_order a g nan = None
 float_order a g (inf s) = Some (if s then Greater else Less)
 float_order a g (fin s m e) = Some (int_cmp (a *ℤ pos (down e)) (with_sign s (m * up e * 2 ^ g)))
-
--- the outcome stands for the row's number; there is no outcome if the row has no number
-abbrev pub IsOutcomeOfRow : {T : Type 0} → (T → ℤ) → Bool → ℕ → Option ℤ → Option (Outcome T) → Type 0
-IsOutcomeOfRow value signed n row None = row ≡ None
-IsOutcomeOfRow value signed n row (Some outcome) = (x : ℤ) × (row ≡ Some x) × StandsFor value signed n x outcome

@@ -2,11 +2,11 @@
 
 ghost use Rattle.std.specs.Prelude.{◌≡◌, ◌+◌, ◌*◌, ◌<◌, ◌≤◌, ◌^◌, pos};
 ghost use Rattle.fixed_word.specs.Format.{with_sign};
-ghost use Rattle.fixed_word.specs.Standing.{StandsFor};
+ghost use Rattle.fixed_word.specs.Standing.{IsOutcomeOfRow, StandsFor};
 ghost use Rattle.fixed_word.specs.declared.rounding.Rounding.TheVariants.{Even};
 ghost use Rattle.fixed_kernel.specs.Rounded.{rounded};
 ghost use Rattle.fixed_kernel.specs.inside.Alike.{Alike};
-ghost use Rattle.fixed_float.specs.Rows.{IsOutcomeOfRow, units_of_float};
+ghost use Rattle.fixed_float.specs.Rows.{units_of_float};
 
 use crate::binary::Binary;
 use crate::lowered::lowered;

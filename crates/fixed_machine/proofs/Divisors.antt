@@ -4,13 +4,12 @@ use Rattle.std.proofs.lemmas.Bool.{false≢true}
 use Rattle.fixed_word.specs.declared.rounding.Rounding.{Rounding}
 use Rattle.fixed_script.specs.declared.names.Op.{Op}
 use Rattle.fixed_script.specs.declared.names.Op.TheVariants.{Neg, Add, Sub, Mul, Div, Recip, MulAdd, AddProd, MulInt, DivInt, DivEuclid, DivEuclidInt, RemEuclidInt, NextMultipleOf, Dist, Sqrt, Abs, Signum, Rem, RemInt, RemEuclid, NextPowerOfTwo}
-use Rattle.fixed_word.specs.Standing.{StandsFor}
+use Rattle.fixed_word.specs.Standing.{IsOutcomeOfRow, StandsFor}
 use Rattle.fixed_word.specs.declared.outcome.Outcome.{Outcome}
 use Rattle.fixed_kernel.specs.Rows.{by_divisor}
 use Rattle.fixed_script.specs.Text.{takes_rounding}
 use Rattle.fixed_machine.specs.Rows.{exact}
 use Rattle.fixed_machine.specs.inside.Groups.{group, ByDivisor}
-use Rattle.fixed_machine.specs.inside.Stepping.{IsOutcomeOfRow}
 
 -- where the divisor is not 0, the row is its number
 pub divided : {T : Type 0} (value : T → ℤ) (signed : Bool) (n : ℕ) (d x : ℤ) (outcome : Outcome T) → d ≢ pos 0 → StandsFor value signed n x outcome → IsOutcomeOfRow value signed n (by_divisor d x) (Some outcome)

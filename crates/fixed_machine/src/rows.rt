@@ -1,6 +1,7 @@
 //! The row of an operation on one word.
 
 ghost use Rattle.std.specs.Prelude.{◌≡◌, ◌≢◌, ◌≤◌, None, ℕ, ℤ, pos, true};
+ghost use Rattle.fixed_word.specs.Standing.{IsOutcomeOfRow};
 ghost use Rattle.fixed_kernel.specs.Rounded.{rounded};
 ghost use Rattle.fixed_machine.specs.Rows.{exact as exact_row, rounding_of};
 ghost use Rattle.fixed_kernel.specs.Rows.{by_divisor};
@@ -8,7 +9,6 @@ ghost use Rattle.fixed_kernel.specs.RoundedRows.{rounded_div, rounded_recip};
 ghost use Rattle.fixed_script.specs.Text.{takes_rounding as rounds};
 ghost use Rattle.fixed_machine.specs.Offered.{is_offered};
 ghost use Rattle.fixed_machine.specs.inside.Groups.{group, OfOne, SumOrProduct, ByDivisor};
-ghost use Rattle.fixed_machine.specs.inside.Stepping.{IsOutcomeOfRow};
 
 use fixed_kernel::{
     abs_of, add_of, add_prod_of, add_prod_round_of, dist_of, div_euclid_int_of, div_euclid_of,

@@ -9,10 +9,8 @@ use Rattle.fixed_script.specs.declared.line.Line.TheVariants.{Set, One, Two, Int
 use Rattle.fixed_script.specs.Text.{ScriptLine, SetTo, Apply, OneRegister, TwoRegisters, RegisterAndInt, ThreeRegisters}
 use Rattle.fixed_script.specs.Capped.{literal_value}
 use Rattle.fixed_word.specs.Format.{fits}
-use Rattle.fixed_word.specs.Standing.{StandsFor}
 use Rattle.fixed_text.specs.declared.names.WordName.{WordName}
 use Rattle.fixed_text.specs.Words.{is_signed, width}
-use Rattle.fixed_word.specs.declared.outcome.Outcome.{Outcome}
 use Rattle.fixed_machine.specs.Projection.{project}
 use Rattle.fixed_machine.specs.Machine.{Cell, State, OperandValues, operand_values, row_cause, cause, answer}
 use Rattle.fixed_machine.specs.declared.cause.Cause.{Cause}
@@ -35,11 +33,6 @@ IsApplied (Apply dest p o xs r) policy op rounding = (p ≡ policy) × (o ≡ op
 abbrev pub HoldsOperands : List Cell → ScriptLine → OperandRegisters → Type 0
 HoldsOperands cells (SetTo dest k) t = ⊤
 HoldsOperands cells (Apply dest policy op xs rounding) t = values_of t ≡ operand_values cells xs
-
--- an outcome for each row that is a number
-abbrev pub IsOutcomeOfRow : {T : Type 0} → (T → ℤ) → Bool → ℕ → Option ℤ → Option (Outcome T) → Type 0
-IsOutcomeOfRow value signed n row None = row ≡ None
-IsOutcomeOfRow value signed n row (Some outcome) = (x : ℤ) × (row ≡ Some x) × StandsFor value signed n x outcome
 
 -- the answer of the policy for a row, or the row's cause
 abbrev pub IsAnswerOfRow : Bool → ℕ → Policy → Op → Option ℤ → ℕ → Result Answer Cause → Type 0

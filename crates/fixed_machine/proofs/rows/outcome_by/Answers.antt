@@ -1,6 +1,6 @@
 use Rattle.std.proofs.Common.{ℤ, Option, sym, ap, subst, ◌∙◌}
+use Rattle.fixed_word.specs.Standing.{IsOutcomeOfRow}
 use Rattle.fixed_machine.specs.Rows.{exact, rounding_of}
-use Rattle.fixed_machine.specs.inside.Stepping.{IsOutcomeOfRow}
 use Rattle.fixed_machine.proofs.Divisors.{unrounded}
 use Rattle.fixed_machine.proofs.rows.outcome_by.Goals as goal
 use Rattle.fixed_machine.proofs.rows.outcome_by.Goals.{in_default-via-in-Some+else-takes_rounding, in_default-via-in_default}
