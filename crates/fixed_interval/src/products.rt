@@ -49,7 +49,7 @@ fn greatest_product<T: Word>(a: &Interval<T>, b: &Interval<T>) -> T::Whole
 
 /// Returns the corner of two ends, which is their product.
 #[inline]
-pub(crate) fn corner<T: Word>(x: T, y: T) -> T::Whole
+pub(crate) fn corner<T: Arithmetic>(x: T, y: T) -> T::Whole
     ensures value { T.Whole.value result ≡ T.value x *ℤ T.value y }
     ensures size { IsProduct T.SIGNED T.BITS (T.Whole.value result) }
 {
@@ -74,7 +74,7 @@ fn greatest<W: Integer>(x: W, y: W) -> W
 
 /// Returns a product over `2^frac`, rounded up.
 #[inline]
-pub(crate) fn ceiled<T: Word>(product: T::Whole, frac: u32) -> T::Whole
+pub(crate) fn ceiled<T: Arithmetic>(product: T::Whole, frac: u32) -> T::Whole
     requires frac { frac ≤ T.BITS }
     requires size { IsProduct T.SIGNED T.BITS (T.Whole.value product) }
     ensures { T.Whole.value result ≡ ceiling_over (T.Whole.value product) (pos (2 ^ frac)) }

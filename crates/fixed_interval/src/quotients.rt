@@ -7,7 +7,7 @@ ghost use Rattle.fixed_interval.specs.Containment.{HoldsQuotients};
 ghost use Rattle.fixed_interval.specs.inside.OffZero.{IsOffZero};
 ghost use Rattle.fixed_interval.specs.inside.WholeValue.{rounded_over, value_of};
 
-use crate::interval::{Interval, between};
+use crate::interval::{Interval, between, is_at_most};
 use crate::whole::{Outward, Whole};
 use fixed_word::{RawWord, Word};
 
@@ -32,7 +32,7 @@ pub fn div_in<T: Word>(a: &Interval<T>, b: &Interval<T>, frac: u32) -> Option<In
 fn holds_zero<T: Word>(b: &Interval<T>) -> bool
     ensures { result ≡ has_zero (ends_of T.value b.now) }
 {
-    b.lo() <= T::ZERO && T::ZERO <= b.hi()
+    is_at_most(b.lo(), T::ZERO) && is_at_most(T::ZERO, b.hi())
 }
 
 /// Returns the least corner, rounded down.
@@ -59,14 +59,14 @@ fn greatest_quotient<T: Word>(a: &Interval<T>, b: &Interval<T>, frac: u32) -> Wh
 
 /// Returns the first end if `first`, and otherwise the second.
 #[inline]
-fn either<T: Word>(first: bool, x: T, y: T) -> T
+fn either<T: RawWord>(first: bool, x: T, y: T) -> T
     ensures { result ≡ (if first then x else y) }
 {
     if first { x } else { y }
 }
 
 /// Returns the corner of two ends, `x 2^frac / y`, rounded in that direction.
-fn corner<T: Word>(x: T, y: T, frac: u32, way: Outward) -> Whole
+fn corner<T: RawWord>(x: T, y: T, frac: u32, way: Outward) -> Whole
     requires frac { frac ≤ T.BITS }
     requires divisor { T.value y ≢ pos 0 }
     ensures { value_of result ≡ rounded_over way (T.value x *ℤ pos (2 ^ frac)) (T.value y) }

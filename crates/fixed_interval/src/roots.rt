@@ -54,7 +54,7 @@ fn floor_root<T: Word>(a: T, frac: u32) -> u128
 }
 
 /// Returns `a 2^frac`. Precondition: `a` is at least 0.
-fn scaled<T: Word>(a: T, frac: u32) -> u128
+fn scaled<T: RawWord>(a: T, frac: u32) -> u128
     requires frac { frac ≤ T.BITS }
     requires sign { pos 0 ≤ℤ T.value a }
     ensures { pos result ≡ T.value a *ℤ pos (2 ^ frac) }

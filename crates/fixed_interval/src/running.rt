@@ -2,6 +2,7 @@
 
 ghost use Rattle.std.specs.Prelude.{◌≡◌, ◌++◌, ◌<◌, ◌≤◌, Err, IfOk, IfSome, None, OnOk, Some, if◌then◌else◌, length, map, nat_lt, replicate, ℕ, ℤ};
 ghost use Rattle.std.specs.Option.{option_map};
+ghost use Rattle.fixed_word.specs.Decimal.{whole_text};
 ghost use Rattle.fixed_word.specs.Pieces.{pieces};
 ghost use Rattle.fixed_text.specs.Decimals.{decimal_of};
 ghost use Rattle.fixed_digits.specs.Numerals.{cap};
@@ -9,8 +10,8 @@ ghost use Rattle.fixed_text.specs.Runs.{Ending, lines_from, then_by};
 ghost use Rattle.fixed_text.specs.Answers.{EndsBy, IsStepOfLine};
 ghost use Rattle.fixed_text.specs.Words.{is_signed, width};
 ghost use Rattle.fixed_interval.specs.inside.Capped.{capped_request};
-ghost use Rattle.fixed_interval.specs.Ends.{ends_of};
-ghost use Rattle.fixed_interval.specs.Runs.{IsAnswerOfInterval, answered, ends_text, interval_line, interval_output, made_by_root, made_of_two, request_read, set_ends, started, zero_ends};
+ghost use Rattle.fixed_interval.specs.Ends.{ends_of, fitting};
+ghost use Rattle.fixed_interval.specs.Runs.{IsAnswerOfInterval, answered, ends_by, ends_text, interval_line, interval_output, made_by_root, made_of_two, request_read, set_ends, started, zero_ends};
 ghost use Rattle.fixed_interval.specs.Text.{IntervalRequest};
 
 use crate::fault::IntervalFault;
@@ -58,10 +59,16 @@ impl<T: Word> Model for IntervalRun<T> {
 fn append_ends<T: Word>(output: &mut Output, interval: &Interval<T>) -> Result<(), AllocError>
     ensures { OnOk result (output.new ≡ output.old ++ ends_text (ends_of T.value interval.now)) }
 {
-    output.append_word(interval.lo())?;
-    output.append(b" ")?;
-    output.append_word(interval.hi())?;
-    output.append(b"\n")
+    append_end(output, interval.lo(), b" ")?;
+    append_end(output, interval.hi(), b"\n")
+}
+
+/// Prints an end and what follows it.
+fn append_end<T: Word>(output: &mut Output, end: T, next: &[u8]) -> Result<(), AllocError>
+    ensures { OnOk result (output.new ≡ output.old ++ whole_text (T.value end) ++ next.now) }
+{
+    output.append_word(end)?;
+    output.append(next)
 }
 
 /// Returns `count` copies of an interval.
@@ -86,6 +93,32 @@ fn zeros<T: Word>(alloc: Global, count: usize) -> Result<Vec<Interval<T>>, Alloc
     Ok(registers)
 }
 
+/// Returns the place of a register among `count`, or `None` if it is not one of these.
+fn place_in(register: u128, count: usize) -> Option<usize>
+    ensures within { IfSome result (λ i. i < count) }
+    ensures place { (n : ℕ) → register ≡ cap n → result ≡ (if nat_lt n count then Some n else None) }
+{
+    if register < count as u128 {
+        Some(register as usize)
+    } else {
+        None
+    }
+}
+
+/// Returns the result of an operation on two intervals. Precondition: `frac` is at most the width.
+fn made_of<T: Word>(op: Op, x: &Interval<T>, y: &Interval<T>, frac: u32) -> Option<Interval<T>>
+    requires { frac ≤ T.BITS }
+    ensures { option_map (ends_of T.value) result
+        ≡ fitting T.SIGNED T.BITS (ends_by op frac (ends_of T.value x.now) (ends_of T.value y.now)) }
+{
+    match op {
+        Op::Add => add_in(x, y),
+        Op::Sub => sub_in(x, y),
+        Op::Mul => mul_in(x, y, frac),
+        Op::Div => div_in(x, y, frac),
+    }
+}
+
 impl<T: Word> IntervalRun<T> {
     /// Returns the place of a register, or `None` if the run does not have it.
     fn place(&self, register: u128) -> Option<usize>
@@ -93,12 +126,7 @@ impl<T: Word> IntervalRun<T> {
         ensures place { (n : ℕ) → register ≡ cap n
             → result ≡ (if nat_lt n (length self.now.registers) then Some n else None) }
     {
-        let count = self.registers.len() as u128;
-        if register < count {
-            Some(register as usize)
-        } else {
-            None
-        }
+        place_in(register, self.registers.len())
     }
 
     /// Stores an interval in a register and prints it. If there is none, prints `none`.
@@ -133,14 +161,7 @@ impl<T: Word> IntervalRun<T> {
         requires b { b < length self.now.registers }
         ensures { option_map (ends_of T.value) result ≡ made_of_two self.now op a b }
     {
-        let x = &self.registers[a];
-        let y = &self.registers[b];
-        match op {
-            Op::Add => add_in(x, y),
-            Op::Sub => sub_in(x, y),
-            Op::Mul => mul_in(x, y, self.frac),
-            Op::Div => div_in(x, y, self.frac),
-        }
+        made_of(op, &self.registers[a], &self.registers[b], self.frac)
     }
 
     /// Returns the root of a register.

@@ -6,7 +6,7 @@ ghost use Rattle.fixed_word.specs.Standing.{StandsFor};
 ghost use Rattle.fixed_interval.specs.Ends.{ceiling_over, floor_over};
 ghost use Rattle.fixed_interval.specs.inside.WholeValue.{rounded_over, value_of};
 
-use fixed_word::{Outcome, Word, outcome_of};
+use fixed_word::{Outcome, RawWord, Word, outcome_of};
 
 /// The number `magnitude`, or minus it if `below_zero`.
 #[derive(Clone, Copy)]
@@ -24,7 +24,7 @@ pub(crate) enum Outward {
 
 impl Whole {
     /// Returns the number of a word.
-    pub(crate) fn of<T: Word>(word: T) -> Whole
+    pub(crate) fn of<T: RawWord>(word: T) -> Whole
         ensures value { value_of result ≡ T.value word }
         ensures small { result.magnitude < 2 ^ 64 }
     {

@@ -24,7 +24,7 @@ pub fn interpolate_of<T: Word>(start: T, end: T, part: u64, step: u32) -> T
 
 /// Returns a value times a weight that the word holds.
 #[inline]
-fn weighted<T: Word>(value: T, weight: u64) -> T::Whole
+fn weighted<T: Arithmetic>(value: T, weight: u64) -> T::Whole
     requires { weight < 2 ^ (T.BITS - 1) }
     ensures product { T.Whole.value result ≡ T.value value *ℤ pos weight }
     ensures in_range { InRange T.SIGNED T.BITS (T.value value) }

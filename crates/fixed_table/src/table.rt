@@ -12,7 +12,7 @@ use fixed_word::{RawWord, Valued, Word};
 /// A function by the table of its values. Its arguments have G fraction bits, and its values have F. The first value is
 /// that at the point `first`, and each next value is that at a point `2^step` units of the argument further.
 #[derive(Drop)]
-pub struct Table<'a, X: Word, const G: u32, T: Word, const F: u32> {
+pub struct Table<'a, X: RawWord, const G: u32, T: Word, const F: u32> {
     /// The first point.
     pub first: Fixed<X, G>,
     /// The binary logarithm of the distance between two points, in units of the argument.
@@ -21,7 +21,7 @@ pub struct Table<'a, X: Word, const G: u32, T: Word, const F: u32> {
     pub values: &'a [Fixed<T, F>],
 }
 
-impl<'a, X: Word, const G: u32, T: Word, const F: u32> Table<'a, X, G, T, F> {
+impl<'a, X: RawWord, const G: u32, T: Word, const F: u32> Table<'a, X, G, T, F> {
     /// Returns the value at `x` on the line between the points around `x`, rounded down, so that less than one unit is
     /// lost. If `x` lies below the first point, returns the first value, and if `x` lies above the last point, the last
     /// value. Preconditions: there is a value, and `step` is below the width of values.
@@ -89,7 +89,7 @@ fn reaches(last: u64, step: u32, units: u64) -> bool
 
 /// Returns the value at the point `at`.
 #[inline]
-fn value_at<T: Word, const F: u32>(values: &[Fixed<T, F>], at: usize) -> T
+fn value_at<T: RawWord, const F: u32>(values: &[Fixed<T, F>], at: usize) -> T
     requires { at < length values.now }
     ensures { T.value result ≡ get_or (map (λ v. T.value v.bits) values.now) at (pos 0) }
 {

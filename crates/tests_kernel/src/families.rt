@@ -1,27 +1,30 @@
 //! Families of cases of the crate's own tests, by plain computations.
 
-use super::calls::{Op, answer, multiply_add, ratio};
-use super::plain::{quotient, remainder, stands};
-use fixed_word::{SignedWord, Word};
+use super::calls::{Op, ratio};
+use super::named::{WordName, answer_in, greatest, multiply_add_in, stands_in, width};
+use fixed_word::SignedWord;
 use std::process::Abort;
 
-/// A number of 64 bits by its sign and magnitude.
-fn found<T: Word>(op: Op, a: T, b: T, frac: u32, number: i64) -> bool {
-    stands(
-        answer(op, a, b, frac),
-        number < 0,
-        number.unsigned_abs() as u128,
-    )
+/// That the kernel of two operands leaves what the word leaves of that number, with its side.
+fn check(rt: &impl Abort, word: WordName, op: Op, a: i128, b: i128, frac: u32, number: i128) {
+    let found = answer_in(word, op, a, b, frac);
+    let stands = stands_in(word, found, number);
+    assert!(rt; stands, "{word:?}: {op:?} of {a} and {b} at {frac}: {found:?}");
 }
 
-/// The word that the number leaves.
-fn word<T: Word>(number: i64) -> T {
-    T::residue(number < 0, number.unsigned_abs() as u128)
+/// `a / b`, rounded toward zero; 0 for a divisor 0.
+fn quotient(a: i128, b: i128) -> i128 {
+    if b == 0 { 0 } else { a.wrapping_div(b) }
+}
+
+/// `a - b q`, with the quotient q rounded toward zero.
+fn remainder(a: i128, b: i128) -> i128 {
+    a.wrapping_sub(b.wrapping_mul(quotient(a, b)))
 }
 
 /// The operations on 128 a and 128 b, or on 128 a and the whole number b, at seven places.
-fn seven_places<T: Word>(rt: &impl Abort, a: i64, b: i64) {
-    let (x, y, whole) = (a.wrapping_mul(128), b.wrapping_mul(128), word::<T>(b));
+fn seven_places(rt: &impl Abort, word: WordName, a: i128, b: i128) {
+    let (x, y) = (a.wrapping_mul(128), b.wrapping_mul(128));
     let (times, over, left) = (x.wrapping_mul(b), quotient(x, b), remainder(x, y));
     for (op, number) in [
         (Op::Add, x.wrapping_add(y)),
@@ -31,53 +34,42 @@ fn seven_places<T: Word>(rt: &impl Abort, a: i64, b: i64) {
         (Op::Rem, left),
         (Op::Neg, x.wrapping_neg()),
     ] {
-        assert!(rt;
-            found(op, word::<T>(x), word::<T>(y), 7, number),
-            "{op:?} of {a} and {b}"
-        );
+        check(rt, word, op, x, y, 7, number);
     }
     for (op, number) in [(Op::MulInt, times), (Op::DivInt, over), (Op::RemInt, left)] {
-        assert!(rt;
-            found(op, word::<T>(x), whole, 7, number),
-            "{op:?} of {a} and {b}"
-        );
+        check(rt, word, op, x, b, 7, number);
     }
 }
 
 #[test]
 fn sixteen_bits(rt: HostRuntime) {
-    for (a, b) in [(12, 5), (5, 12)] {
-        seven_places::<u16>(&rt, a, b);
-        for (up, down) in [(1_i64, 1_i64), (1, -1), (-1, 1), (-1, -1)] {
-            seven_places::<i16>(&rt, up.wrapping_mul(a), down.wrapping_mul(b));
+    for (a, b) in [(12_i128, 5_i128), (5, 12)] {
+        seven_places(&rt, WordName::U16, a, b);
+        for (up, down) in [(1_i128, 1_i128), (1, -1), (-1, 1), (-1, -1)] {
+            seven_places(&rt, WordName::I16, up.wrapping_mul(a), down.wrapping_mul(b));
         }
     }
 }
 
 #[test]
 fn remainders_by_integers(rt: HostRuntime) {
-    for a in [-32768_i32, -32767, 32767] {
-        for k in [-32768_i32, -32767, 32767, 32768] {
-            let left = remainder(a as i64, k as i64);
+    let word = WordName::I32;
+    for a in [-32768_i128, -32767, 32767] {
+        for k in [-32768_i128, -32767, 32767, 32768] {
+            let left = remainder(a, k);
             let over = if left < 0 {
-                left.wrapping_add(k.unsigned_abs() as i64)
+                left.wrapping_add(k.wrapping_abs())
             } else {
                 left
             };
-            let bits = a.wrapping_mul(65536);
-            assert!(rt;
-                found(Op::RemInt, bits, k, 16, left.wrapping_mul(65536)),
-                "{a} by {k}"
-            );
-            assert!(rt;
-                found(Op::RemEuclidInt, bits, k, 16, over.wrapping_mul(65536)),
-                "{a} by {k}"
-            );
+            let (bits, unit) = (a.wrapping_mul(65536), 65536);
+            check(&rt, word, Op::RemInt, bits, k, 16, left.wrapping_mul(unit));
+            check(&rt, word, Op::RemEuclidInt, bits, k, 16, over.wrapping_mul(unit));
         }
     }
     for (bits, k, frac, left, over) in [
-        (i32::MIN, -1, 16, 0, 0),
-        (i32::MIN, 1, 31, 0, 0),
+        (-2147483648, -1, 16, 0, 0),
+        (-2147483648, 1, 31, 0, 0),
         (-1610612736, 1, 31, -1610612736, 536870912),
         (-1073741824, 1, 31, -1073741824, 1073741824),
         (-536870912, 1, 31, -536870912, 1610612736),
@@ -89,53 +81,31 @@ fn remainders_by_integers(rt: HostRuntime) {
         (1073741824, 1, 32, 1073741824, 1073741824),
         (-1073741824, 3, 31, -1073741824, 5368709120),
         (-536870912, 3, 31, -536870912, 5905580032),
-        (i32::MIN, 1, 32, -2147483648, 2147483648),
+        (-2147483648, 1, 32, -2147483648, 2147483648),
         (-1610612736, 1, 32, -1610612736, 2684354560),
         (-1073741824, 1, 32, -1073741824, 3221225472),
     ] {
-        assert!(rt;
-            found(Op::RemInt, bits, k, frac, left),
-            "{bits} by {k} at {frac}"
-        );
-        assert!(rt;
-            found(Op::RemEuclidInt, bits, k, frac, over),
-            "{bits} by {k} at {frac}"
-        );
+        check(&rt, word, Op::RemInt, bits, k, frac, left);
+        check(&rt, word, Op::RemEuclidInt, bits, k, frac, over);
     }
 }
 
 /// The quotient and the remainder of bits by a whole number that is moved up by the fraction.
-fn by_whole_number<T: Word>(rt: &impl Abort, a: T, k: T, frac: u32) {
-    let size = a.magnitude() as u128;
-    let by = k.magnitude() as u128;
-    if by > 0 && frac <= 32 {
-        let moved = by.wrapping_mul(1 << frac);
-        let left = if moved > size {
-            size
-        } else if moved > 0 {
-            size % moved
-        } else {
-            0
-        };
-        let apart = a.is_below_zero() != k.is_below_zero();
-        assert!(rt;
-            stands(answer(Op::DivInt, a, k, frac), apart, size / by),
-            "quotient at {frac}"
-        );
-        assert!(rt;
-            stands(answer(Op::RemInt, a, k, frac), a.is_below_zero(), left),
-            "remainder at {frac}"
-        );
+fn by_whole_number(rt: &impl Abort, word: WordName, a: i128, k: i128, frac: u32) {
+    if k != 0 && frac <= 32 {
+        let moved = k.wrapping_mul(1 << frac);
+        check(rt, word, Op::DivInt, a, k, frac, quotient(a, k));
+        check(rt, word, Op::RemInt, a, k, frac, remainder(a, moved));
     }
 }
 
 #[test]
 fn whole_divisors(rt: HostRuntime) {
     let unsigned = [
-        0_u32, 1, 100, 5555, 65534, 65535, 65536, 4294967294, 4294967295,
+        0_i128, 1, 100, 5555, 65534, 65535, 65536, 4294967294, 4294967295,
     ];
     let signed = [
-        i32::MIN,
+        -2147483648_i128,
         -2147483647,
         -5555,
         -80,
@@ -150,92 +120,87 @@ fn whole_divisors(rt: HostRuntime) {
     for frac in [0, 1, 16, 31, 32] {
         for a in unsigned {
             for k in unsigned {
-                by_whole_number(&rt, a, k, frac);
+                by_whole_number(&rt, WordName::U32, a, k, frac);
             }
         }
         for a in signed {
             for k in signed {
-                by_whole_number(&rt, a, k, frac);
+                by_whole_number(&rt, WordName::I32, a, k, frac);
             }
         }
     }
 }
 
+/// That `a mul + add` leaves what the word leaves of that number, with its side; the factor has `frac` places.
+fn check_sum(rt: &impl Abort, word: WordName, row: (i128, i128, i128, u32), number: i128) {
+    let (a, mul, add, frac) = row;
+    let found = multiply_add_in(word, a, mul, add, frac);
+    let stands = stands_in(word, found, number);
+    assert!(rt; stands, "{word:?}: {a} {mul} + {add} at {frac}: {found:?}");
+}
+
 /// The greatest number and its half, by one and three, at a fraction that leaves room for three.
-fn multiply_add_inside<T: Word>(rt: &impl Abort, frac: u32) {
-    let m = T::MAX.magnitude() as u128;
+fn multiply_add_inside(rt: &impl Abort, word: WordName, frac: u32) {
+    let m = greatest(word) as i128;
     let h = m / 2;
     if frac < 63 {
-        let one = T::residue(false, 1 << frac);
-        let three = T::residue(false, 3 << frac);
-        let half = T::residue(false, h);
-        let added = if T::SIGNED {
-            m.saturating_sub(1)
+        let (one, three) = (1_i128 << frac, 3_i128 << frac);
+        for (a, mul, add, number) in [
+            (m, one, 0, m),
+            (m, one, 1, m.wrapping_add(1)),
+            (m, three, m, m.wrapping_mul(4)),
+        ] {
+            check_sum(rt, word, (a, mul, add, frac), number);
+        }
+        let (less, lesser) = if is_signed(word) {
+            (-1, h.wrapping_neg())
         } else {
-            m.saturating_mul(2)
+            (m, m.wrapping_sub(h).wrapping_add(1))
         };
-        let twice = if T::SIGNED {
-            h.saturating_mul(2)
-        } else {
-            h.saturating_mul(2).saturating_add(m).saturating_add(1)
-        };
-        assert!(rt;
-            stands(multiply_add(T::MAX, one, T::ZERO, frac), false, m),
-            "{frac}"
-        );
-        assert!(rt;
-            stands(
-                multiply_add(T::MAX, one, T::ONE, frac),
-                false,
-                m.saturating_add(1)
-            ),
-            "{frac}"
-        );
-        assert!(rt;
-            stands(
-                multiply_add(T::MAX, one, T::residue(true, 1), frac),
-                false,
-                added
-            ),
-            "{frac}"
-        );
-        assert!(rt;
-            stands(
-                multiply_add(T::MAX, three, T::MAX, frac),
-                false,
-                m.saturating_mul(4)
-            ),
-            "{frac}"
-        );
-        assert!(rt;
-            stands(
-                multiply_add(half, three, T::residue(true, h), frac),
-                false,
-                twice
-            ),
-            "{frac}"
-        );
+        check_sum(rt, word, (m, one, less, frac), m.wrapping_add(less));
+        let number = h.wrapping_mul(3).wrapping_add(lesser);
+        check_sum(rt, word, (h, three, lesser, frac), number);
     }
 }
 
+fn is_signed(word: WordName) -> bool {
+    matches!(word, WordName::I8 | WordName::I16 | WordName::I32 | WordName::I64)
+}
+
 /// The greatest number by a quarter and by itself, with no integer bits.
-fn multiply_add_outside<T: Word>(rt: &impl Abort, quarter: u128) {
-    let m = T::MAX.magnitude() as u128;
-    let whole = if T::SIGNED {
+fn multiply_add_outside(rt: &impl Abort, word: WordName) {
+    let m = greatest(word) as i128;
+    let places = width(word);
+    let whole = if is_signed(word) {
         m / 2
     } else {
-        m.saturating_sub(1)
+        m.wrapping_sub(1)
     };
-    let factor = T::residue(false, quarter);
-    assert!(rt; stands(multiply_add(T::MAX, factor, T::ZERO, T::BITS), false, m / 4));
-    assert!(rt; stands(multiply_add(T::MAX, T::MAX, T::ZERO, T::BITS), false, whole));
-    assert!(rt;
-        stands(
-            multiply_add(T::MAX, T::MAX, T::MAX, T::BITS),
-            false,
-            whole.saturating_add(m)
-        )
-    );
+    if places >= 2 && places <= 64 {
+        let quarter = 1_i128 << (places - 2);
+        check_sum(rt, word, (m, quarter, 0, places), m / 4);
+        check_sum(rt, word, (m, m, 0, places), whole);
+        check_sum(rt, word, (m, m, m, places), whole.wrapping_add(m));
+    }
+}
+
+#[test]
+fn sums_of_products(rt: HostRuntime) {
+    for (word, fractions) in [
+        (WordName::I8, [0, 4, 5]),
+        (WordName::I16, [0, 8, 13]),
+        (WordName::I32, [0, 16, 29]),
+        (WordName::I64, [0, 32, 61]),
+        (WordName::U8, [0, 4, 6]),
+        (WordName::U16, [0, 8, 14]),
+        (WordName::U32, [0, 16, 30]),
+        (WordName::U64, [0, 32, 62]),
+    ] {
+        for frac in fractions {
+            multiply_add_inside(&rt, word, frac);
+        }
+        multiply_add_outside(&rt, word);
+    }
 }
 
 /// The least number by -1, with no integer bits.
@@ -247,27 +212,7 @@ fn least_over_minus_one<T: SignedWord>() -> bool {
 }
 
 #[test]
-fn each_word(rt: HostRuntime) {
-    for (eight, sixteen, wide, widest) in [(0, 0, 0, 0), (4, 8, 16, 32), (5, 13, 29, 61)] {
-        multiply_add_inside::<i8>(&rt, eight);
-        multiply_add_inside::<i16>(&rt, sixteen);
-        multiply_add_inside::<i32>(&rt, wide);
-        multiply_add_inside::<i64>(&rt, widest);
-    }
-    for (eight, sixteen, wide, widest) in [(0, 0, 0, 0), (4, 8, 16, 32), (6, 14, 30, 62)] {
-        multiply_add_inside::<u8>(&rt, eight);
-        multiply_add_inside::<u16>(&rt, sixteen);
-        multiply_add_inside::<u32>(&rt, wide);
-        multiply_add_inside::<u64>(&rt, widest);
-    }
-    multiply_add_outside::<i8>(&rt, 1 << 6);
-    multiply_add_outside::<u8>(&rt, 1 << 6);
-    multiply_add_outside::<i16>(&rt, 1 << 14);
-    multiply_add_outside::<u16>(&rt, 1 << 14);
-    multiply_add_outside::<i32>(&rt, 1 << 30);
-    multiply_add_outside::<u32>(&rt, 1 << 30);
-    multiply_add_outside::<i64>(&rt, 1 << 62);
-    multiply_add_outside::<u64>(&rt, 1 << 62);
+fn least_numbers(rt: HostRuntime) {
     assert!(rt; least_over_minus_one::<i8>() && least_over_minus_one::<i16>());
     assert!(rt; least_over_minus_one::<i32>() && least_over_minus_one::<i64>());
 }

@@ -1,7 +1,7 @@
 //! The kernels by the name of a word, on plain numbers: one function names the eight words, so
 //! that no test pays for their laws.
 
-use super::calls::{Op, answer};
+use super::calls::{Op, answer, multiply_add};
 use super::plain::words_of;
 use fixed_word::{Side, Word, checked_of, outcome_of};
 use std::process::Abort;
@@ -52,6 +52,52 @@ pub fn answer_in(word: WordName, op: Op, a: i128, b: i128, frac: u32) -> Option<
     }
 }
 
+fn multiply_add_as<T: Word>(a: i128, mul: i128, add: i128, frac: u32) -> Option<(i128, Side)> {
+    let outcome = multiply_add::<T>(word_of(a)?, word_of(mul)?, word_of(add)?, frac)?;
+    Some((value_of(outcome.wrapped), outcome.side))
+}
+
+/// What the kernel answers of `a mul + add` at words of that name and those values; the factor has `frac` places.
+pub fn multiply_add_in(
+    word: WordName,
+    a: i128,
+    mul: i128,
+    add: i128,
+    frac: u32,
+) -> Option<(i128, Side)> {
+    match word {
+        WordName::U8 => multiply_add_as::<u8>(a, mul, add, frac),
+        WordName::U16 => multiply_add_as::<u16>(a, mul, add, frac),
+        WordName::U32 => multiply_add_as::<u32>(a, mul, add, frac),
+        WordName::U64 => multiply_add_as::<u64>(a, mul, add, frac),
+        WordName::I8 => multiply_add_as::<i8>(a, mul, add, frac),
+        WordName::I16 => multiply_add_as::<i16>(a, mul, add, frac),
+        WordName::I32 => multiply_add_as::<i32>(a, mul, add, frac),
+        WordName::I64 => multiply_add_as::<i64>(a, mul, add, frac),
+    }
+}
+
+/// Whether what was found is what words of that name leave of the number, with its side.
+pub fn stands_in(word: WordName, found: Option<(i128, Side)>, number: i128) -> bool {
+    match found {
+        Some((wrapped, side)) => {
+            let apart = wrapped.wrapping_sub(number).unsigned_abs();
+            apart % words_of(width(word)) == 0 && side == side_in(word, number)
+        }
+        None => false,
+    }
+}
+
+fn side_in(word: WordName, number: i128) -> Side {
+    if number > greatest(word) as i128 {
+        Side::Above
+    } else if number < least(word) {
+        Side::Below
+    } else {
+        Side::Fits
+    }
+}
+
 /// Operands with what the kernel is to leave of its number, and the side where the number lies.
 pub type Row = (Op, i128, i128, u32, i128, Side);
 
@@ -69,19 +115,11 @@ pub fn check_row(rt: &impl Abort, word: WordName, row: Row) {
 /// That the kernel of one operand leaves what the word leaves of that number, which is at least 0.
 pub fn check_number(rt: &impl Abort, word: WordName, op: Op, a: i128, frac: u32, number: u64) {
     let found = answer_in(word, op, a, 0, frac);
-    let stands = match found {
-        Some((wrapped, side)) => {
-            let apart = wrapped.wrapping_sub(number as i128).unsigned_abs();
-            let fits = number <= greatest(word);
-            apart % words_of(width(word)) == 0
-                && side == if fits { Side::Fits } else { Side::Above }
-        }
-        None => false,
-    };
+    let stands = stands_in(word, found, number as i128);
     assert!(rt; stands, "{word:?}: {op:?} of {a} at {frac}: {found:?}");
 }
 
-fn width(word: WordName) -> u32 {
+pub fn width(word: WordName) -> u32 {
     match word {
         WordName::U8 | WordName::I8 => 8,
         WordName::U16 | WordName::I16 => 16,
@@ -90,7 +128,7 @@ fn width(word: WordName) -> u32 {
     }
 }
 
-fn greatest(word: WordName) -> u64 {
+pub fn greatest(word: WordName) -> u64 {
     match word {
         WordName::U8 => u8::MAX as u64,
         WordName::U16 => u16::MAX as u64,
@@ -100,5 +138,15 @@ fn greatest(word: WordName) -> u64 {
         WordName::I16 => 32_767,
         WordName::I32 => 2_147_483_647,
         WordName::I64 => 9_223_372_036_854_775_807,
+    }
+}
+
+fn least(word: WordName) -> i128 {
+    match word {
+        WordName::U8 | WordName::U16 | WordName::U32 | WordName::U64 => 0,
+        WordName::I8 => -128,
+        WordName::I16 => -32_768,
+        WordName::I32 => -2_147_483_648,
+        WordName::I64 => -9_223_372_036_854_775_808,
     }
 }
