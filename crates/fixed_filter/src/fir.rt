@@ -113,7 +113,7 @@ impl<'t, 'p, T: Word, const OUT: u32, const TAP: u32, const IN: u32> Fir<'t, 'p,
 
 /// Returns a reply as a result: a number, or an error with the tap.
 #[inline]
-fn numbered<T: Word, const F: u32>(reply: Reply<T>) -> Result<Fixed<T, F>, TapOverflow>
+fn numbered<T: RawWord, const F: u32>(reply: Reply<T>) -> Result<Fixed<T, F>, TapOverflow>
     ensures { result_map (λ y. T.value y.bits) result ≡ as_result (reply_map T.value reply) }
 {
     match reply {
@@ -123,7 +123,7 @@ fn numbered<T: Word, const F: u32>(reply: Reply<T>) -> Result<Fixed<T, F>, TapOv
 }
 
 /// Sets each sample to 0.
-fn clear<T: Word, const F: u32>(past: &mut [Fixed<T, F>])
+fn clear<T: RawWord, const F: u32>(past: &mut [Fixed<T, F>])
     ensures { past.new ≡ replicate (length past.old) (record { bits = T.ZERO }) }
 {
     for i in 0..past.len() {

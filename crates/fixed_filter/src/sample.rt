@@ -3,7 +3,7 @@
 ghost use Rattle.std.specs.Prelude.{◌≡◌};
 
 use fixed_num::Fixed;
-use fixed_word::{RawWord, Word};
+use fixed_word::RawWord;
 
 /// A type that holds a word.
 pub(crate) trait Sample<T>: Copy {
@@ -19,7 +19,7 @@ pub(crate) trait Sample<T>: Copy {
         ensures { held result ≡ word };
 }
 
-impl<T: Word> Sample<T> for T {
+impl<T: RawWord> Sample<T> for T {
     ghost held = { λ x. x };
 
     fn to_word(self) -> T {
@@ -31,7 +31,7 @@ impl<T: Word> Sample<T> for T {
     }
 }
 
-impl<T: Word, const F: u32> Sample<T> for Fixed<T, F> {
+impl<T: RawWord, const F: u32> Sample<T> for Fixed<T, F> {
     ghost held = { λ x. x.bits };
 
     fn to_word(self) -> T {
