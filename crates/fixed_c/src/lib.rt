@@ -24,6 +24,7 @@ mod conversions;
 mod dots;
 mod elementary;
 mod intervals;
+mod near_calls;
 mod one_sign;
 mod products;
 mod quotients;
