@@ -23,6 +23,7 @@ mod calls;
 mod conversions;
 mod dots;
 mod elementary;
+mod ends_calls;
 mod intervals;
 mod near_calls;
 mod one_sign;
