@@ -1,7 +1,8 @@
 //! Quotients, rounded toward zero, and Euclidean quotients. Operands and results are bits, in units of `2^-frac`.
 #![tactic(auto, unfolding(crate::specs::inside::Calls::IsResultOf, crate::specs::Answers::at_fraction, crate::specs::Answers::row_or))]
 
-ghost use Rattle.std.specs.Prelude.{◌≡◌};
+ghost use Rattle.std.specs.Prelude.{◌≡◌, pos};
+ghost use Rattle.std.specs.Ordering.{int_eq};
 ghost use Rattle.fixed_word.specs.Quotient.{truncated_quotient};
 ghost use Rattle.fixed_kernel.specs.Rows.{by_divisor, exact_div, exact_div_euclid, exact_recip, units};
 ghost use Rattle.fixed_c.specs.declared.answer.Code.TheVariants.{ZeroDivisor};
@@ -11,6 +12,14 @@ ghost use Rattle.fixed_c.specs.inside.Calls.{IsResultOf};
 use crate::answer::Code;
 use fixed_kernel::{div_euclid_int_of, div_euclid_of, div_int_of, div_of, recip_of};
 use fixed_word::{Outcome, Word};
+
+/// Returns whether the divisor `b` is 0.
+#[inline]
+pub(crate) fn is_zero<T: Word>(b: T) -> bool
+    ensures { result ≡ int_eq (T.value b) (pos 0) }
+{
+    b == T::ZERO
+}
 
 /// Returns `a 2^frac / b`, rounded toward zero. Fails with `FractionPastWidth` if `frac` is greater than the width, and
 /// with `ZeroDivisor` if `b` is 0.
@@ -22,7 +31,7 @@ pub(crate) fn div<T: Word>(a: T, b: T, frac: u32) -> Result<Outcome<T>, Code>
     if frac > T::BITS {
         return Err(Code::FractionPastWidth);
     }
-    if b == T::ZERO {
+    if is_zero(b) {
         return Err(Code::ZeroDivisor);
     }
     Ok(div_of(a, b, frac))
@@ -34,7 +43,7 @@ pub(crate) fn div_int<T: Word>(a: T, k: T) -> Result<Outcome<T>, Code>
     ensures { IsResultOf T.value T.SIGNED T.BITS
         (row_or ZeroDivisor (by_divisor (T.value k) (truncated_quotient (T.value a) (T.value k)))) result }
 {
-    if k == T::ZERO {
+    if is_zero(k) {
         return Err(Code::ZeroDivisor);
     }
     Ok(div_int_of(a, k))
@@ -50,7 +59,7 @@ pub(crate) fn recip<T: Word>(a: T, frac: u32) -> Result<Outcome<T>, Code>
     if frac > T::BITS {
         return Err(Code::FractionPastWidth);
     }
-    if a == T::ZERO {
+    if is_zero(a) {
         return Err(Code::ZeroDivisor);
     }
     Ok(recip_of(a, frac))
@@ -66,7 +75,7 @@ pub(crate) fn div_euclid<T: Word>(a: T, b: T, frac: u32) -> Result<Outcome<T>, C
     if frac > T::BITS {
         return Err(Code::FractionPastWidth);
     }
-    if b == T::ZERO {
+    if is_zero(b) {
         return Err(Code::ZeroDivisor);
     }
     Ok(div_euclid_of(a, b, frac))
@@ -82,7 +91,7 @@ pub(crate) fn div_euclid_int<T: Word>(a: T, k: T, frac: u32) -> Result<Outcome<T
     if frac > T::BITS {
         return Err(Code::FractionPastWidth);
     }
-    if k == T::ZERO {
+    if is_zero(k) {
         return Err(Code::ZeroDivisor);
     }
     Ok(div_euclid_int_of(a, k, frac))

@@ -9,6 +9,7 @@ ghost use Rattle.fixed_c.specs.Answers.{at_fraction, row_or};
 ghost use Rattle.fixed_c.specs.inside.Calls.{IsResultOf};
 
 use crate::answer::Code;
+use crate::quotients::is_zero;
 use fixed_kernel::{next_multiple_of_of, rem_euclid_int_of, rem_euclid_of, rem_int_of, rem_of};
 use fixed_word::{Outcome, Word};
 
@@ -19,7 +20,7 @@ pub(crate) fn rem<T: Word>(a: T, b: T) -> Result<Outcome<T>, Code>
     ensures { IsResultOf T.value T.SIGNED T.BITS
         (row_or ZeroDivisor (by_divisor (T.value b) (exact_rem (T.value a) (T.value b)))) result }
 {
-    if b == T::ZERO {
+    if is_zero(b) {
         return Err(Code::ZeroDivisor);
     }
     Ok(rem_of(a, b))
@@ -35,7 +36,7 @@ pub(crate) fn rem_int<T: Word>(a: T, k: T, frac: u32) -> Result<Outcome<T>, Code
     if frac > T::BITS {
         return Err(Code::FractionPastWidth);
     }
-    if k == T::ZERO {
+    if is_zero(k) {
         return Err(Code::ZeroDivisor);
     }
     Ok(rem_int_of(a, k, frac))
@@ -47,7 +48,7 @@ pub(crate) fn rem_euclid<T: Word>(a: T, b: T) -> Result<Outcome<T>, Code>
     ensures { IsResultOf T.value T.SIGNED T.BITS
         (row_or ZeroDivisor (by_divisor (T.value b) (euclidean_remainder (T.value a) (T.value b)))) result }
 {
-    if b == T::ZERO {
+    if is_zero(b) {
         return Err(Code::ZeroDivisor);
     }
     Ok(rem_euclid_of(a, b))
@@ -63,7 +64,7 @@ pub(crate) fn rem_euclid_int<T: Word>(a: T, k: T, frac: u32) -> Result<Outcome<T
     if frac > T::BITS {
         return Err(Code::FractionPastWidth);
     }
-    if k == T::ZERO {
+    if is_zero(k) {
         return Err(Code::ZeroDivisor);
     }
     Ok(rem_euclid_int_of(a, k, frac))
@@ -76,7 +77,7 @@ pub(crate) fn next_multiple_of<T: Word>(a: T, b: T) -> Result<Outcome<T>, Code>
     ensures { IsResultOf T.value T.SIGNED T.BITS
         (row_or ZeroDivisor (by_divisor (T.value b) (exact_next_multiple_of (T.value a) (T.value b)))) result }
 {
-    if b == T::ZERO {
+    if is_zero(b) {
         return Err(Code::ZeroDivisor);
     }
     Ok(next_multiple_of_of(a, b))

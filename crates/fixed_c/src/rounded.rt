@@ -12,6 +12,7 @@ ghost use Rattle.fixed_c.specs.inside.Calls.{IsResultOf};
 ghost use Rattle.fixed_c.specs.Roundings.{at_rounding, rounding_of};
 
 use crate::answer::Code;
+use crate::quotients::is_zero;
 use fixed_kernel::{
     add_prod_round_of, div_int_round_of, div_round_of, mul_add_round_of, mul_round_of,
     recip_round_of,
@@ -113,7 +114,7 @@ pub(crate) fn div<T: Word>(a: T, b: T, frac: u32, rounding: u32) -> Result<Outco
     let Some(rounding) = rounding_of(rounding) else {
         return Err(Code::NoRounding);
     };
-    if b == T::ZERO {
+    if is_zero(b) {
         return Err(Code::ZeroDivisor);
     }
     Ok(div_round_of(a, b, frac, rounding))
@@ -129,7 +130,7 @@ pub(crate) fn div_int<T: Word>(a: T, k: T, rounding: u32) -> Result<Outcome<T>, 
     let Some(rounding) = rounding_of(rounding) else {
         return Err(Code::NoRounding);
     };
-    if k == T::ZERO {
+    if is_zero(k) {
         return Err(Code::ZeroDivisor);
     }
     Ok(div_int_round_of(a, k, rounding))
@@ -149,7 +150,7 @@ pub(crate) fn recip<T: Word>(a: T, frac: u32, rounding: u32) -> Result<Outcome<T
     let Some(rounding) = rounding_of(rounding) else {
         return Err(Code::NoRounding);
     };
-    if a == T::ZERO {
+    if is_zero(a) {
         return Err(Code::ZeroDivisor);
     }
     Ok(recip_round_of(a, frac, rounding))

@@ -23,6 +23,8 @@ ghost use Rattle.fixed_block.specs.Blocks.{of_pairs};
 ghost use Rattle.fixed_c.specs.Answers.{ValueAnswers, at_fraction, row_or};
 ghost use Rattle.fixed_c.specs.Blocks.{BlockAnswers, at_policy};
 ghost use Rattle.fixed_c.specs.inside.Calls.{IsResultOf, given};
+ghost use Rattle.fixed_c.specs.inside.EndsCalls.{ends_in};
+ghost use Rattle.fixed_c.specs.inside.TextCalls.{text_in};
 ghost use Rattle.fixed_c.specs.Dots.{IsDot};
 ghost use Rattle.fixed_c.specs.Intervals.{difference_in, from_to, product_in, quotient_in, root_in, sum_in};
 ghost use Rattle.fixed_c.specs.Near.{allowed};
@@ -33,7 +35,9 @@ ghost use Rattle.fixed_c.specs.Words.{AnswersI8, EndsI8Answers};
 
 use crate::answer::{Code, side_of};
 use crate::calls::{Call, result_of};
-use crate::{blocks, conversions, dots, intervals, one_sign, texts};
+use crate::ends_calls::{EndsCall, ends_of};
+use crate::texts::{TextCall, put_text};
+use crate::{blocks, conversions, dots, one_sign, texts};
 use fixed_word::Outcome;
 
 /// The result of an operation.
@@ -81,6 +85,25 @@ impl AnswerI8 {
     {
         self.leave(result_of(call))
     }
+}
+
+impl EndsI8 {
+    /// Writes the ends of the result of a call, or returns the number of its code.
+    #[inline(always)]
+    fn take(&mut self, call: EndsCall<i8>) -> i32
+        ensures { EndsI8Answers (ends_in (λ x. x) true 8 call) self.old self.new result }
+    {
+        ends_of(call, &mut self.low, &mut self.high)
+    }
+}
+
+/// Writes the text of a call, or returns the number of its code.
+#[inline(always)]
+fn write(call: TextCall<i8>, buffer: &mut [u8], length: &mut usize) -> i32
+    ensures { TextAnswers (text_in (λ x. x) 8 call)
+        (buffer.old, length.old) (buffer.new, length.new) result }
+{
+    put_text(call, buffer, length)
 }
 
 /// Writes `-a`. Always returns 0.
@@ -490,7 +513,7 @@ pub extern "C" fn fixed_i8_print(
         (at_fraction 8 frac (at_places places (at_rounding rounding (λ r. Ok (text_of a frac places r)))))
         (buffer.old, length.old) (buffer.new, length.new) result }
 {
-    texts::print(a, frac, places, rounding, buffer, length)
+    write(TextCall::Print(a, frac, places, rounding), buffer, length)
 }
 
 /// Writes the shortest text that is read back as `a / 2^frac`, to the nearest, the byte 0 after it, and its length.
@@ -506,7 +529,7 @@ pub extern "C" fn fixed_i8_print_shortest(
         (at_fraction 8 frac (Ok (text_of a frac (shortest a frac) Even)))
         (buffer.old, length.old) (buffer.new, length.new) result }
 {
-    texts::shortest(a, frac, buffer, length)
+    write(TextCall::Shortest(a, frac), buffer, length)
 }
 
 /// Writes the ends of the sums of a number in `a` and one in `b`. Fails with `EndsExchanged` or `OutOfRange`.
@@ -522,8 +545,7 @@ pub extern "C" fn fixed_i8_add_in(
         (sum_in true 8 (from_to a_low a_high) (from_to b_low b_high))
         answer.old answer.new result }
 {
-    let (low, high) = (&mut answer.low, &mut answer.high);
-    intervals::add(a_low, a_high, b_low, b_high, low, high)
+    answer.take(EndsCall::Add(a_low, a_high, b_low, b_high))
 }
 
 /// Writes the ends of the differences of a number in `a` and one in `b`. Fails with `EndsExchanged` or `OutOfRange`.
@@ -539,8 +561,7 @@ pub extern "C" fn fixed_i8_sub_in(
         (difference_in true 8 (from_to a_low a_high) (from_to b_low b_high))
         answer.old answer.new result }
 {
-    let (low, high) = (&mut answer.low, &mut answer.high);
-    intervals::sub(a_low, a_high, b_low, b_high, low, high)
+    answer.take(EndsCall::Sub(a_low, a_high, b_low, b_high))
 }
 
 /// Writes the ends of the products of a number in `a` and one in `b`, each over `2^frac`, rounded outward. Fails with
@@ -558,8 +579,7 @@ pub extern "C" fn fixed_i8_mul_in(
         (product_in true 8 (from_to a_low a_high) (from_to b_low b_high) frac)
         answer.old answer.new result }
 {
-    let (low, high) = (&mut answer.low, &mut answer.high);
-    intervals::mul(a_low, a_high, b_low, b_high, frac, low, high)
+    answer.take(EndsCall::Mul(a_low, a_high, b_low, b_high, frac))
 }
 
 /// Writes the ends of the quotients of a number in `a` by one in `b`, each times `2^frac`, rounded outward. Fails with
@@ -577,8 +597,7 @@ pub extern "C" fn fixed_i8_div_in(
         (quotient_in true 8 (from_to a_low a_high) (from_to b_low b_high) frac)
         answer.old answer.new result }
 {
-    let (low, high) = (&mut answer.low, &mut answer.high);
-    intervals::div(a_low, a_high, b_low, b_high, frac, low, high)
+    answer.take(EndsCall::Div(a_low, a_high, b_low, b_high, frac))
 }
 
 /// Writes the ends of the roots of `x 2^frac` for the numbers x in `a`, rounded outward. Fails with
@@ -587,7 +606,7 @@ pub extern "C" fn fixed_i8_div_in(
 pub extern "C" fn fixed_i8_sqrt_in(a_low: i8, a_high: i8, frac: u32, answer: &mut EndsI8) -> i32
     ensures { EndsI8Answers (root_in true 8 (from_to a_low a_high) frac) answer.old answer.new result }
 {
-    intervals::sqrt(a_low, a_high, frac, &mut answer.low, &mut answer.high)
+    answer.take(EndsCall::Sqrt(a_low, a_high, frac))
 }
 
 /// Writes `-x` over each x of the block. Fails with `NoPolicy` or `OutOfRange`.

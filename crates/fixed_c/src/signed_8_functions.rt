@@ -19,9 +19,21 @@ ghost use Rattle.fixed_c.specs.Filters.{filter_of, fractions, output_in, past_af
 ghost use Rattle.fixed_c.specs.Near.{NearAnswers, NearPairAnswers, allowed, off_origin, positive};
 ghost use Rattle.fixed_c.specs.Places.{PlaceAnswers};
 ghost use Rattle.fixed_c.specs.Polynomials.{horner_in};
+ghost use Rattle.fixed_c.specs.inside.NearCalls.{IsNear, operands};
 
+use crate::near_calls::{NearCall, near_of};
 use crate::{arrays, elementary};
 use fixed_filter::Shape;
+
+/// Writes the number of a call, or returns the code of why there is none, as [`near_of`] does.
+#[inline(always)]
+fn near(call: NearCall<i8>, number: &mut i8) -> i32
+    ensures { NearAnswers (λ x. x) true 8
+        (operands (λ x. x) 8 call) (IsNear (λ x. x) 8 call)
+        number.old number.new result }
+{
+    near_of(call, number)
+}
 
 /// Writes the length of the pair `(a, b)`, which is the root of `a^2 + b^2`, rounded down. Fails with `OutOfRange`.
 #[unsafe(no_mangle)]
@@ -30,7 +42,7 @@ pub extern "C" fn fixed_i8_hypot(a: i8, b: i8, number: &mut i8) -> i32
         allowed (λ r. r ≡ exact_hypot a b)
         number.old number.new result }
 {
-    elementary::hypot(a, b, number)
+    near(NearCall::Hypot(a, b), number)
 }
 
 /// Writes one over the square root of `a / 2^frac`, rounded down. Fails with `FractionPastWidth`, `NotPositive` or
@@ -41,7 +53,7 @@ pub extern "C" fn fixed_i8_recip_sqrt(a: i8, frac: u32, number: &mut i8) -> i32
         (at_fraction 8 frac (positive a)) (λ r. r ≡ exact_recip_sqrt a frac)
         number.old number.new result }
 {
-    elementary::recip_sqrt(a, frac, number)
+    near(NearCall::RecipSqrt(a, frac), number)
 }
 
 /// Writes the logarithm of `a / 2^frac` to the base 2, rounded down within the bound of `IsLog2Of`. Fails with
@@ -52,7 +64,7 @@ pub extern "C" fn fixed_i8_log2(a: i8, frac: u32, number: &mut i8) -> i32
         (at_fraction 8 frac (positive a)) (IsLog2Of (log2_room 8) a frac)
         number.old number.new result }
 {
-    elementary::log2(a, frac, number)
+    near(NearCall::Log2(a, frac), number)
 }
 
 /// Writes the natural logarithm of `a / 2^frac`, rounded down within the bound of `IsLn`. Fails with
@@ -63,7 +75,7 @@ pub extern "C" fn fixed_i8_ln(a: i8, frac: u32, number: &mut i8) -> i32
         (at_fraction 8 frac (positive a)) (IsLn (log_room 8) a frac)
         number.old number.new result }
 {
-    elementary::ln(a, frac, number)
+    near(NearCall::Ln(a, frac), number)
 }
 
 /// Writes the logarithm of `a / 2^frac` to the base 10, rounded down within the bound of `IsLog10`. Fails with
@@ -74,7 +86,7 @@ pub extern "C" fn fixed_i8_log10(a: i8, frac: u32, number: &mut i8) -> i32
         (at_fraction 8 frac (positive a)) (IsLog10 (log_room 8) a frac)
         number.old number.new result }
 {
-    elementary::log10(a, frac, number)
+    near(NearCall::Log10(a, frac), number)
 }
 
 /// Writes 2 to the power of `a / 2^frac`, rounded down within the bound of `IsExp2Of`. Fails with `FractionPastWidth`
@@ -85,7 +97,7 @@ pub extern "C" fn fixed_i8_exp2(a: i8, frac: u32, number: &mut i8) -> i32
         (at_fraction 8 frac allowed) (IsExp2Of (exp2_room 8) a frac)
         number.old number.new result }
 {
-    elementary::exp2(a, frac, number)
+    near(NearCall::Exp2(a, frac), number)
 }
 
 /// Writes e to the power of `a / 2^frac`, rounded down within the bound of `IsExp`. Fails with `FractionPastWidth` or
@@ -96,7 +108,7 @@ pub extern "C" fn fixed_i8_exp(a: i8, frac: u32, number: &mut i8) -> i32
         (at_fraction 8 frac allowed) (IsExp a frac)
         number.old number.new result }
 {
-    elementary::exp(a, frac, number)
+    near(NearCall::Exp(a, frac), number)
 }
 
 /// Writes `a / 2^frac` to the power of `b / 2^frac`, rounded down within the bound of `IsPow`. Fails with
@@ -107,7 +119,7 @@ pub extern "C" fn fixed_i8_pow(a: i8, b: i8, frac: u32, number: &mut i8) -> i32
         (at_fraction 8 frac (positive a)) (IsPow a b frac)
         number.old number.new result }
 {
-    elementary::pow(a, b, frac, number)
+    near(NearCall::Pow(a, b, frac), number)
 }
 
 /// Writes the sine of `a / 2^frac` turns, rounded to the nearest within the bound of `IsSine`. Fails with
@@ -118,7 +130,7 @@ pub extern "C" fn fixed_i8_sin_turns(a: i8, frac: u32, number: &mut i8) -> i32
         (at_fraction 8 frac allowed) (IsSine (sine_room 8) a frac)
         number.old number.new result }
 {
-    elementary::sin_turns(a, frac, number)
+    near(NearCall::SinTurns(a, frac), number)
 }
 
 /// Writes the cosine of `a / 2^frac` turns, rounded to the nearest within the bound of `IsCosine`. Fails with
@@ -129,7 +141,7 @@ pub extern "C" fn fixed_i8_cos_turns(a: i8, frac: u32, number: &mut i8) -> i32
         (at_fraction 8 frac allowed) (IsCosine (sine_room 8) a frac)
         number.old number.new result }
 {
-    elementary::cos_turns(a, frac, number)
+    near(NearCall::CosTurns(a, frac), number)
 }
 
 /// Writes the sine and the cosine of `angle / 2^frac` turns, as `fixed_i8_sin_turns` and `fixed_i8_cos_turns` do. Fails
@@ -156,7 +168,7 @@ pub extern "C" fn fixed_i8_atan2_turns(y: i8, x: i8, frac: u32, number: &mut i8)
         (at_fraction 8 frac (off_origin y x)) (IsAngleOf (turn_room 8) x y frac)
         number.old number.new result }
 {
-    elementary::atan2_turns(y, x, frac, number)
+    near(NearCall::Atan2Turns(y, x, frac), number)
 }
 
 /// Writes the value at `x` of the polynomial with these coefficients, the lowest first. Fails with `FractionPastWidth`,

@@ -7,6 +7,7 @@ ghost use Rattle.fixed_decimal.specs.Decimal.{decimal_row};
 ghost use Rattle.fixed_decimal.specs.Text.{shortest, text_of};
 ghost use Rattle.fixed_c.specs.Answers.{at_fraction};
 ghost use Rattle.fixed_c.specs.inside.Calls.{IsResultOf};
+ghost use Rattle.fixed_c.specs.inside.TextCalls.{text_in};
 ghost use Rattle.fixed_c.specs.Roundings.{at_rounding};
 ghost use Rattle.fixed_c.specs.Texts.{TextAnswers, at_places, or_code, text_code};
 
@@ -14,6 +15,15 @@ use crate::answer::Code;
 use crate::rounded::rounding_of;
 use fixed_decimal::{DecimalError, decimal_of, shortest_places, write_decimal};
 use fixed_word::{Outcome, Rounding, Word};
+
+/// A call that writes the text of a number, with its operands. The number is bits, in units of `2^-frac`.
+pub(crate) enum TextCall<T> {
+    /// The text of `a / 2^frac`, with `places` digits after the point, rounded as named: `a`, `frac`, `places`, and the
+    /// number of the rounding.
+    Print(T, u32, u32, u32),
+    /// The shortest text that is read back as `a / 2^frac`: `a` and `frac`.
+    Shortest(T, u32),
+}
 
 /// Returns the code of an error in a text.
 #[inline]
@@ -53,7 +63,7 @@ pub(crate) fn parse<T: Word>(text: &[u8], frac: u32, rounding: u32) -> Result<Ou
 /// the width, with `TooManyPlaces` if `places` is greater than 64, with `NoRounding` if no rounding has the number
 /// `rounding`, and with `NoRoom` if both do not fit: the length is then written, and the buffer is unchanged.
 #[inline]
-pub(crate) fn print<T: Word>(
+fn print<T: Word>(
     a: T,
     frac: u32,
     places: u32,
@@ -84,7 +94,7 @@ pub(crate) fn print<T: Word>(
 /// greater than the width, and with `NoRoom` if both do not fit: the length is then written, and the buffer is
 /// unchanged.
 #[inline]
-pub(crate) fn shortest<T: Word>(a: T, frac: u32, buffer: &mut [u8], length: &mut usize) -> i32
+fn shortest<T: Word>(a: T, frac: u32, buffer: &mut [u8], length: &mut usize) -> i32
     ensures { TextAnswers
         (at_fraction T.BITS frac (Ok (text_of (T.value a) frac (shortest (T.value a) frac) Even)))
         (buffer.old, length.old) (buffer.new, length.new) result }
@@ -96,6 +106,17 @@ pub(crate) fn shortest<T: Word>(a: T, frac: u32, buffer: &mut [u8], length: &mut
     let places = shortest_places(a, frac);
     let start = write_decimal(a, frac, places, Rounding::Even, &mut text);
     put(&text[start..], buffer, length)
+}
+
+/// Writes the text of a call, as [`print`] or [`shortest`] does.
+#[inline(always)]
+pub(crate) fn put_text<T: Word>(call: TextCall<T>, buffer: &mut [u8], length: &mut usize) -> i32
+    ensures { TextAnswers (text_in T.value T.BITS call) (buffer.old, length.old) (buffer.new, length.new) result }
+{
+    match call {
+        TextCall::Print(a, frac, places, by) => print(a, frac, places, by, buffer, length),
+        TextCall::Shortest(a, frac) => shortest(a, frac, buffer, length),
+    }
 }
 
 /// Writes a text and the byte 0 at the front of a buffer, writes the length of the text, and returns 0. Fails with

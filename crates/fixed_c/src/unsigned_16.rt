@@ -23,6 +23,8 @@ ghost use Rattle.fixed_block.specs.Blocks.{of_pairs};
 ghost use Rattle.fixed_c.specs.Answers.{ValueAnswers, at_fraction, row_or};
 ghost use Rattle.fixed_c.specs.Blocks.{BlockAnswers, at_policy};
 ghost use Rattle.fixed_c.specs.inside.Calls.{IsResultOf, given};
+ghost use Rattle.fixed_c.specs.inside.EndsCalls.{ends_in};
+ghost use Rattle.fixed_c.specs.inside.TextCalls.{text_in};
 ghost use Rattle.fixed_c.specs.Dots.{IsDot};
 ghost use Rattle.fixed_c.specs.Intervals.{difference_in, from_to, product_in, quotient_in, root_in, sum_in};
 ghost use Rattle.fixed_c.specs.Near.{allowed};
@@ -33,7 +35,9 @@ ghost use Rattle.fixed_c.specs.Words.{AnswersU16, EndsU16Answers};
 
 use crate::answer::{Code, side_of};
 use crate::calls::{Call, result_of};
-use crate::{blocks, conversions, dots, intervals, one_sign, texts};
+use crate::ends_calls::{EndsCall, ends_of};
+use crate::texts::{TextCall, put_text};
+use crate::{blocks, conversions, dots, one_sign, texts};
 use fixed_word::Outcome;
 
 /// The result of an operation.
@@ -81,6 +85,25 @@ impl AnswerU16 {
     {
         self.leave(result_of(call))
     }
+}
+
+impl EndsU16 {
+    /// Writes the ends of the result of a call, or returns the number of its code.
+    #[inline(always)]
+    fn take(&mut self, call: EndsCall<u16>) -> i32
+        ensures { EndsU16Answers (ends_in pos false 16 call) self.old self.new result }
+    {
+        ends_of(call, &mut self.low, &mut self.high)
+    }
+}
+
+/// Writes the text of a call, or returns the number of its code.
+#[inline(always)]
+fn write(call: TextCall<u16>, buffer: &mut [u8], length: &mut usize) -> i32
+    ensures { TextAnswers (text_in pos 16 call)
+        (buffer.old, length.old) (buffer.new, length.new) result }
+{
+    put_text(call, buffer, length)
 }
 
 /// Writes `-a`. Always returns 0.
@@ -486,7 +509,7 @@ pub extern "C" fn fixed_u16_print(
         (at_fraction 16 frac (at_places places (at_rounding rounding (λ r. Ok (text_of (pos a) frac places r)))))
         (buffer.old, length.old) (buffer.new, length.new) result }
 {
-    texts::print(a, frac, places, rounding, buffer, length)
+    write(TextCall::Print(a, frac, places, rounding), buffer, length)
 }
 
 /// Writes the shortest text that is read back as `a / 2^frac`, to the nearest, the byte 0 after it, and its length.
@@ -502,7 +525,7 @@ pub extern "C" fn fixed_u16_print_shortest(
         (at_fraction 16 frac (Ok (text_of (pos a) frac (shortest (pos a) frac) Even)))
         (buffer.old, length.old) (buffer.new, length.new) result }
 {
-    texts::shortest(a, frac, buffer, length)
+    write(TextCall::Shortest(a, frac), buffer, length)
 }
 
 /// Writes the ends of the sums of a number in `a` and one in `b`. Fails with `EndsExchanged` or `OutOfRange`.
@@ -518,8 +541,7 @@ pub extern "C" fn fixed_u16_add_in(
         (sum_in false 16 (from_to (pos a_low) (pos a_high)) (from_to (pos b_low) (pos b_high)))
         answer.old answer.new result }
 {
-    let (low, high) = (&mut answer.low, &mut answer.high);
-    intervals::add(a_low, a_high, b_low, b_high, low, high)
+    answer.take(EndsCall::Add(a_low, a_high, b_low, b_high))
 }
 
 /// Writes the ends of the differences of a number in `a` and one in `b`. Fails with `EndsExchanged` or `OutOfRange`.
@@ -535,8 +557,7 @@ pub extern "C" fn fixed_u16_sub_in(
         (difference_in false 16 (from_to (pos a_low) (pos a_high)) (from_to (pos b_low) (pos b_high)))
         answer.old answer.new result }
 {
-    let (low, high) = (&mut answer.low, &mut answer.high);
-    intervals::sub(a_low, a_high, b_low, b_high, low, high)
+    answer.take(EndsCall::Sub(a_low, a_high, b_low, b_high))
 }
 
 /// Writes the ends of the products of a number in `a` and one in `b`, each over `2^frac`, rounded outward. Fails with
@@ -554,8 +575,7 @@ pub extern "C" fn fixed_u16_mul_in(
         (product_in false 16 (from_to (pos a_low) (pos a_high)) (from_to (pos b_low) (pos b_high)) frac)
         answer.old answer.new result }
 {
-    let (low, high) = (&mut answer.low, &mut answer.high);
-    intervals::mul(a_low, a_high, b_low, b_high, frac, low, high)
+    answer.take(EndsCall::Mul(a_low, a_high, b_low, b_high, frac))
 }
 
 /// Writes the ends of the quotients of a number in `a` by one in `b`, each times `2^frac`, rounded outward. Fails with
@@ -573,8 +593,7 @@ pub extern "C" fn fixed_u16_div_in(
         (quotient_in false 16 (from_to (pos a_low) (pos a_high)) (from_to (pos b_low) (pos b_high)) frac)
         answer.old answer.new result }
 {
-    let (low, high) = (&mut answer.low, &mut answer.high);
-    intervals::div(a_low, a_high, b_low, b_high, frac, low, high)
+    answer.take(EndsCall::Div(a_low, a_high, b_low, b_high, frac))
 }
 
 /// Writes the ends of the roots of `x 2^frac` for the numbers x in `a`, rounded outward. Fails with
@@ -583,7 +602,7 @@ pub extern "C" fn fixed_u16_div_in(
 pub extern "C" fn fixed_u16_sqrt_in(a_low: u16, a_high: u16, frac: u32, answer: &mut EndsU16) -> i32
     ensures { EndsU16Answers (root_in false 16 (from_to (pos a_low) (pos a_high)) frac) answer.old answer.new result }
 {
-    intervals::sqrt(a_low, a_high, frac, &mut answer.low, &mut answer.high)
+    answer.take(EndsCall::Sqrt(a_low, a_high, frac))
 }
 
 /// Writes `-x` over each x of the block. Fails with `NoPolicy` or `OutOfRange`.
