@@ -94,22 +94,22 @@ pub trait FromNum: Numeric {
 impl<N: Numeric> FromNum for N {
     #[inline]
     fn from_num<S: Source>(source: S) -> Self {
-        exact_num(source.outcome(Self::FRACTION, S::DEFAULT))
+        exact_num(source.outcome(Self::FRACTION, S::DEFAULT).unwrap())
     }
 
     #[inline]
     fn checked_from_num<S: Source>(source: S) -> Option<Self> {
-        checked_num(source.outcome(Self::FRACTION, S::DEFAULT))
+        Self::checked_from_num_round(source, S::DEFAULT)
     }
 
     #[inline]
     fn overflowing_from_num<S: Source>(source: S) -> (Self, bool) {
-        overflowing_num(source.outcome(Self::FRACTION, S::DEFAULT))
+        overflowing_num(source.outcome(Self::FRACTION, S::DEFAULT).unwrap())
     }
 
     #[inline]
     fn wrapping_from_num<S: Source>(source: S) -> Self {
-        wrapping_num(source.outcome(Self::FRACTION, S::DEFAULT))
+        wrapping_num(source.outcome(Self::FRACTION, S::DEFAULT).unwrap())
     }
 
     #[inline]
@@ -119,27 +119,27 @@ impl<N: Numeric> FromNum for N {
 
     #[inline]
     fn strict_from_num<S: Source>(source: S) -> Self {
-        strict_num(source.outcome(Self::FRACTION, S::DEFAULT))
+        strict_num(source.outcome(Self::FRACTION, S::DEFAULT).unwrap())
     }
 
     #[inline]
     fn unwrapped_from_num<S: Source>(source: S) -> Self {
-        strict_num(source.outcome(Self::FRACTION, S::DEFAULT))
+        strict_num(source.outcome(Self::FRACTION, S::DEFAULT).unwrap())
     }
 
     #[inline]
     fn checked_from_num_round<S: Source>(source: S, rounding: Rounding) -> Option<Self> {
-        checked_num(source.outcome(Self::FRACTION, rounding))
+        checked_num(source.outcome(Self::FRACTION, rounding)?)
     }
 
     #[inline]
     fn overflowing_from_num_round<S: Source>(source: S, rounding: Rounding) -> (Self, bool) {
-        overflowing_num(source.outcome(Self::FRACTION, rounding))
+        overflowing_num(source.outcome(Self::FRACTION, rounding).unwrap())
     }
 
     #[inline]
     fn wrapping_from_num_round<S: Source>(source: S, rounding: Rounding) -> Self {
-        wrapping_num(source.outcome(Self::FRACTION, rounding))
+        wrapping_num(source.outcome(Self::FRACTION, rounding).unwrap())
     }
 
     #[inline]
@@ -149,16 +149,16 @@ impl<N: Numeric> FromNum for N {
 
     #[inline]
     fn from_num_round<S: Source>(source: S, rounding: Rounding) -> Self {
-        exact_num(source.outcome(Self::FRACTION, rounding))
+        exact_num(source.outcome(Self::FRACTION, rounding).unwrap())
     }
 
     #[inline]
     fn strict_from_num_round<S: Source>(source: S, rounding: Rounding) -> Self {
-        strict_num(source.outcome(Self::FRACTION, rounding))
+        strict_num(source.outcome(Self::FRACTION, rounding).unwrap())
     }
 
     #[inline]
     fn unwrapped_from_num_round<S: Source>(source: S, rounding: Rounding) -> Self {
-        strict_num(source.outcome(Self::FRACTION, rounding))
+        strict_num(source.outcome(Self::FRACTION, rounding).unwrap())
     }
 }

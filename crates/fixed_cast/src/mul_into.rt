@@ -2,7 +2,7 @@
 
 ghost use Rattle.std.specs.Prelude.{◌≡◌, ◌≤◌, Some, IsSome, option_map};
 ghost use Rattle.fixed_word.specs.Policies.{checked, overflowing, saturating, wrapping};
-ghost use Rattle.fixed_word.specs.Standing.{IsOutcomeOfRow};
+ghost use Rattle.fixed_word.specs.Standing.{StandsFor};
 ghost use Rattle.fixed_word.specs.declared.rounding.Rounding.TheVariants.{Down};
 ghost use Rattle.fixed_convert.specs.Convert.{rounded_mul_into};
 
@@ -140,32 +140,32 @@ impl<A: Numeric> MulInto for A {
 
     #[inline]
     fn checked_mul_into<B: Numeric, D: Numeric>(self, rhs: B) -> Option<D> {
-        checked_num(product::<A, B, D>(self, rhs, Rounding::Down))
+        self.checked_mul_into_round(rhs, Rounding::Down)
     }
 
     #[inline]
     fn overflowing_mul_into<B: Numeric, D: Numeric>(self, rhs: B) -> (D, bool) {
-        overflowing_num(product::<A, B, D>(self, rhs, Rounding::Down))
+        self.overflowing_mul_into_round(rhs, Rounding::Down)
     }
 
     #[inline]
     fn wrapping_mul_into<B: Numeric, D: Numeric>(self, rhs: B) -> D {
-        wrapping_num(product::<A, B, D>(self, rhs, Rounding::Down))
+        self.wrapping_mul_into_round(rhs, Rounding::Down)
     }
 
     #[inline]
     fn saturating_mul_into<B: Numeric, D: Numeric>(self, rhs: B) -> D {
-        saturating_num(product::<A, B, D>(self, rhs, Rounding::Down))
+        self.saturating_mul_into_round(rhs, Rounding::Down)
     }
 
     #[inline]
     fn strict_mul_into<B: Numeric, D: Numeric>(self, rhs: B) -> D {
-        strict_num(product::<A, B, D>(self, rhs, Rounding::Down))
+        self.strict_mul_into_round(rhs, Rounding::Down)
     }
 
     #[inline]
     fn unwrapped_mul_into<B: Numeric, D: Numeric>(self, rhs: B) -> D {
-        strict_num(product::<A, B, D>(self, rhs, Rounding::Down))
+        self.strict_mul_into(rhs)
     }
 
     #[inline]
@@ -208,29 +208,24 @@ impl<A: Numeric> MulInto for A {
 
     #[inline]
     fn unwrapped_mul_into_round<B: Numeric, D: Numeric>(self, rhs: B, rounding: Rounding) -> D {
-        strict_num(product::<A, B, D>(self, rhs, rounding))
+        self.strict_mul_into_round(rhs, rounding)
     }
 }
 
 /// Returns the outcome of the product in the format of `D`.
 #[inline]
-fn product<A: Numeric, B: Numeric, D: Numeric>(
-    a: A,
-    b: B,
-    rounding: Rounding,
-) -> Option<Outcome<D::Word>>
+fn product<A: Numeric, B: Numeric, D: Numeric>(a: A, b: B, rounding: Rounding) -> Outcome<D::Word>
     requires fraction { A.FRACTION ≤ A.Word.BITS }
     requires rhs_fraction { B.FRACTION ≤ B.Word.BITS }
-    ensures outcome { IsOutcomeOfRow D.Word.value D.Word.SIGNED D.Word.BITS
-        (Some (rounded_mul_into (A.units a) A.FRACTION (B.units b) B.FRACTION D.FRACTION rounding)) result }
-    ensures some { IsSome result }
+    ensures { StandsFor D.Word.value D.Word.SIGNED D.Word.BITS
+        (rounded_mul_into (A.units a) A.FRACTION (B.units b) B.FRACTION D.FRACTION rounding) result }
 {
-    Some(mul_into_of(
+    mul_into_of(
         a.to_word(),
         A::FRACTION,
         b.to_word(),
         B::FRACTION,
         D::FRACTION,
         rounding,
-    ))
+    )
 }

@@ -3,8 +3,9 @@
 ghost use Rattle.std.specs.Prelude.{◌≡◌, Some, IsSome, option_map};
 ghost use Rattle.fixed_word.specs.Policies.{checked, overflowing, wrapping};
 
+use crate::from_num::FromNum;
 use crate::numeric::Numeric;
-use crate::policies::{checked_num, exact_num, overflowing_num, strict_num, wrapping_num};
+use crate::policies::{exact_num, overflowing_num, strict_num, wrapping_num};
 use crate::source::Source;
 use crate::target::Target;
 use fixed_word::Rounding;
@@ -132,17 +133,17 @@ impl<S: Source> ToNum for S {
 
     #[inline]
     fn checked_to_num_round<N: Numeric>(self, rounding: Rounding) -> Option<N> {
-        checked_num(self.outcome(N::FRACTION, rounding))
+        N::checked_from_num_round(self, rounding)
     }
 
     #[inline]
     fn overflowing_to_num_round<N: Numeric>(self, rounding: Rounding) -> (N, bool) {
-        overflowing_num(self.outcome(N::FRACTION, rounding))
+        overflowing_num(self.outcome(N::FRACTION, rounding).unwrap())
     }
 
     #[inline]
     fn wrapping_to_num_round<N: Numeric>(self, rounding: Rounding) -> N {
-        wrapping_num(self.outcome(N::FRACTION, rounding))
+        wrapping_num(self.outcome(N::FRACTION, rounding).unwrap())
     }
 
     #[inline]
@@ -152,16 +153,16 @@ impl<S: Source> ToNum for S {
 
     #[inline]
     fn to_num_round<N: Numeric>(self, rounding: Rounding) -> N {
-        exact_num(self.outcome(N::FRACTION, rounding))
+        exact_num(self.outcome(N::FRACTION, rounding).unwrap())
     }
 
     #[inline]
     fn strict_to_num_round<N: Numeric>(self, rounding: Rounding) -> N {
-        strict_num(self.outcome(N::FRACTION, rounding))
+        strict_num(self.outcome(N::FRACTION, rounding).unwrap())
     }
 
     #[inline]
     fn unwrapped_to_num_round<N: Numeric>(self, rounding: Rounding) -> N {
-        strict_num(self.outcome(N::FRACTION, rounding))
+        self.strict_to_num_round(rounding)
     }
 }

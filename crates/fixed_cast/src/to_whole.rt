@@ -199,7 +199,7 @@ pub trait ToWhole: Number {
 impl<T: Castable, const F: u32> ToWhole for Fixed<T, F> {
     #[inline]
     fn int(self) -> Self {
-        wrapping_number(floor_of(self.bits, F))
+        self.wrapping_floor()
     }
 
     #[inline]
@@ -329,21 +329,21 @@ impl<T: Castable, const F: u32> ToWhole for Fixed<T, F> {
 
     #[inline]
     fn unwrapped_floor(self) -> Self {
-        strict_number(floor_of(self.bits, F))
+        self.strict_floor()
     }
 
     #[inline]
     fn unwrapped_ceil(self) -> Self {
-        strict_number(ceil_of(self.bits, F))
+        self.strict_ceil()
     }
 
     #[inline]
     fn unwrapped_round(self) -> Self {
-        strict_number(round_of(self.bits, F))
+        self.strict_round()
     }
 
     #[inline]
     fn unwrapped_round_ties_even(self) -> Self {
-        strict_number(round_ties_even_of(self.bits, F))
+        self.strict_round_ties_even()
     }
 }

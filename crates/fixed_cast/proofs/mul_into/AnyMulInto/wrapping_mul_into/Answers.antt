@@ -1,4 +1,0 @@
-use Rattle.fixed_cast.proofs.mul_into.AnyMulInto.wrapping_mul_into.Goals as goal
-
-pub returns : goal.returns
-returns g c = c.wrapping_num.ensures _ c.product.ensures.outcome
