@@ -28,7 +28,7 @@ use fixed_word::{Outcome, RawWord, Word, checked_of};
 
 /// Returns whether `a` is positive.
 #[inline]
-fn is_positive<T: Word>(a: T) -> bool
+fn is_positive<T: RawWord>(a: T) -> bool
     ensures { result ≡ int_lt (pos 0) (T.value a) }
 {
     !a.is_below_zero() && a.magnitude() > 0
@@ -36,7 +36,7 @@ fn is_positive<T: Word>(a: T) -> bool
 
 /// Returns whether the point `(x, y)` is the origin.
 #[inline]
-fn is_origin<T: Word>(y: T, x: T) -> bool
+fn is_origin<T: RawWord>(y: T, x: T) -> bool
     ensures { result ≡ (int_eq (T.value y) (pos 0) && int_eq (T.value x) (pos 0)) }
 {
     y.magnitude() == 0 && x.magnitude() == 0

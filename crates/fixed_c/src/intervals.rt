@@ -4,7 +4,7 @@
 //! If it fails, both ends are unchanged.
 #![tactic(auto, unfolding(crate::specs::Answers::at_fraction, crate::specs::Intervals::in_order, crate::specs::Intervals::without_zero, crate::specs::Intervals::from_zero, crate::specs::Intervals::sum_in, crate::specs::Intervals::difference_in, crate::specs::Intervals::product_in, crate::specs::Intervals::quotient_in, crate::specs::Intervals::root_in, crate::specs::Intervals::EndsAnswers))]
 
-ghost use Rattle.std.specs.Prelude.{◌≡◌, Some, false, int_lt, pos};
+ghost use Rattle.std.specs.Prelude.{◌≡◌, Some, false, int_le, int_lt, pos};
 ghost use Rattle.std.specs.Option.{option_map};
 ghost use Rattle.fixed_interval.specs.Ends.{Ends, ends_of, fitting, has_zero};
 ghost use Rattle.fixed_c.specs.Intervals.{EndsAnswers, difference_in, from_to, in_word, product_in, quotient_in, root_in, sum_in};
@@ -157,7 +157,7 @@ pub(crate) fn sqrt<T: Word>(a_low: T, a_high: T, frac: u32, low: &mut T, high: &
 
 /// Returns whether the low end is greater than the high end.
 #[inline]
-fn are_exchanged<T: Word>(low: T, high: T) -> bool
+fn are_exchanged<T: RawWord>(low: T, high: T) -> bool
     ensures { result ≡ int_lt (T.value high) (T.value low) }
 {
     high < low
@@ -165,18 +165,26 @@ fn are_exchanged<T: Word>(low: T, high: T) -> bool
 
 /// Returns whether the number is negative.
 #[inline]
-fn is_below_zero<T: Word>(a: T) -> bool
+fn is_below_zero<T: RawWord>(a: T) -> bool
     ensures { result ≡ int_lt (T.value a) (pos 0) }
 {
-    a < T::ZERO
+    are_exchanged(T::ZERO, a)
 }
 
 /// Returns whether 0 lies between these ends, or is one of them.
 #[inline]
-fn holds_zero<T: Word>(low: T, high: T) -> bool
+fn holds_zero<T: RawWord>(low: T, high: T) -> bool
     ensures { result ≡ has_zero (from_to (T.value low) (T.value high)) }
 {
-    low <= T::ZERO && T::ZERO <= high
+    is_at_most(low, T::ZERO) && is_at_most(T::ZERO, high)
+}
+
+/// Returns whether the first number is at most the second.
+#[inline]
+fn is_at_most<T: RawWord>(a: T, b: T) -> bool
+    ensures { result ≡ int_le (T.value a) (T.value b) }
+{
+    a <= b
 }
 
 /// Returns the interval with these ends. Precondition: the low end is at most the high end.

@@ -11,11 +11,11 @@ ghost use Rattle.fixed_c.specs.inside.Calls.{IsResultOf};
 
 use crate::answer::Code;
 use fixed_kernel::{div_euclid_int_of, div_euclid_of, div_int_of, div_of, recip_of};
-use fixed_word::{Outcome, Word};
+use fixed_word::{Outcome, RawWord, Word};
 
 /// Returns whether the divisor `b` is 0.
 #[inline]
-pub(crate) fn is_zero<T: Word>(b: T) -> bool
+pub(crate) fn is_zero<T: RawWord>(b: T) -> bool
     ensures { result ≡ int_eq (T.value b) (pos 0) }
 {
     b == T::ZERO
