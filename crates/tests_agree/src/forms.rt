@@ -24,7 +24,7 @@ fn of_unfit(left: i128, nearest: i128) -> Forms {
 /// nearest number that fits.
 fn all_unfit(rt: &impl Abort, rows: &[(&str, Forms, i128, i128)]) {
     for (what, found, left, nearest) in rows {
-        assert_eq!(rt; *found, of_unfit(*left, *nearest), "{what}");
+        assert!(rt; *found == of_unfit(*left, *nearest), "{what}");
     }
 }
 
@@ -93,6 +93,6 @@ fn mixed_signs(rt: HostRuntime) {
 #[test]
 fn far_shifts(rt: HostRuntime) {
     let (three, five) = (FixedI8::<4> { bits: 3 }, FixedI8::<4> { bits: -5 });
-    let found = (shl(three, 9), shr(five, 9));
-    assert_eq!(rt; found, (of_far_shift(6), of_far_shift(-3)));
+    assert!(rt; shl(three, 9) == of_far_shift(6));
+    assert!(rt; shr(five, 9) == of_far_shift(-3));
 }

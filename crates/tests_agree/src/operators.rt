@@ -218,6 +218,14 @@ fn on_bits<T: BitWord, const F: u32>(p: Fixed<T, F>, q: Fixed<T, F>) -> [T; 6]
     ]
 }
 
+fn on_signed_bits(a: i16, b: i16) -> [i16; 6] {
+    on_bits(FixedI16::<7> { bits: a }, FixedI16::<7> { bits: b })
+}
+
+fn on_unsigned_bits(a: u16, b: u16) -> [u16; 6] {
+    on_bits(FixedU16::<7> { bits: a }, FixedU16::<7> { bits: b })
+}
+
 #[test]
 fn bits_of_sixteen(rt: HostRuntime) {
     for (a, b) in [
@@ -230,16 +238,28 @@ fn bits_of_sixteen(rt: HostRuntime) {
         (-640, 1536),
         (-640, -1536),
     ] {
-        assert_eq!(rt;
-            on_bits(FixedI16::<7> { bits: a }, FixedI16::<7> { bits: b }),
-            [!a, a & b, a | b, a ^ b, a.wrapping_mul(16), a >> 4]
-        );
+        let wanted = [!a, a & b, a | b, a ^ b, a.wrapping_mul(16), a >> 4];
+        assert!(rt; on_signed_bits(a, b) == wanted, "{a} and {b}");
     }
     for (a, b) in [(1536_u16, 640), (640, 1536)] {
-        assert_eq!(rt;
-            on_bits(FixedU16::<7> { bits: a }, FixedU16::<7> { bits: b }),
-            [!a, a & b, a | b, a ^ b, a.wrapping_mul(16), a >> 4]
-        );
+        let wanted = [!a, a & b, a | b, a ^ b, a.wrapping_mul(16), a >> 4];
+        assert!(rt; on_unsigned_bits(a, b) == wanted, "{a} and {b}");
+    }
+}
+
+/// The bits of a signed number, where there is one.
+fn bits_of<const F: u32>(number: Option<FixedI32<F>>) -> Option<i32> {
+    match number {
+        Some(number) => Some(number.bits),
+        None => None,
+    }
+}
+
+/// The bits of an unsigned number, where there is one.
+fn unsigned_bits_of<const F: u32>(number: Option<FixedU32<F>>) -> Option<u32> {
+    match number {
+        Some(number) => Some(number.bits),
+        None => None,
     }
 }
 
@@ -248,10 +268,7 @@ fn rests<const F: u32>(bits: i32, k: i32) -> (Option<i32>, Option<i32>)
     requires { F ≤ 32 }
 {
     let x = FixedI32::<F> { bits };
-    (
-        rest(x, k).map(|r| r.bits),
-        rest_from_zero(x, k).map(|r| r.bits),
-    )
+    (bits_of(rest(x, k)), bits_of(rest_from_zero(x, k)))
 }
 
 /// Bits and an integer, with both remainders.
@@ -262,7 +279,8 @@ fn all_leave<const F: u32>(rt: &impl Abort, rows: &[Rests])
     requires { F ≤ 32 }
 {
     for (bits, k, want) in rows {
-        assert_eq!(rt; rests::<F>(*bits, *k), *want, "{bits} by {k} at {F}");
+        let found = rests::<F>(*bits, *k);
+        assert!(rt; found == *want, "{bits} by {k} at {F}: {found:?}");
     }
 }
 
@@ -315,12 +333,17 @@ fn divided<const F: u32>(rt: &impl Abort, a: u32, k: u32)
 {
     let x = FixedU32::<F> { bits: a };
     let moved = (k as u64) << F;
-    let found = (
-        part(x, k).map(|q| q.bits),
-        rest(x, k).map(|r| r.bits as u64),
+    let quotient = unsigned_bits_of(part(x, k));
+    assert!(rt;
+        quotient == a.checked_div(k),
+        "{a} over {k} at {F}: {quotient:?}"
     );
-    let want = (a.checked_div(k), (a as u64).checked_rem(moved));
-    assert_eq!(rt; found, want, "{a} and {k} at {F}");
+    let left = match rest(x, k) {
+        Some(left) => Some(left.bits as u64),
+        None => None,
+    };
+    let wanted = (a as u64).checked_rem(moved);
+    assert!(rt; left == wanted, "left of {a} by {k} at {F}: {left:?}");
 }
 
 /// The quotient and the remainder of signed bits by an integer.
@@ -329,12 +352,17 @@ fn divided_signed<const F: u32>(rt: &impl Abort, a: i32, k: i32)
 {
     let x = FixedI32::<F> { bits: a };
     let moved = (k as i128).wrapping_mul(1 << F);
-    let found = (
-        part(x, k).map(|q| q.bits),
-        rest(x, k).map(|r| r.bits as i128),
+    let quotient = bits_of(part(x, k));
+    assert!(rt;
+        quotient == a.checked_div(k),
+        "{a} over {k} at {F}: {quotient:?}"
     );
-    let want = (a.checked_div(k), (a as i128).checked_rem(moved));
-    assert_eq!(rt; found, want, "{a} and {k} at {F}");
+    let left = match rest(x, k) {
+        Some(left) => Some(left.bits as i128),
+        None => None,
+    };
+    let wanted = (a as i128).checked_rem(moved);
+    assert!(rt; left == wanted, "left of {a} by {k} at {F}: {left:?}");
 }
 
 #[test]

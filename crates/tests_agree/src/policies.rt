@@ -10,7 +10,7 @@ use std::process::Abort;
 /// Asserts that in each row the answer found is the one wanted.
 fn all_answer(rt: &impl Abort, rows: &[(&str, Answer, Answer)]) {
     for (what, found, wanted) in rows {
-        assert_eq!(rt; *found, *wanted, "{what}");
+        assert!(rt; *found == *wanted, "{what}: {found:?}");
     }
 }
 

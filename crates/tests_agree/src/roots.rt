@@ -177,6 +177,10 @@ fn root_and_square(rt: HostRuntime) {
     let root = FixedI32::<12> { bits: 5016 };
     let square = root.strict_mul(root);
     let apart = number.saturating_dist(square);
-    let found = [plain_root(number), Some(square), Some(apart)].map(|x| x.map(|x| x.bits));
-    assert_eq!(rt; found, [Some(5016), Some(6142), Some(2)]);
+    let found = match plain_root(number) {
+        Some(root) => Some(root.bits),
+        None => None,
+    };
+    assert!(rt; found == Some(5016), "{found:?}");
+    assert!(rt; square.bits == 6142 && apart.bits == 2);
 }

@@ -13,8 +13,11 @@ use std::test::Fail;
 fn runs(rt: &impl Abort, room: &mut Room, script: &str, expected: Result<(), Cause>, want: &str) {
     if room.suffices(script.as_bytes()) {
         let found = run_in(script.as_bytes(), room);
-        let wanted = (expected, want.as_bytes());
-        assert_eq!(rt; (found, room.answers()), wanted, "{script}");
+        assert!(rt; found == expected, "the cause of {script}");
+        assert!(rt;
+            room.answers() == want.as_bytes(),
+            "the answers of {script}"
+        );
     } else {
         assert!(rt; false, "room for {script}");
     }
@@ -25,7 +28,7 @@ fn runs(rt: &impl Abort, room: &mut Room, script: &str, expected: Result<(), Cau
 fn room_for_a_script(rt: HostRuntime) -> Result<(), Fail> {
     let alloc = rt.alloc();
     let mut room = Room::for_script(alloc, b"i32 16\n")?;
-    assert_eq!(rt; room.registers(), 0);
+    assert!(rt; room.registers() == 0);
     for (script, enough) in [
         ("", true),
         ("i32 16\n", true),
@@ -34,10 +37,10 @@ fn room_for_a_script(rt: HostRuntime) -> Result<(), Fail> {
         ("abcdefgh", false),
         ("a b c\n", false),
     ] {
-        assert_eq!(rt; room.suffices(script.as_bytes()), enough, "{script}");
+        assert!(rt; room.suffices(script.as_bytes()) == enough, "{script}");
     }
     runs(&rt, &mut room, "i32 16\n", Ok(()), "");
-    assert_eq!(rt; room.registers(), 1);
+    assert!(rt; room.registers() == 1);
     Ok(())
 }
 
@@ -85,7 +88,7 @@ fn one_room_for_many(rt: HostRuntime) -> Result<(), Fail> {
         assert!(rt; has_registers(&room, registers), "registers of {script}");
     }
     runs(&rt, &mut room, longest, Err(Cause::Overflow(4)), "5\n7\n");
-    assert_eq!(rt; room.into_answers().as_bytes(), b"5\n7\n".as_slice());
+    assert!(rt; room.into_answers().as_bytes() == b"5\n7\n".as_slice());
     Ok(())
 }
 
@@ -103,8 +106,8 @@ fn steps(rt: &impl Abort, room: &mut Room, text: &str, expected: Result<Answer, 
     } else {
         None
     };
-    let wanted = (Some(expected), Some(bits));
-    assert_eq!(rt; (found, first), wanted, "{text}");
+    assert!(rt; found == Some(expected), "{text}");
+    assert!(rt; first == Some(bits), "register 0 after {text}: {first:?}");
 }
 
 /// Each cause leaves the registers.
@@ -195,16 +198,11 @@ fn step_each(rt: &impl Abort, room: &mut Room)
         b: 0,
         rounding: Some(Rounding::Even),
     };
-    let found = [step(room, &misshapen, 4), step(room, &rounded, 4)];
-    let wanted = (
-        [Err(Cause::Syntax(4)), Err(Cause::Syntax(4))],
-        b"".as_slice(),
-    );
-    assert_eq!(rt;
-        (found, room.answers()),
-        wanted,
-        "one operand too many, nothing to round, and a step adds no answer"
-    );
+    let found = step(room, &misshapen, 4);
+    assert!(rt; found == Err(Cause::Syntax(4)), "one operand too many");
+    let found = step(room, &rounded, 4);
+    assert!(rt; found == Err(Cause::Syntax(4)), "nothing to round");
+    assert!(rt; room.answers().is_empty(), "a step adds no answer");
 }
 
 /// Asserts that declaring the header has this result and leaves so many registers.
@@ -225,8 +223,8 @@ fn declares(
         }
         None => None,
     };
-    let wanted = (Some(expected), registers);
-    assert_eq!(rt; (found, room.registers()), wanted, "{text}");
+    assert!(rt; found == Some(expected), "{text}");
+    assert!(rt; room.registers() == registers, "registers after {text}");
 }
 
 /// A room steps by hand: a header is declared, and each line is one call.
@@ -258,7 +256,7 @@ fn steps_by_hand(rt: HostRuntime) -> Result<(), Fail> {
     } else {
         None
     };
-    assert_eq!(rt; (room.word(), last), (Some(WordName::I8), Some(2)));
+    assert!(rt; room.word() == Some(WordName::I8) && last == Some(2));
     Ok(())
 }
 
@@ -271,9 +269,13 @@ fn bytes_in_and_out(rt: HostRuntime) -> Result<(), Fail> {
     let lent = script.as_bytes() == b"i8 4\n".as_slice() && answers.as_bytes() == b"5\n".as_slice();
     let (script, answers) = (script.into_bytes(), answers.into_bytes());
     assert!(rt; lent, "bytes lent");
-    assert_eq!(rt;
-        (script.as_slice(), answers.as_slice()),
-        (b"i8 4\n".as_slice(), b"5\n".as_slice())
+    assert!(rt;
+        script.as_slice() == b"i8 4\n".as_slice(),
+        "the bytes of a script"
+    );
+    assert!(rt;
+        answers.as_slice() == b"5\n".as_slice(),
+        "the bytes of answers"
     );
     Ok(())
 }
@@ -296,13 +298,11 @@ fn texts_and_numbers(rt: HostRuntime) -> Result<(), Fail> {
         (Status::TooLong, 5),
         (Status::Memory, 6),
     ] {
-        assert_eq!(rt; status.code(), code, "{status:?}");
+        assert!(rt; status.code() == code, "{status:?}");
     }
     let cause = format!(in alloc; "{}", RunFault::Script(Cause::Overflow(3)))?;
     let memory = format!(in alloc; "{}", RunFault::Memory)?;
-    assert_eq!(rt;
-        [cause.as_str(), memory.as_str()],
-        ["a line has a cause", "out of memory"]
-    );
+    assert!(rt; cause.as_str() == "a line has a cause", "{cause}");
+    assert!(rt; memory.as_str() == "out of memory", "{memory}");
     Ok(())
 }

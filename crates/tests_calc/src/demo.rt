@@ -41,8 +41,12 @@ fn leaves(rt: &impl Abort, seen: &mut Called, texts: &[&str], wanted: (Status, &
     let mut left = [0; 8];
     let unread = seen.source.read(&mut left) == Ok(5) && left == *b"i8 4\n\0\0\0";
     let (status, taken, told) = wanted;
-    let found = (seen.status, seen.sink.taken(), seen.errors.taken(), unread);
-    assert_eq!(rt; found, (status, taken, told, true), "{texts:?}");
+    let same = seen.sink.taken() == taken && seen.errors.taken() == told;
+    assert!(rt;
+        seen.status == status && same && unread,
+        "{texts:?}: {:?}",
+        seen.status
+    );
 }
 
 /// Asserts that the words `demo N` write this summary and read nothing.
@@ -58,7 +62,7 @@ fn sums_up(rt: &impl Abort, alloc: Global, lines: &str, summary: &str) -> Result
 #[test]
 fn faulty_words(rt: HostRuntime) -> Result<(), Fail> {
     let alloc = rt.alloc();
-    assert_eq!(rt; Status::Usage.code(), 2);
+    assert!(rt; Status::Usage.code() == 2);
     for texts in [
         ["x"].as_slice(),
         &[""],
@@ -85,7 +89,7 @@ fn makes(rt: &impl Abort, alloc: Global, lines: u32, script: &str) -> Result<(),
     requires most { lines ≤ most_lines }
 {
     let made = demo_script(alloc, lines)?;
-    assert_eq!(rt; made.as_bytes(), script.as_bytes(), "{lines} lines");
+    assert!(rt; made.as_bytes() == script.as_bytes(), "{lines} lines");
     Ok(())
 }
 

@@ -1,25 +1,37 @@
 //! A source, a sink and errors that fail.
 
 use super::devices::Failing;
-use super::same::all_same;
+use super::same::all_hold;
 use fixed_calc::{Cause, Sink, Source, Status, SureSink, SureSource, calc_main};
+use std::process::Abort;
 use std::test::Fail;
+
+/// What a call of the program leaves: its status, the bytes that a device in memory has, and the count that the
+/// failing device has.
+type Ended<'a> = (Status, &'a [u8], u64);
+
+/// Asserts that a call leaves what is wanted where a device fails after so many calls.
+fn ends(rt: &impl Abort, calls: u64, found: Ended, wanted: Ended) {
+    let (status, bytes, count) = found;
+    let (wanted_status, wanted_bytes, wanted_count) = wanted;
+    let same = status == wanted_status && bytes == wanted_bytes && count == wanted_count;
+    assert!(rt; same, "after {calls} calls: {status:?}, {bytes:?}, {count}");
+}
 
 /// A read that fails, at once or later, ends the work: nothing is written.
 #[test]
 fn failing_reads(rt: HostRuntime) -> Result<(), Fail> {
     let alloc = rt.alloc();
-    assert_eq!(rt; Status::ReadFault.code(), 3);
+    assert!(rt; Status::ReadFault.code() == 3);
     for calls in [0, 1, 5] {
         let words = Vec::new(alloc);
         let mut source = Failing::after(calls);
         let mut sink = SureSink::new(alloc);
         let mut errors = SureSink::new(alloc);
         let status = calc_main(alloc, &words, &mut source, &mut sink, &mut errors);
-        let found = (status, source.faults, sink.taken(), errors.taken());
-        let line = b"read fault\n".as_slice();
-        let wanted = (Status::ReadFault, 1, b"".as_slice(), line);
-        assert_eq!(rt; found, wanted, "after {calls} calls");
+        let found = (status, errors.taken(), source.faults);
+        ends(&rt, calls, found, (Status::ReadFault, b"read fault\n", 1));
+        assert!(rt; sink.taken().is_empty(), "after {calls} calls");
     }
     Ok(())
 }
@@ -28,16 +40,16 @@ fn failing_reads(rt: HostRuntime) -> Result<(), Fail> {
 #[test]
 fn failing_writes(rt: HostRuntime) -> Result<(), Fail> {
     let alloc = rt.alloc();
-    assert_eq!(rt; Status::WriteFault.code(), 4);
+    assert!(rt; Status::WriteFault.code() == 4);
     for calls in [0, 1, 2] {
         let words = Vec::new(alloc);
         let mut source = SureSource::new(b"i8 4\nr0 set 15\n".to_vec(alloc)?);
         let mut sink = Failing::after(calls);
         let mut errors = SureSink::new(alloc);
         let status = calc_main(alloc, &words, &mut source, &mut sink, &mut errors);
-        let found = (status, sink.taken, errors.taken());
-        let wanted = (Status::WriteFault, calls, b"write fault\n".as_slice());
-        assert_eq!(rt; found, wanted, "after {calls} calls");
+        let found = (status, errors.taken(), sink.taken);
+        let wanted = (Status::WriteFault, b"write fault\n".as_slice(), calls);
+        ends(&rt, calls, found, wanted);
     }
     Ok(())
 }
@@ -54,9 +66,10 @@ fn failing_summary(rt: HostRuntime) -> Result<(), Fail> {
         let mut sink = Failing::after(calls);
         let mut errors = SureSink::new(alloc);
         let status = calc_main(alloc, &words, &mut source, &mut sink, &mut errors);
-        let found = (status, source.faults, sink.taken, errors.taken());
-        let wanted = (Status::WriteFault, 0, calls, b"write fault\n".as_slice());
-        assert_eq!(rt; found, wanted, "after {calls} calls");
+        let found = (status, errors.taken(), sink.taken);
+        let wanted = (Status::WriteFault, b"write fault\n".as_slice(), calls);
+        ends(&rt, calls, found, wanted);
+        assert!(rt; source.faults == 0, "after {calls} calls");
     }
     Ok(())
 }
@@ -70,8 +83,8 @@ fn writes_before_a_fault(rt: HostRuntime) -> Result<(), Fail> {
     let mut sink = Failing::after(3);
     let mut errors = SureSink::new(alloc);
     let status = calc_main(alloc, &words, &mut source, &mut sink, &mut errors);
-    let found = (status, sink.taken, errors.taken());
-    assert_eq!(rt; found, (Status::Done, 3, b"".as_slice()));
+    let found = (status, errors.taken(), sink.taken);
+    ends(&rt, 3, found, (Status::Done, b"", 3));
     Ok(())
 }
 
@@ -85,9 +98,9 @@ fn failing_errors(rt: HostRuntime) -> Result<(), Fail> {
         let mut sink = SureSink::new(alloc);
         let mut errors = Failing::after(calls);
         let status = calc_main(alloc, &words, &mut source, &mut sink, &mut errors);
-        let found = (status, errors.taken, sink.taken());
-        let wanted = (Status::Script(Cause::Syntax(2)), calls, b"".as_slice());
-        assert_eq!(rt; found, wanted, "after {calls} calls");
+        let found = (status, sink.taken(), errors.taken);
+        let wanted = (Status::Script(Cause::Syntax(2)), b"".as_slice(), calls);
+        ends(&rt, calls, found, wanted);
     }
     Ok(())
 }
@@ -104,15 +117,16 @@ fn memory_forms(rt: HostRuntime) -> Result<(), Fail> {
     let mut sink = SureSink::new(alloc);
     let whole = sink.write(b"abc");
     let rest = sink.write(b"de");
-    all_same(
+    all_hold(
         &rt,
         &[
-            ("the first read", first, (Ok(4), *b"abcd")),
-            ("the second", second, (Ok(1), *b"ebcd")),
-            ("the third", third, (Ok(0), *b"ebcd")),
+            ("the first read", first == (Ok(4), *b"abcd")),
+            ("the second", second == (Ok(1), *b"ebcd")),
+            ("the third", third == (Ok(0), *b"ebcd")),
+            ("a write", whole == Ok(3)),
+            ("another", rest == Ok(2)),
+            ("what is taken", sink.taken() == b"abcde".as_slice()),
         ],
     );
-    all_same(&rt, &[("a write", whole, Ok(3)), ("another", rest, Ok(2))]);
-    assert_eq!(rt; sink.taken(), b"abcde".as_slice());
     Ok(())
 }

@@ -1,7 +1,7 @@
 //! Sources and sinks in memory of which any call may fail, a source without an end, and scripts cut short.
 
 use super::devices::Endless;
-use super::same::all_same;
+use super::same::{Left, all_hold, left};
 use fixed_calc::{
     Cause, Failed, MemorySink, MemorySource, Refusal, Sink, Source, Status, SureSink, calc_main,
 };
@@ -51,8 +51,9 @@ fn leaves(
     let failing = one_failing(alloc, tells.failing)?;
     let mut errors = MemorySink::new(alloc, tells.most.max(1), failing);
     let status = calc_main(alloc, &words, &mut source, &mut sink, &mut errors);
-    let found = (status, sink.taken(), errors.taken());
-    assert_eq!(rt; found, want, "{reads:?} {writes:?} {tells:?}");
+    let (wanted_status, written, told) = want;
+    let same = sink.taken() == written && errors.taken() == told;
+    assert!(rt; status == wanted_status && same, "{status:?} of {habits:?}");
     Ok(())
 }
 
@@ -130,9 +131,13 @@ fn endless_input(rt: HostRuntime) {
     let mut sink = SureSink::new(alloc);
     let mut errors = SureSink::new(alloc);
     let status = calc_main(alloc, &words, &mut Endless, &mut sink, &mut errors);
-    let found = (status, sink.taken(), errors.taken());
-    let line = b"too long\n".as_slice();
-    assert_eq!(rt; found, (Status::TooLong, b"".as_slice(), line));
+    let wanted: Left = (Status::TooLong, b"", b"too long\n");
+    left(
+        &rt,
+        "no end",
+        (status, sink.taken(), errors.taken()),
+        wanted,
+    );
 }
 
 /// A script that is cut within a line has `Syntax` there; one that is cut after a newline is done.
@@ -152,7 +157,7 @@ fn each_prefix(rt: HostRuntime) -> Result<(), Fail> {
         } else {
             Status::Script(Cause::Syntax(line))
         };
-        assert_eq!(rt; status, wanted, "the first {at} bytes");
+        assert!(rt; status == wanted, "{status:?} of the first {at} bytes");
         ended = SCRIPT[at] == b'\n';
         if ended {
             line = line.saturating_add(1);
@@ -182,8 +187,8 @@ fn thousand_digits(rt: HostRuntime) -> Result<(), Fail> {
         let mut sink = SureSink::new(alloc);
         let mut errors = SureSink::new(alloc);
         let status = calc_main(alloc, &words, &mut source, &mut sink, &mut errors);
-        let found = (status, sink.taken());
-        assert_eq!(rt; found, (Status::Script(cause), b"".as_slice()), "{front}");
+        let found = (status, sink.taken(), b"".as_slice());
+        left(&rt, front, found, (Status::Script(cause), b"", b""));
     }
     Ok(())
 }
@@ -202,23 +207,18 @@ fn calls_that_fail(rt: HostRuntime) -> Result<(), Fail> {
     let begun = sink.write(b"abc");
     let refused = sink.write(b"c");
     let ended = sink.write(b"c");
-    all_same(
+    all_hold(
         &rt,
         &[
-            ("the first read", first, (Ok(3), *b"abc\0")),
-            ("the one that fails", failed, (Err(Failed), *b"abc\0")),
-            ("the next", second, (Ok(2), *b"dec\0")),
-            ("the end", end, (Ok(0), *b"dec\0")),
+            ("the first read", first == (Ok(3), *b"abc\0")),
+            ("the one that fails", failed == (Err(Failed), *b"abc\0")),
+            ("the next", second == (Ok(2), *b"dec\0")),
+            ("the end", end == (Ok(0), *b"dec\0")),
+            ("the first write", begun == Ok(2)),
+            ("the write that fails", refused == Err(Refusal::Failed)),
+            ("the next write", ended == Ok(1)),
+            ("what is taken", sink.taken() == b"abc".as_slice()),
         ],
     );
-    all_same(
-        &rt,
-        &[
-            ("the first write", begun, Ok(2)),
-            ("the one that fails", refused, Err(Refusal::Failed)),
-            ("the next", ended, Ok(1)),
-        ],
-    );
-    assert_eq!(rt; sink.taken(), b"abc".as_slice());
     Ok(())
 }

@@ -1,5 +1,6 @@
 //! What no clause says: worked scripts from bytes to bytes, printed texts, and ample memory.
 
+use super::same::left;
 use fixed_calc::{Cause, Source, Status, SureSink, SureSource, calc_main};
 use std::alloc::Global;
 use std::process::Abort;
@@ -35,8 +36,7 @@ pub fn outcome_of<S: Source>(alloc: Global, source: &mut S) -> Seen {
 pub fn answers(rt: &impl Abort, alloc: Global, script: &str, want: &str) -> Result<(), Fail> {
     let seen = outcome(alloc, script.as_bytes())?;
     let found = (seen.status, seen.sink.taken(), seen.errors.taken());
-    let wanted = (Status::Done, want.as_bytes(), b"".as_slice());
-    assert_eq!(rt; found, wanted, "{script}");
+    left(rt, script, found, (Status::Done, want.as_bytes(), b""));
     Ok(())
 }
 
@@ -49,8 +49,11 @@ pub fn refuses(
     line: &str,
 ) -> Result<(), Fail> {
     let seen = outcome(alloc, script)?;
-    let found = (seen.status, seen.errors.taken(), seen.sink.taken());
-    let wanted = (Status::Script(cause), line.as_bytes(), b"".as_slice());
-    assert_eq!(rt; found, wanted, "{script:?}");
+    let same = seen.errors.taken() == line.as_bytes() && seen.sink.taken().is_empty();
+    let status = seen.status;
+    assert!(rt;
+        status == Status::Script(cause) && same,
+        "{status:?} of {script:?}"
+    );
     Ok(())
 }

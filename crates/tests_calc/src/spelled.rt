@@ -35,7 +35,7 @@ const SPELLED: [(&str, &str); 6] = [
 /// Asserts that the script is spelled so.
 fn spells(rt: &impl Abort, alloc: Global, script: &str, want: &str) {
     match explicit(alloc, script.as_bytes()) {
-        Ok(spelled) => assert_eq!(rt; spelled.as_bytes(), want.as_bytes(), "{script}"),
+        Ok(spelled) => assert!(rt; spelled.as_bytes() == want.as_bytes(), "{script}"),
         Err(fault) => assert!(rt; false, "{fault} at {script}"),
     }
 }
@@ -72,7 +72,7 @@ fn spelled_scripts(rt: HostRuntime) -> Result<(), Fail> {
         spells_none(&rt, alloc, script, number)?;
     }
     let text = format!(in alloc; "{}", ExplicitFault::Memory)?;
-    assert_eq!(rt; text.as_str(), "out of memory");
+    assert!(rt; text.as_str() == "out of memory", "{text}");
     Ok(())
 }
 

@@ -1,6 +1,6 @@
 //! Decimals, tokens, pieces, outputs and the run over lines, each call once.
 
-use super::same::{all_hold, all_same};
+use super::same::all_hold;
 use fixed_digits::*;
 use fixed_text::*;
 use std::alloc::Global;
@@ -20,8 +20,12 @@ fn decimals_read(rt: HostRuntime) {
         ("12 3", None),
         ("012 3", None),
     ] {
-        let found = (natural_of(text.as_bytes()), is_decimal(text.as_bytes()));
-        assert_eq!(rt; found, (number, number.is_some()), "{text}");
+        let found = natural_of(text.as_bytes());
+        let decimal = is_decimal(text.as_bytes());
+        assert!(rt;
+            found == number && decimal == number.is_some(),
+            "{text}: {found:?}"
+        );
     }
     all_hold(
         &rt,
@@ -37,7 +41,7 @@ fn decimals_read(rt: HostRuntime) {
 fn decimals_written(rt: HostRuntime) {
     let mut buffer = [0; 20];
     let start = decimal_into(1007, &mut buffer);
-    assert_eq!(rt; &buffer[start..], b"1007".as_slice());
+    assert!(rt; &buffer[start..] == b"1007".as_slice());
 }
 
 #[test]
@@ -47,15 +51,15 @@ fn tokens(rt: HostRuntime) {
     let (ended, rest) = (tokens.is_empty(), tokens.rest());
     tokens.go_on(None);
     let (token, left) = cut(b"1234567890 a b");
-    all_same(
+    all_hold(
         &rt,
         &[
-            ("a word", word, Some(b"u8".as_slice())),
-            ("between two spaces", between, Some(b"")),
-            ("the rest", rest, Some(b"12345678")),
-            ("no token", tokens.take(), None),
-            ("cut off", Some(token), Some(b"1234567890")),
-            ("what is left", left, Some(b"a b")),
+            ("a word", word == Some(b"u8".as_slice())),
+            ("between two spaces", between == Some(b"".as_slice())),
+            ("the rest", rest == Some(b"12345678".as_slice())),
+            ("no token", tokens.take().is_none()),
+            ("cut off", token == b"1234567890".as_slice()),
+            ("what is left", left == Some(b"a b".as_slice())),
         ],
     );
     let known = word_of(b"u8") == Some(WordName::U8) && word_of(b"u9").is_none();
@@ -109,19 +113,19 @@ fn wholes_read(rt: HostRuntime) {
         ("1 ", None),
     ] {
         let alone = read_only_number(Tokens::new(text.as_bytes()));
-        let found = [read_decimal(text.as_bytes()), alone];
-        assert_eq!(rt; found, [number, number], "{text}");
+        assert!(rt; read_decimal(text.as_bytes()) == number, "{text}");
+        assert!(rt; alone == number, "{text} alone");
     }
     let two = read_only_number(Tokens::new(b"1 2"));
     assert!(rt; two.is_none(), "two numbers");
-    all_same(
+    all_hold(
         &rt,
         &[
-            ("12", read_natural(b"12"), Some(12)),
-            ("-12", read_natural(b"-12"), None),
-            ("c12", read_numbered(b'c', b"c12"), Some(12)),
-            ("r12", read_numbered(b'c', b"r12"), None),
-            ("nothing", read_numbered(b'c', b""), None),
+            ("12", read_natural(b"12") == Some(12)),
+            ("-12", read_natural(b"-12").is_none()),
+            ("c12", read_numbered(b'c', b"c12") == Some(12)),
+            ("r12", read_numbered(b'c', b"r12").is_none()),
+            ("nothing", read_numbered(b'c', b"").is_none()),
         ],
     );
 }
@@ -147,6 +151,11 @@ fn has_words(alloc: Global, text: &str, wanted: &[i8]) -> bool {
         Ok(words) => words.as_slice() == wanted,
         Err(_) => false,
     }
+}
+
+/// The word of 16 bits that the text is.
+fn short_of(text: &[u8]) -> Result<i16, Refusal> {
+    read_word::<i16>(text)
 }
 
 /// The value in a word of 8 bits.
@@ -178,24 +187,19 @@ fn words_read(rt: HostRuntime) -> Result<(), Fail> {
             ),
         ],
     );
-    all_same(
+    let (short, unformed) = (short_of(b"32768"), short_of(b"32768 "));
+    all_hold(
         &rt,
         &[
-            ("-32768", read_word::<i16>(b"-32768"), Ok(-32768)),
-            ("32768", read_word::<i16>(b"32768"), Err(Refusal::Unfit)),
+            ("-32768", short_of(b"-32768") == Ok(-32768)),
+            ("32768", short == Err(Refusal::Unfit)),
+            ("32768 and a space", unformed == Err(Refusal::Unformed)),
+            ("1 128", refusal_of(alloc, "1 128") == Some(Refusal::Unfit)),
             (
-                "32768 and a space",
-                read_word::<i16>(b"32768 "),
-                Err(Refusal::Unformed),
+                "128 x",
+                refusal_of(alloc, "128 x") == Some(Refusal::Unformed),
             ),
-        ],
-    );
-    all_same(
-        &rt,
-        &[
-            ("1 128", refusal_of(alloc, "1 128"), Some(Refusal::Unfit)),
-            ("128 x", refusal_of(alloc, "128 x"), Some(Refusal::Unformed)),
-            ("1  2", refusal_of(alloc, "1  2"), Some(Refusal::Unformed)),
+            ("1  2", refusal_of(alloc, "1  2") == Some(Refusal::Unformed)),
         ],
     );
     Ok(())
@@ -204,15 +208,12 @@ fn words_read(rt: HostRuntime) -> Result<(), Fail> {
 #[test]
 fn outputs(rt: HostRuntime) -> Result<(), Fail> {
     let mut output = Output::new(rt.alloc());
-    assert_eq!(rt; output.as_bytes(), b"".as_slice());
+    assert!(rt; output.as_bytes().is_empty());
     output.append(b"none\n")?;
     output.append_natural(18_446_744_073_709_551_615)?;
     output.append(b" ")?;
     output.append_word(-128i8)?;
     output.append_word(0u64)?;
-    assert_eq!(rt;
-        output.as_bytes(),
-        b"none\n18446744073709551615 -1280".as_slice()
-    );
+    assert!(rt; output.as_bytes() == b"none\n18446744073709551615 -1280".as_slice());
     Ok(())
 }

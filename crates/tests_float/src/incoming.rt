@@ -5,9 +5,17 @@ use fixed_float::{Binary, from_float_of, from_float_round_of, saturating_float_o
 use fixed_num::FixedI32;
 use fixed_word::{Rounding, checked_of, overflowing_of};
 
+/// The number's bits, where the float is one.
+fn bits_of(float: f64) -> Option<i32> {
+    match FixedI32::<16>::checked_from_num(float) {
+        Some(number) => Some(number.bits),
+        None => None,
+    }
+}
+
 #[test]
 fn worked_numbers(rt: HostRuntime) {
-    let rows = [
+    for (float, bits) in [
         (1.5, Some(98304)),
         (-1.5, Some(-98304)),
         (-0.0, Some(0)),
@@ -23,10 +31,8 @@ fn worked_numbers(rt: HostRuntime) {
         (1.7976931348623157e308, None),
         (f64::NEG_INFINITY, None),
         (f64::NAN, None),
-    ];
-    for (float, bits) in rows {
-        let found = FixedI32::<16>::checked_from_num(float);
-        assert_eq!(rt; found.map(FixedI32::to_bits), bits);
+    ] {
+        assert!(rt; bits_of(float) == bits, "wanted {bits:?}");
     }
 }
 
@@ -36,17 +42,21 @@ fn wrapped<X: Binary>(x: X) -> Option<(i8, bool)> {
 }
 
 #[test]
+fn wrapped_floats(rt: HostRuntime) {
+    assert!(rt; wrapped(8.5_f32) == Some((-120, true)));
+    assert!(rt; wrapped(-7.9375_f64) == Some((-127, false)));
+    assert!(rt; wrapped(f32::NAN).is_none());
+}
+
+#[test]
 fn by_policy(rt: HostRuntime) {
-    assert_eq!(rt; wrapped(8.5_f32), Some((-120, true)));
-    assert_eq!(rt; wrapped(-7.9375_f64), Some((-127, false)));
-    assert_eq!(rt; wrapped(f32::NAN), None);
     let held: i64 = saturating_float_of(1e19_f32, 0, Rounding::Even);
-    assert_eq!(rt; held, i64::MAX);
+    assert!(rt; held == i64::MAX);
     let least: u64 = saturating_float_of(f32::NEG_INFINITY, 64, Rounding::Even);
-    assert_eq!(rt; least, 0);
+    assert!(rt; least == 0);
     let most: u64 = saturating_float_of(f64::INFINITY, 64, Rounding::Even);
-    assert_eq!(rt; most, u64::MAX);
-    assert_eq!(rt; (-2.5).checked_to_num::<i32>(), Some(-2));
+    assert!(rt; most == u64::MAX);
+    assert!(rt; (-2.5).checked_to_num::<i32>() == Some(-2));
 }
 
 /// A float in units of a quarter, where it fits.
@@ -54,21 +64,22 @@ fn in_quarters(x: f32, rounding: Rounding) -> Option<i16> {
     checked_of(from_float_round_of(x, 2, rounding)?)
 }
 
+/// A float as a whole number, where it fits.
+fn in_units(x: f64, rounding: Rounding) -> Option<i16> {
+    x.checked_to_num_round::<i16>(rounding)
+}
+
 #[test]
 fn by_rounding(rt: HostRuntime) {
-    let rows = [
+    for (rounding, number) in [
         (Rounding::Down, Some(-6)),
         (Rounding::Zero, Some(-5)),
         (Rounding::Even, Some(-5)),
-    ];
-    for (rounding, number) in rows {
-        assert_eq!(rt; in_quarters(-1.3125, rounding), number);
-        assert_eq!(rt;
-            (-5.25_f64).checked_to_num_round::<i16>(rounding),
-            Some(match rounding {
-                Rounding::Down => -6,
-                Rounding::Zero | Rounding::Even => -5,
-            })
+    ] {
+        let (quarters, units) = (in_quarters(-1.3125, rounding), in_units(-5.25, rounding));
+        assert!(rt;
+            quarters == number && units == number,
+            "{rounding:?}: {quarters:?} and {units:?}"
         );
     }
 }

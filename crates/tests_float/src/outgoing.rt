@@ -4,9 +4,13 @@ use fixed_cast::{FromNum, Order, ToFloat, ToNum};
 use fixed_num::{FixedI8, FixedI64, FixedU64};
 use std::cmp::Ordering;
 
+fn float_of(bits: i64) -> f64 {
+    FixedI64::<64> { bits }.to_float::<f64>()
+}
+
 #[test]
 fn worked_floats(rt: HostRuntime) {
-    let rows = [
+    for (bits, float) in [
         (0, 0.0),
         (1, 5.421010862427522e-20),
         (-3, -1.6263032587282567e-19),
@@ -15,24 +19,31 @@ fn worked_floats(rt: HostRuntime) {
         // 2^53 + 1 and 2^53 + 3 lie half way: the even one
         (9007199254740993, 0.00048828125),
         (9007199254740995, 0.00048828125000000022),
-    ];
-    for (bits, float) in rows {
-        assert_eq!(rt; FixedI64::<64> { bits }.to_float::<f64>(), float);
+    ] {
+        assert!(rt; float_of(bits) == float, "of {bits}");
     }
+}
+
+fn narrow_float_of(bits: u64) -> f32 {
+    FixedU64::<0> { bits }.to_float::<f32>()
 }
 
 #[test]
 fn narrow_floats(rt: HostRuntime) {
-    assert_eq!(rt; FixedI8::<4> { bits: -127 }.to_float::<f32>(), -7.9375);
-    assert_eq!(rt; (-3_i16).to_float::<f64>(), -3.0);
-    assert_eq!(rt;
-        FixedU64::<0> { bits: u64::MAX }.to_float::<f32>(),
-        18446744073709551616.0
-    );
-    assert_eq!(rt;
-        FixedU64::<0> { bits: 16777217 }.to_float::<f32>(),
-        16777216.0
-    );
+    assert!(rt; FixedI8::<4> { bits: -127 }.to_float::<f32>() == -7.9375);
+    assert!(rt; (-3_i16).to_float::<f64>() == -3.0);
+    assert!(rt; narrow_float_of(u64::MAX) == 18446744073709551616.0);
+    assert!(rt; narrow_float_of(16777217) == 16777216.0);
+}
+
+/// Whether the number is what its narrow float is.
+fn comes_back(number: FixedI8<8>) -> bool {
+    FixedI8::checked_from_num(number.to_float::<f32>()) == Some(number)
+}
+
+/// Whether the number is what its wide float is.
+fn comes_back_wide(number: FixedI8<8>) -> bool {
+    FixedI8::checked_from_num(number.to_float::<f64>()) == Some(number)
 }
 
 #[test]
@@ -41,24 +52,28 @@ fn there_and_back(rt: HostRuntime) {
         let number = FixedI8::<8> {
             bits: byte.cast_signed(),
         };
-        let (narrow, wide) = (number.to_float::<f32>(), number.to_float::<f64>());
-        assert_eq!(rt; FixedI8::checked_from_num(narrow), Some(number));
-        assert_eq!(rt; FixedI8::checked_from_num(wide), Some(number));
+        let both = comes_back(number) && comes_back_wide(number);
+        assert!(rt; both, "{byte}");
     }
 }
 
 #[test]
 fn floats_as_targets(rt: HostRuntime) {
     let number = FixedI8::<4> { bits: -24 };
-    assert_eq!(rt; number.to_num::<f64>(), -1.5);
-    assert_eq!(rt; number.checked_to_num::<f32>(), Some(-1.5));
-    assert_eq!(rt; number.overflowing_to_num::<f64>(), (-1.5, false));
-    assert_eq!(rt; number.checked_to_num::<i32>(), Some(-2));
+    assert!(rt; number.to_num::<f64>() == -1.5);
+    assert!(rt; number.checked_to_num::<f32>() == Some(-1.5));
+    assert!(rt; number.overflowing_to_num::<f64>() == (-1.5, false));
+    assert!(rt; number.checked_to_num::<i32>() == Some(-2));
+}
+
+/// How -1.5 stands to the float.
+fn order_of(float: f64) -> Option<Ordering> {
+    FixedI8::<4> { bits: -24 }.compare_float(float)
 }
 
 #[test]
 fn orders_beside_floats(rt: HostRuntime) {
-    let rows = [
+    for (float, order) in [
         (-1.5, Some(Ordering::Equal)),
         (-1.5000000000000002, Some(Ordering::Greater)),
         (-1.4999999999999998, Some(Ordering::Less)),
@@ -67,8 +82,7 @@ fn orders_beside_floats(rt: HostRuntime) {
         (f64::INFINITY, Some(Ordering::Less)),
         (f64::NEG_INFINITY, Some(Ordering::Greater)),
         (f64::NAN, None),
-    ];
-    for (float, order) in rows {
-        assert_eq!(rt; FixedI8::<4> { bits: -24 }.compare_float(float), order);
+    ] {
+        assert!(rt; order_of(float) == order, "wanted {order:?}");
     }
 }

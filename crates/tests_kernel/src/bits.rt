@@ -80,8 +80,9 @@ fn wanted(byte: u64) -> [u64; 10] {
 fn every_byte(rt: HostRuntime) {
     for byte in 0..=255_u8 {
         let want = wanted(byte as u64);
+        assert!(rt; answers(byte) == want, "of {byte} without a sign");
         let signed = answers(byte.cast_signed());
-        assert_eq!(rt; [answers(byte), signed], [want, want], "of {byte}");
+        assert!(rt; signed == want, "of {byte} with a sign");
     }
 }
 
@@ -104,21 +105,37 @@ fn pairs_of_bytes(rt: HostRuntime) {
         (128, 129),
     ] {
         let wanted = [(a & b) as u64, (a | b) as u64, (a ^ b) as u64];
+        assert!(rt; pairs(a, b) == wanted, "of {a} and {b}");
         let signed = pairs(a.cast_signed(), b.cast_signed());
-        assert_eq!(rt; [pairs(a, b), signed], [wanted, wanted], "of {a} and {b}");
+        assert!(rt; signed == wanted, "of {a} and {b} with a sign");
     }
+}
+
+fn moves_byte(word: i8, by: u32, up: i8, down: i8) -> bool {
+    moves(word, by, up, down)
+}
+
+/// Whether 200 moves by 3 places, without a sign.
+fn moves_unsigned_byte() -> bool {
+    moves(200_u8, 3, 64, 25)
+}
+
+/// Whether the greatest and the least word of 64 bits move by 63 places.
+fn move_long_words() -> [bool; 2] {
+    [moves(u64::MAX, 63, 1 << 63, 1), moves(i64::MIN, 63, 0, -1)]
 }
 
 #[test]
 fn shifts(rt: HostRuntime) {
+    let [greatest, least] = move_long_words();
     for (what, holds) in [
-        ("-120 by 3", moves(-120_i8, 3, 64, -15)),
-        ("-1 by 7", moves(-1_i8, 7, -128, -1)),
-        ("5 by 1", moves(5_i8, 1, 10, 2)),
-        ("-128 by 0", moves(-128_i8, 0, -128, -128)),
-        ("200 by 3", moves(200_u8, 3, 64, 25)),
-        ("the greatest by 63", moves(u64::MAX, 63, 1 << 63, 1)),
-        ("the least by 63", moves(i64::MIN, 63, 0, -1)),
+        ("-120 by 3", moves_byte(-120, 3, 64, -15)),
+        ("-1 by 7", moves_byte(-1, 7, -128, -1)),
+        ("5 by 1", moves_byte(5, 1, 10, 2)),
+        ("-128 by 0", moves_byte(-128, 0, -128, -128)),
+        ("200 by 3", moves_unsigned_byte()),
+        ("the greatest by 63", greatest),
+        ("the least by 63", least),
     ] {
         assert!(rt; holds, "{what}");
     }

@@ -3,6 +3,28 @@
 use super::calls::{Op, answer, product, sum_of_product};
 use super::plain::{euclidean, left_of, moved, multiple, quotient, signed_byte, unsigned_byte};
 
+/// What is left of a number, and whether it does not fit.
+type Left = Option<(i64, bool)>;
+
+fn signed(op: Op, a: i8, b: i8, frac: u32) -> Left {
+    signed_byte(answer(op, a, b, frac))
+}
+
+fn unsigned(op: Op, a: u8, b: u8, frac: u32) -> Left {
+    unsigned_byte(answer(op, a, b, frac))
+}
+
+/// The product of signed bytes by the call that gives its verdict.
+fn judged_product(a: i8, b: i8, frac: u32) -> Left {
+    let (left, verdict) = product(a, b, frac)?;
+    Some((left as i64, verdict))
+}
+
+fn judged_sum(a: i8, b: i8, c: i8, length: i32) -> Left {
+    let (left, verdict) = sum_of_product(a, b, c, length)?;
+    Some((left as i64, verdict))
+}
+
 #[test]
 fn every_product(rt: HostRuntime) {
     for frac in [0_i32, 1, 4, 7, 8] {
@@ -10,18 +32,14 @@ fn every_product(rt: HostRuntime) {
         for a in 0..=255_u8 {
             for b in 0..=255_u8 {
                 let number = moved((a as i64).wrapping_mul(b as i64), -frac);
-                let found = unsigned_byte(answer(Op::Mul, a, b, places));
+                let found = unsigned(Op::Mul, a, b, places);
                 let wanted = Some(left_of(number, false));
+                assert!(rt; found == wanted, "{a} by {b} at {frac}: {found:?}");
                 let (c, d) = (a.cast_signed(), b.cast_signed());
                 let number = moved((c as i64).wrapping_mul(d as i64), -frac);
-                let signed = signed_byte(answer(Op::Mul, c, d, places));
-                let judged = product(c, d, places).map(|found| (found.0 as i64, found.1));
-                let left = Some(left_of(number, true));
-                assert_eq!(rt;
-                    [found, signed, judged],
-                    [wanted, left, left],
-                    "{a} by {b} at {frac}"
-                );
+                let (found, judged) = (signed(Op::Mul, c, d, places), judged_product(c, d, places));
+                let same = found == Some(left_of(number, true)) && judged == found;
+                assert!(rt; same, "{c} by {d} at {frac}: {found:?}");
             }
         }
     }
@@ -34,15 +52,12 @@ fn every_reciprocal(rt: HostRuntime) {
         let one = moved(1, frac.wrapping_mul(2));
         for a in 1..=255_u8 {
             let b = a.cast_signed();
-            let found = unsigned_byte(answer(Op::Recip, a, 0, places));
-            let signed = signed_byte(answer(Op::Recip, b, 0, places));
+            let found = unsigned(Op::Recip, a, 0, places);
             let wanted = left_of(quotient(one, a as i64), false);
-            let left = left_of(quotient(one, b as i64), true);
-            assert_eq!(rt;
-                (found, signed),
-                (Some(wanted), Some(left)),
-                "{a} at {frac}"
-            );
+            assert!(rt; found == Some(wanted), "{a} at {frac}: {found:?}");
+            let found = signed(Op::Recip, b, 0, places);
+            let wanted = left_of(quotient(one, b as i64), true);
+            assert!(rt; found == Some(wanted), "{b} at {frac}: {found:?}");
         }
     }
 }
@@ -54,15 +69,12 @@ fn every_euclidean_quotient(rt: HostRuntime) {
         for a in -128..=127_i8 {
             for b in -128..=127_i8 {
                 if b != 0 {
-                    let found = signed_byte(answer(Op::DivEuclid, a, b, places));
-                    let number = moved(euclidean(a as i64, b as i64), frac);
-                    let next = signed_byte(answer(Op::NextMultipleOf, a, b, places));
-                    let after = multiple(a as i64, b as i64);
-                    assert_eq!(rt;
-                        (found, next),
-                        (Some(left_of(number, true)), Some(left_of(after, true))),
-                        "{a} by {b} at {frac}"
-                    );
+                    let found = signed(Op::DivEuclid, a, b, places);
+                    let wanted = left_of(moved(euclidean(a as i64, b as i64), frac), true);
+                    assert!(rt; found == Some(wanted), "{a} by {b} at {frac}: {found:?}");
+                    let next = signed(Op::NextMultipleOf, a, b, places);
+                    let wanted = left_of(multiple(a as i64, b as i64), true);
+                    assert!(rt; next == Some(wanted), "multiple of {b} after {a}: {next:?}");
                 }
             }
         }
@@ -76,8 +88,9 @@ fn every_power_of_two(rt: HostRuntime) {
         if power < a as i64 {
             power = moved(power, 1);
         }
-        let found = unsigned_byte(answer(Op::NextPowerOfTwo, a, 0, 0));
-        assert_eq!(rt; found, Some(left_of(power, false)), "over {a}");
+        let found = unsigned(Op::NextPowerOfTwo, a, 0, 0);
+        let wanted = left_of(power, false);
+        assert!(rt; found == Some(wanted), "over {a}: {found:?}");
     }
 }
 
@@ -92,15 +105,9 @@ fn every_length(rt: HostRuntime) {
                 for c in grid {
                     let scaled = moved((a as i64).wrapping_mul(b as i64), length.wrapping_neg());
                     let number = scaled.wrapping_add(c as i64);
-                    let found = sum_of_product(a, b, c, length).map(|found| (
-                        found.0 as i64,
-                        found.1,
-                    ));
-                    assert_eq!(rt;
-                        found,
-                        Some(left_of(number, true)),
-                        "{a} by {b} plus {c} at {length}"
-                    );
+                    let found = judged_sum(a, b, c, length);
+                    let same = found == Some(left_of(number, true));
+                    assert!(rt; same, "{a} by {b} plus {c} at {length}: {found:?}");
                 }
             }
         }

@@ -9,7 +9,10 @@ use std::process::Abort;
 fn check(rt: &impl Abort, word: WordName, op: Op, a: i128, b: i128, frac: u32, number: i128) {
     let found = answer_in(word, op, a, b, frac);
     let stands = stands_in(word, found, number);
-    assert!(rt; stands, "{word:?}: {op:?} of {a} and {b} at {frac}: {found:?}");
+    assert!(rt;
+        stands,
+        "{word:?}: {op:?} of {a} and {b} at {frac}: {found:?}"
+    );
 }
 
 /// `a / b`, rounded toward zero; 0 for a divisor 0.
@@ -64,7 +67,15 @@ fn remainders_by_integers(rt: HostRuntime) {
             };
             let (bits, unit) = (a.wrapping_mul(65536), 65536);
             check(&rt, word, Op::RemInt, bits, k, 16, left.wrapping_mul(unit));
-            check(&rt, word, Op::RemEuclidInt, bits, k, 16, over.wrapping_mul(unit));
+            check(
+                &rt,
+                word,
+                Op::RemEuclidInt,
+                bits,
+                k,
+                16,
+                over.wrapping_mul(unit),
+            );
         }
     }
     for (bits, k, frac, left, over) in [
@@ -164,7 +175,10 @@ fn multiply_add_inside(rt: &impl Abort, word: WordName, frac: u32) {
 }
 
 fn is_signed(word: WordName) -> bool {
-    matches!(word, WordName::I8 | WordName::I16 | WordName::I32 | WordName::I64)
+    matches!(
+        word,
+        WordName::I8 | WordName::I16 | WordName::I32 | WordName::I64
+    )
 }
 
 /// The greatest number by a quarter and by itself, with no integer bits.

@@ -66,10 +66,15 @@ fn binary_logarithms(rt: HostRuntime) -> Result<(), Fail> {
     ] {
         let found = logs_in(width, greatest, two).ok_or("a word")?;
         let least = logs_in(width, 1, two).ok_or("a word")?;
-        assert_eq!(rt;
-            [found.int, found.frac, least.int, least.frac],
-            [last, -1, 0, -1 - last],
-            "greatest and one of {width}"
+        let (int, frac) = (found.int, found.frac);
+        assert!(rt;
+            int == last && frac == -1,
+            "greatest of {width}: {int}, {frac}"
+        );
+        let (int, frac) = (least.int, least.frac);
+        assert!(rt;
+            int == 0 && frac == -1 - last,
+            "one of {width}: {int}, {frac}"
         );
     }
     Ok(())
@@ -79,10 +84,10 @@ fn binary_logarithms(rt: HostRuntime) -> Result<(), Fail> {
 fn check_int(rt: &impl Abort, width: u32, val: u64, want: i32) -> Result<(), Fail> {
     let ten = Base::new(10).ok_or("a base")?;
     let found = logs_in(width, val, ten).ok_or("a word")?;
-    assert_eq!(rt;
-        (found.int, found.int_ten),
-        (want, want),
-        "{val} of {width} bits"
+    let (by_base, by_ten) = (found.int, found.int_ten);
+    assert!(rt;
+        by_base == want && by_ten == want,
+        "{val} of {width} bits: {by_base} and {by_ten}"
     );
     Ok(())
 }
@@ -91,10 +96,10 @@ fn check_int(rt: &impl Abort, width: u32, val: u64, want: i32) -> Result<(), Fai
 fn check_frac(rt: &impl Abort, width: u32, val: u64, want: i32) -> Result<(), Fail> {
     let ten = Base::new(10).ok_or("a base")?;
     let found = logs_in(width, val, ten).ok_or("a word")?;
-    assert_eq!(rt;
-        (found.frac, found.frac_ten),
-        (want, want),
-        "{val} over 2^{width}"
+    let (by_base, by_ten) = (found.frac, found.frac_ten);
+    assert!(rt;
+        by_base == want && by_ten == want,
+        "{val} over 2^{width}: {by_base} and {by_ten}"
     );
     Ok(())
 }
@@ -170,10 +175,10 @@ fn worked_values(rt: HostRuntime) -> Result<(), Fail> {
     let two = Base::new(2).ok_or("a base")?;
     for (val, want) in [(26, -1), (25, -2), (3, -2), (2, -3), (1, -3)] {
         let found = logs_in(8, val, thousand).ok_or("a word")?;
-        assert_eq!(rt;
-            (found.int, found.frac, found.frac_ten),
-            (0, -1, want),
-            "{val}"
+        let found_ten = found.frac_ten;
+        assert!(rt;
+            found.int == 0 && found.frac == -1 && found_ten == want,
+            "{val}: {found_ten}"
         );
     }
     let one = logs_in(64, 1, two).ok_or("a word")?;

@@ -1,13 +1,20 @@
 //! Known lengths, reciprocal roots, logarithms and powers.
 
 use crate::fitting::log2_with_16;
+use crate::found::{Found, bits_of, check, check_fit};
 use fixed_elementary::{exp2_of, hypot_of, log2_of, recip_sqrt_of};
 use fixed_math::{CheckedMath, OverflowingMath, SaturatingMath, WrappingMath};
 use fixed_num::{Fixed, FixedI32};
-use fixed_word::{Outcome, Side, Word};
+use fixed_word::Side;
 
-fn outcome<T: Word>(wrapped: T, side: Side) -> Outcome<T> {
-    Outcome { wrapped, side }
+fn length(a: i8, b: i8) -> Found {
+    let outcome = hypot_of(a, b);
+    Some((outcome.wrapped as i128, outcome.side))
+}
+
+fn long_length(a: u64, b: u64) -> Found {
+    let outcome = hypot_of(a, b);
+    Some((outcome.wrapped as i128, outcome.side))
 }
 
 #[test]
@@ -19,11 +26,23 @@ fn lengths(rt: HostRuntime) {
         (-128, -128, -75, Side::Above),
         (0, 0, 0, Side::Fits),
     ] {
-        assert_eq!(rt; hypot_of(a, b), outcome(wrapped, side));
+        let operands = [a as i128, b as i128, 0];
+        check(&rt, "length", operands, length(a, b), (wrapped, side));
     }
     // The root of 2^129 - 2^66 + 2, which has 65 bits.
-    let past = outcome(7640891576956012807, Side::Above);
-    assert_eq!(rt; hypot_of(u64::MAX, u64::MAX), past);
+    let past = long_length(u64::MAX, u64::MAX);
+    let wanted = (7640891576956012807, Side::Above);
+    check(&rt, "length of the greatest", [0; 3], past, wanted);
+}
+
+/// The reciprocal root of bits above 0.
+fn reciprocal_root(a: u64, frac: u32) -> Found {
+    if a > 0 && frac <= 64 {
+        let outcome = recip_sqrt_of(a, frac);
+        Some((outcome.wrapped as i128, outcome.side))
+    } else {
+        None
+    }
 }
 
 #[test]
@@ -36,10 +55,25 @@ fn reciprocal_roots(rt: HostRuntime) {
         (u64::MAX, 43, 6074000999, Side::Fits),
         (3, 40, 665639541039271462, Side::Fits),
     ] {
-        if a > 0 && frac <= 64 {
-            assert_eq!(rt; recip_sqrt_of(a, frac), outcome(wrapped, side));
-        }
+        let operands = [a as i128, frac as i128, 0];
+        let found = reciprocal_root(a, frac);
+        check(&rt, "reciprocal root", operands, found, (wrapped, side));
     }
+}
+
+/// The logarithm of bits above 0.
+fn logarithm(a: i32, frac: u32) -> Found {
+    if a > 0 && frac <= 32 {
+        let outcome = log2_of(a, frac);
+        Some((outcome.wrapped as i128, outcome.side))
+    } else {
+        None
+    }
+}
+
+fn long_logarithm() -> Found {
+    let outcome = log2_of(3_u64, 63);
+    Some((outcome.wrapped as i128, outcome.side))
 }
 
 #[test]
@@ -50,14 +84,36 @@ fn logarithms(rt: HostRuntime) {
         (1, 16, -1048576, Side::Fits),
         (1, 31, -2147483648, Side::Below),
     ] {
-        if a > 0 && frac <= 32 {
-            assert_eq!(rt; log2_of(a, frac), outcome(wrapped, side));
-        }
+        let operands = [a as i128, frac as i128, 0];
+        check(
+            &rt,
+            "logarithm",
+            operands,
+            logarithm(a, frac),
+            (wrapped, side),
+        );
     }
-    assert_eq!(rt;
-        log2_of(3_u64, 63),
-        outcome(5395326771760153551, Side::Below)
-    );
+    let wanted = (5395326771760153551, Side::Below);
+    check(&rt, "logarithm", [3, 63, 0], long_logarithm(), wanted);
+}
+
+/// The power of 2.
+fn power(a: i32, frac: u32) -> Found {
+    if frac <= 32 {
+        let outcome = exp2_of(a, frac);
+        Some((outcome.wrapped as i128, outcome.side))
+    } else {
+        None
+    }
+}
+
+fn root_of_two() -> Found {
+    let outcome = exp2_of(1_u64 << 62, 63);
+    Some((outcome.wrapped as i128, outcome.side))
+}
+
+fn power_past_the_end() -> Side {
+    exp2_of(64_u64, 0).side
 }
 
 #[test]
@@ -71,13 +127,22 @@ fn powers(rt: HostRuntime) {
         (-1048576, 16, 1),
         (-1048577, 16, 0),
     ] {
-        if frac <= 32 {
-            assert_eq!(rt; exp2_of(a, frac), outcome(wrapped, Side::Fits));
-        }
+        check_fit(
+            &rt,
+            "power",
+            [a as i128, frac as i128, 0],
+            power(a, frac),
+            wrapped,
+        );
     }
-    let half = exp2_of(1_u64 << 62, 63);
-    assert_eq!(rt; half, outcome(13043817825332782212, Side::Fits));
-    assert_eq!(rt; exp2_of(64_u64, 0).side, Side::Above);
+    check_fit(
+        &rt,
+        "the power of a half",
+        [0; 3],
+        root_of_two(),
+        13043817825332782212,
+    );
+    assert!(rt; power_past_the_end() == Side::Above);
 }
 
 /// The calls of each policy at one number.
@@ -95,19 +160,31 @@ fn calls<N: CheckedMath + OverflowingMath + SaturatingMath + WrappingMath>(
     )
 }
 
+/// What those calls leave of a number of 8 bits, by its bits.
+fn left_by_calls(bits: i8) -> (Option<i8>, (i8, bool), i8, i8) {
+    let (checked, (left, past), saturated, wrapped) = calls(Fixed::<i8, 4> { bits });
+    let checked = match checked {
+        Some(number) => Some(number.bits),
+        None => None,
+    };
+    (checked, (left.bits, past), saturated.bits, wrapped.bits)
+}
+
 #[test]
 fn typed_calls(rt: HostRuntime) {
-    let number = Fixed::<i8, 4> { bits: 96 };
-    let wrapped = Fixed::<i8, 4> { bits: -121 };
-    let most = Fixed::<i8, 4> { bits: 127 };
-    assert_eq!(rt; calls(number), (None, (wrapped, true), most, wrapped));
+    assert!(rt; left_by_calls(96) == (None, (-121, true), 127, -121));
     let ten = FixedI32::<16> { bits: 655360 };
-    let logarithm = FixedI32::<16> { bits: 217705 };
-    assert_eq!(rt; log2_with_16(ten), logarithm);
-    assert_eq!(rt; ten.checked_log2(), Some(logarithm));
-    assert_eq!(rt; ten.wrapping_recip_sqrt(), FixedI32::<16> { bits: 20724 });
+    assert!(rt; log2_with_16(ten).bits == 217705);
+    let most = Fixed::<i8, 4> { bits: 127 };
+    assert!(rt; most.saturating_exp2().bits == 127);
+}
+
+#[test]
+fn typed_calls_of_32_bits(rt: HostRuntime) {
+    let ten = FixedI32::<16> { bits: 655360 };
+    assert!(rt; bits_of(ten.checked_log2()) == Some(217705));
+    assert!(rt; ten.wrapping_recip_sqrt().bits == 20724);
     let none = FixedI32::<16> { bits: 0 };
-    assert_eq!(rt; ten.checked_exp2(), Some(FixedI32::<16> { bits: 67108864 }));
-    assert_eq!(rt; most.saturating_exp2(), most);
-    assert_eq!(rt; none.checked_recip_sqrt(), None);
+    assert!(rt; bits_of(ten.checked_exp2()) == Some(67108864));
+    assert!(rt; bits_of(none.checked_recip_sqrt()) == None);
 }

@@ -5,6 +5,8 @@
 mod calls;
 pub mod fitting;
 #[cfg(test)]
+mod found;
+#[cfg(test)]
 mod natural;
 #[cfg(test)]
 mod turns;

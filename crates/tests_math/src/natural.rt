@@ -3,15 +3,32 @@
 ghost use Rattle.std.specs.Prelude.{◌≤◌, ◌<ℤ◌, pos};
 
 use crate::fitting::ln_with_16;
+use crate::found::{Found, bits_of, check, check_fit};
 use fixed_natural::{
     CheckedNatural, OverflowingNatural, SaturatingNatural, WrappingNatural, exp_of, ln_of,
     log10_of, pow_of,
 };
 use fixed_num::{Fixed, FixedI32};
-use fixed_word::{Outcome, Side, Word};
+use fixed_word::Side;
 
-fn outcome<T: Word>(wrapped: T, side: Side) -> Outcome<T> {
-    Outcome { wrapped, side }
+/// The natural logarithm of bits above 0.
+fn logarithm(a: i32, frac: u32) -> Found {
+    if a > 0 && frac <= 32 {
+        let outcome = ln_of(a, frac);
+        Some((outcome.wrapped as i128, outcome.side))
+    } else {
+        None
+    }
+}
+
+fn logarithm_of_the_greatest() -> Found {
+    let outcome = ln_of(u64::MAX, 32);
+    Some((outcome.wrapped as i128, outcome.side))
+}
+
+fn logarithm_of_the_least() -> Found {
+    let outcome = ln_of(1_i64, 56);
+    Some((outcome.wrapped as i128, outcome.side))
 }
 
 #[test]
@@ -24,12 +41,43 @@ fn natural_logarithms(rt: HostRuntime) {
         (i32::MAX, 16, 681391, Side::Fits),
         (5, 31, 261725246, Side::Below),
     ] {
-        if a > 0 && frac <= 32 {
-            assert_eq!(rt; ln_of(a, frac), outcome(wrapped, side));
-        }
+        let operands = [a as i128, frac as i128, 0];
+        check(&rt, "ln", operands, logarithm(a, frac), (wrapped, side));
     }
-    assert_eq!(rt; ln_of(u64::MAX, 32), outcome(95265423098, Side::Fits));
-    assert_eq!(rt; ln_of(1_i64, 56), outcome(-2797005016138080926, Side::Fits));
+    check_fit(
+        &rt,
+        "ln of the greatest",
+        [0; 3],
+        logarithm_of_the_greatest(),
+        95265423098,
+    );
+    check_fit(
+        &rt,
+        "ln",
+        [1, 56, 0],
+        logarithm_of_the_least(),
+        -2797005016138080926,
+    );
+}
+
+/// The decimal logarithm of bits above 0.
+fn decimal_logarithm(a: i32, frac: u32) -> Found {
+    if a > 0 && frac <= 32 {
+        let outcome = log10_of(a, frac);
+        Some((outcome.wrapped as i128, outcome.side))
+    } else {
+        None
+    }
+}
+
+fn logarithm_of_ten_to_the_19th() -> Found {
+    let outcome = log10_of(10_000_000_000_000_000_000_u64, 0);
+    Some((outcome.wrapped as i128, outcome.side))
+}
+
+fn logarithm_of_a_thousand() -> Found {
+    let outcome = log10_of(4294967296000_i64, 32);
+    Some((outcome.wrapped as i128, outcome.side))
 }
 
 #[test]
@@ -40,18 +88,43 @@ fn decimal_logarithms(rt: HostRuntime) {
         (1, 16, -315653),
         (i32::MAX, 0, 9),
     ] {
-        if a > 0 && frac <= 32 {
-            assert_eq!(rt; log10_of(a, frac), outcome(wrapped, Side::Fits));
-        }
+        let operands = [a as i128, frac as i128, 0];
+        check_fit(&rt, "log10", operands, decimal_logarithm(a, frac), wrapped);
     }
-    assert_eq!(rt;
-        log10_of(10_000_000_000_000_000_000_u64, 0),
-        outcome(19, Side::Fits)
+    check_fit(
+        &rt,
+        "log10 of 10^19",
+        [0; 3],
+        logarithm_of_ten_to_the_19th(),
+        19,
     );
-    assert_eq!(rt;
-        log10_of(4294967296000_i64, 32),
-        outcome(12884901888, Side::Fits)
+    check_fit(
+        &rt,
+        "log10 of 1000",
+        [0; 3],
+        logarithm_of_a_thousand(),
+        12884901888,
     );
+}
+
+/// The power of e.
+fn power_of_e(a: i32, frac: u32) -> Found {
+    if frac <= 32 {
+        let outcome = exp_of(a, frac);
+        Some((outcome.wrapped as i128, outcome.side))
+    } else {
+        None
+    }
+}
+
+fn long_power_of_e() -> Found {
+    let outcome = exp_of(12345678901_i64, 32);
+    Some((outcome.wrapped as i128, outcome.side))
+}
+
+/// Where e to the greatest power lies, and 1 without integer bits.
+fn sides_past_the_end() -> [Side; 2] {
+    [exp_of(u64::MAX, 0).side, exp_of(0_u64, 64).side]
 }
 
 #[test]
@@ -66,16 +139,33 @@ fn powers_of_e(rt: HostRuntime) {
         (i32::MIN, 16, 0),
         (21, 0, 1318815734),
     ] {
-        if frac <= 32 {
-            assert_eq!(rt; exp_of(a, frac), outcome(wrapped, Side::Fits));
-        }
+        let operands = [a as i128, frac as i128, 0];
+        check_fit(&rt, "exp", operands, power_of_e(a, frac), wrapped);
     }
-    assert_eq!(rt;
-        exp_of(12345678901_i64, 32),
-        outcome(76088436796, Side::Fits)
+    check_fit(
+        &rt,
+        "exp",
+        [12345678901, 32, 0],
+        long_power_of_e(),
+        76088436796,
     );
-    assert_eq!(rt; exp_of(u64::MAX, 0).side, Side::Above);
-    assert_eq!(rt; exp_of(0_u64, 64).side, Side::Above);
+    assert!(rt; sides_past_the_end() == [Side::Above; 2]);
+}
+
+/// The power of a number above 0 with 16 fraction bits.
+fn power(a: i32, b: i32) -> Found {
+    if a > 0 {
+        let outcome = pow_of(a, b, 16);
+        Some((outcome.wrapped as i128, outcome.side))
+    } else {
+        None
+    }
+}
+
+/// 3 to the power of minus a half.
+fn long_power() -> Found {
+    let outcome = pow_of(12884901888_i64, -2147483648, 32);
+    Some((outcome.wrapped as i128, outcome.side))
 }
 
 #[test]
@@ -91,14 +181,11 @@ fn powers_of_numbers(rt: HostRuntime) {
         (655360, 0, 65536, Side::Fits),
         (32768, -1048576, 0, Side::Above),
     ] {
-        if a > 0 {
-            assert_eq!(rt; pow_of(a, b, 16), outcome(wrapped, side));
-        }
+        let operands = [a as i128, b as i128, 16];
+        check(&rt, "pow", operands, power(a, b), (wrapped, side));
     }
-    assert_eq!(rt;
-        pow_of(12884901888_i64, -2147483648, 32),
-        outcome(2479700524, Side::Fits)
-    );
+    let operands = [12884901888, -2147483648, 32];
+    check_fit(&rt, "pow", operands, long_power(), 2479700524);
 }
 
 /// The calls of each policy at one number above 0.
@@ -114,29 +201,40 @@ fn calls<N: CheckedNatural + OverflowingNatural + SaturatingNatural + WrappingNa
     (checked, overflowing, saturated, number.wrapping_ln())
 }
 
+/// What those calls leave of the least number of 8 bits above 0, by its bits.
+fn left_by_calls() -> (Option<i8>, (i8, bool), i8, i8) {
+    let (checked, (left, past), saturated, wrapped) = calls(Fixed::<i8, 4> { bits: 1 });
+    let checked = match checked {
+        Some(number) => Some(number.bits),
+        None => None,
+    };
+    (checked, (left.bits, past), saturated.bits, wrapped.bits)
+}
+
 #[test]
 fn natural_calls(rt: HostRuntime) {
-    let least = Fixed::<i8, 4> { bits: 1 };
-    let logarithm = Fixed::<i8, 4> { bits: -45 };
-    let decimal = Fixed::<i8, 4> { bits: -20 };
-    assert_eq!(rt;
-        calls(least),
-        (Some(logarithm), (decimal, false), logarithm, logarithm)
-    );
+    assert!(rt; left_by_calls() == (Some(-45), (-20, false), -45, -45));
     let ten = FixedI32::<16> { bits: 655360 };
-    assert_eq!(rt; ln_with_16(ten), FixedI32::<16> { bits: 150902 });
-    assert_eq!(rt; ten.checked_log10(), Some(FixedI32::<16> { bits: 65536 }));
-    assert_eq!(rt;
-        ten.checked_exp(),
-        Some(FixedI32::<16> { bits: 1443526462 })
-    );
+    assert!(rt; ln_with_16(ten).bits == 150902);
     let most = Fixed::<i8, 4> { bits: 127 };
-    assert_eq!(rt; most.checked_exp(), None);
-    assert_eq!(rt; most.saturating_exp(), most);
-    assert_eq!(rt; ten.checked_pow(ten), None);
-    assert_eq!(rt; most.saturating_pow(most), most);
+    assert!(rt; most.checked_exp().is_none());
+    assert!(rt; most.saturating_exp().bits == 127);
+    assert!(rt; most.saturating_pow(most).bits == 127);
+}
+
+#[test]
+fn natural_calls_of_32_bits(rt: HostRuntime) {
+    let ten = FixedI32::<16> { bits: 655360 };
+    assert!(rt; bits_of(ten.checked_log10()) == Some(65536));
+    assert!(rt; bits_of(ten.checked_exp()) == Some(1443526462));
+    assert!(rt; bits_of(ten.checked_pow(ten)) == None);
+}
+
+#[test]
+fn natural_calls_of_zero(rt: HostRuntime) {
+    let ten = FixedI32::<16> { bits: 655360 };
     let none = FixedI32::<16> { bits: 0 };
-    assert_eq!(rt; none.checked_pow(ten), None);
-    assert_eq!(rt; none.checked_ln(), None);
-    assert_eq!(rt; none.checked_log10(), None);
+    assert!(rt; bits_of(none.checked_pow(ten)) == None);
+    assert!(rt; bits_of(none.checked_ln()) == None);
+    assert!(rt; bits_of(none.checked_log10()) == None);
 }

@@ -2,21 +2,36 @@
 
 ghost use Rattle.std.specs.Prelude.{◌≡◌, ◌≢◌, ◌≤◌, pos};
 
+use crate::found::{Found, check, check_fit};
 use crate::turns_fitting::{angle_of, sine_and_cosine};
 use fixed_num::{Fixed, FixedI32};
 use fixed_turns::{
     CheckedTurns, OverflowingTurns, SaturatingTurns, WrappingTurns, atan2_turns_of, cos_turns_of,
     sin_turns_of,
 };
-use fixed_word::{Outcome, Side, Word};
+use fixed_word::Side;
 
-fn outcome<T: Word>(wrapped: T, side: Side) -> Outcome<T> {
-    Outcome { wrapped, side }
+fn sine(a: i32, frac: u32) -> Found {
+    if frac <= 32 {
+        let outcome = sin_turns_of(a, frac);
+        Some((outcome.wrapped as i128, outcome.side))
+    } else {
+        None
+    }
+}
+
+fn cosine(a: i32, frac: u32) -> Found {
+    if frac <= 32 {
+        let outcome = cos_turns_of(a, frac);
+        Some((outcome.wrapped as i128, outcome.side))
+    } else {
+        None
+    }
 }
 
 #[test]
 fn sines_and_cosines(rt: HostRuntime) {
-    for (a, frac, sine, cosine) in [
+    for (a, frac, wanted_sine, wanted_cosine) in [
         (0_i32, 16, 0, 65536),
         (16384, 16, 65536, 0),
         (32768, 16, 0, -65536),
@@ -35,27 +50,62 @@ fn sines_and_cosines(rt: HostRuntime) {
         (3, 2, -4, 0),
         (7, 0, 0, 1),
     ] {
-        if frac <= 32 {
-            assert_eq!(rt; sin_turns_of(a, frac), outcome(sine, Side::Fits));
-            assert_eq!(rt; cos_turns_of(a, frac), outcome(cosine, Side::Fits));
-        }
+        let operands = [a as i128, frac as i128, 0];
+        check_fit(&rt, "sine", operands, sine(a, frac), wanted_sine);
+        check_fit(&rt, "cosine", operands, cosine(a, frac), wanted_cosine);
     }
+}
+
+/// A sine and a cosine in 64 bits.
+fn long_sine_and_cosine() -> [Found; 2] {
+    let sine = sin_turns_of(1_234_567_890_123_456_789_i64, 60);
+    let cosine = cos_turns_of(1_i64 << 61, 62);
+    [
+        Some((sine.wrapped as i128, sine.side)),
+        Some((cosine.wrapped as i128, cosine.side)),
+    ]
+}
+
+fn short_sine(a: i8) -> Found {
+    let outcome = sin_turns_of(a, 7);
+    Some((outcome.wrapped as i128, outcome.side))
+}
+
+/// The sine of three quarters of a turn, without a sign.
+fn unsigned_sine() -> Found {
+    let outcome = sin_turns_of(12_u8, 4);
+    Some((outcome.wrapped as i128, outcome.side))
+}
+
+/// The sine of a quarter of a turn, without a sign and without integer bits.
+fn long_unsigned_sine() -> Found {
+    let outcome = sin_turns_of(1_u64 << 62, 64);
+    Some((outcome.wrapped as i128, outcome.side))
 }
 
 #[test]
 fn sines_of_other_words(rt: HostRuntime) {
-    assert_eq!(rt;
-        sin_turns_of(1_234_567_890_123_456_789_i64, 60),
-        outcome(496238384467647991, Side::Fits)
+    let [sine, cosine] = long_sine_and_cosine();
+    check_fit(&rt, "sine in 64 bits", [0; 3], sine, 496238384467647991);
+    check_fit(
+        &rt,
+        "cosine in 64 bits",
+        [0; 3],
+        cosine,
+        -4611686018427387904,
     );
-    assert_eq!(rt;
-        cos_turns_of(1_i64 << 61, 62),
-        outcome(-4611686018427387904, Side::Fits)
-    );
-    assert_eq!(rt; sin_turns_of(32_i8, 7), outcome(-128, Side::Above));
-    assert_eq!(rt; sin_turns_of(-32_i8, 7), outcome(-128, Side::Fits));
-    assert_eq!(rt; sin_turns_of(12_u8, 4), outcome(240, Side::Below));
-    assert_eq!(rt; sin_turns_of(1_u64 << 62, 64), outcome(0, Side::Above));
+    for (call, found, wanted) in [
+        ("sine of a quarter", short_sine(32), (-128, Side::Above)),
+        (
+            "sine of minus a quarter",
+            short_sine(-32),
+            (-128, Side::Fits),
+        ),
+        ("unsigned sine", unsigned_sine(), (240, Side::Below)),
+        ("long unsigned sine", long_unsigned_sine(), (0, Side::Above)),
+    ] {
+        check(&rt, call, [0; 3], found, wanted);
+    }
 }
 
 /// The calls of each policy at one number.
@@ -76,42 +126,56 @@ fn calls<N: CheckedTurns + OverflowingTurns + SaturatingTurns + WrappingTurns>(
     )
 }
 
+/// The sines that those calls leave of a number of 8 bits, by their bits: checked, overflowing, saturating, wrapping.
+fn sines_of(bits: i8) -> (Option<i8>, (i8, bool), i8, i8) {
+    let (checked, _, (left, past), _, saturating, _, wrapping, _) = calls(Fixed::<i8, 4> { bits });
+    let checked = match checked {
+        Some(sine) => Some(sine.bits),
+        None => None,
+    };
+    (checked, (left.bits, past), saturating.bits, wrapping.bits)
+}
+
+/// The cosines, in the same order.
+fn cosines_of(bits: i8) -> (Option<i8>, (i8, bool), i8, i8) {
+    let (_, checked, _, (left, past), _, saturating, _, wrapping) = calls(Fixed::<i8, 4> { bits });
+    let checked = match checked {
+        Some(cosine) => Some(cosine.bits),
+        None => None,
+    };
+    (checked, (left.bits, past), saturating.bits, wrapping.bits)
+}
+
 #[test]
 fn turn_calls(rt: HostRuntime) {
-    let sine = Fixed::<i8, 4> { bits: -15 };
-    let cosine = Fixed::<i8, 4> { bits: -6 };
-    assert_eq!(rt;
-        calls(Fixed::<i8, 4> { bits: -5 }),
-        (
-            Some(sine),
-            Some(cosine),
-            (sine, false),
-            (cosine, false),
-            sine,
-            cosine,
-            sine,
-            cosine
-        )
-    );
+    assert!(rt; sines_of(-5) == (Some(-15), (-15, false), -15, -15));
+    assert!(rt; cosines_of(-5) == (Some(-6), (-6, false), -6, -6));
     let quarter = Fixed::<i8, 7> { bits: 32 };
-    assert_eq!(rt; quarter.checked_sin_turns(), None);
-    assert_eq!(rt;
-        quarter.saturating_sin_turns(),
-        Fixed::<i8, 7> { bits: 127 }
-    );
-    let number = FixedI32::<16> { bits: 12345 };
-    assert_eq!(rt;
-        sine_and_cosine(number),
-        (
-            FixedI32::<16> { bits: 60684 },
-            FixedI32::<16> { bits: 24748 }
-        )
-    );
+    assert!(rt; quarter.checked_sin_turns().is_none());
+    assert!(rt; quarter.saturating_sin_turns().bits == 127);
+    let (sine, cosine) = sine_and_cosine(FixedI32::<16> { bits: 12345 });
+    assert!(rt; sine.bits == 60684 && cosine.bits == 24748);
+}
+
+/// The angle of a point other than the origin.
+fn angle(y: i32, x: i32, frac: u32) -> Found {
+    if frac <= 32 && x != 0 {
+        let outcome = atan2_turns_of(y, x, frac);
+        Some((outcome.wrapped as i128, outcome.side))
+    } else {
+        None
+    }
+}
+
+/// The angle of a point straight above the origin.
+fn angle_above() -> Found {
+    let outcome = atan2_turns_of(7_i32, 0, 16);
+    Some((outcome.wrapped as i128, outcome.side))
 }
 
 #[test]
 fn angles(rt: HostRuntime) {
-    for (y, x, frac, angle) in [
+    for (y, x, frac, wanted) in [
         (0_i32, 1, 16, 0),
         (5, 5, 16, 8192),
         (0, -1, 16, 32768),
@@ -121,11 +185,10 @@ fn angles(rt: HostRuntime) {
         (-1, 2, 31, -158466703),
         (1, -1, 1, 1),
     ] {
-        if frac <= 32 && x != 0 {
-            assert_eq!(rt; atan2_turns_of(y, x, frac), outcome(angle, Side::Fits));
-        }
+        let operands = [y as i128, x as i128, frac as i128];
+        check_fit(&rt, "angle", operands, angle(y, x, frac), wanted);
     }
-    assert_eq!(rt; atan2_turns_of(7_i32, 0, 16), outcome(16384, Side::Fits));
+    check_fit(&rt, "angle", [7, 0, 16], angle_above(), 16384);
 }
 
 /// The calls of each policy at one point.
@@ -144,15 +207,22 @@ fn calls_at<N: CheckedTurns + OverflowingTurns + SaturatingTurns + WrappingTurns
     )
 }
 
+/// The angle that those calls leave of the point of 3 up and 4 to the left, by its bits.
+fn left_by_calls() -> (Option<i8>, (i8, bool), i8, i8) {
+    let (y, x) = (Fixed::<i8, 4> { bits: 48 }, Fixed::<i8, 4> { bits: -64 });
+    let (checked, (left, past), saturating, wrapping) = calls_at(y, x);
+    let checked = match checked {
+        Some(angle) => Some(angle.bits),
+        None => None,
+    };
+    (checked, (left.bits, past), saturating.bits, wrapping.bits)
+}
+
 #[test]
 fn angle_calls(rt: HostRuntime) {
-    let angle = Fixed::<i8, 4> { bits: 6 };
-    assert_eq!(rt;
-        calls_at(Fixed::<i8, 4> { bits: 48 }, Fixed::<i8, 4> { bits: -64 }),
-        (Some(angle), (angle, false), angle, angle)
-    );
+    assert!(rt; left_by_calls() == (Some(6), (6, false), 6, 6));
     let none = Fixed::<i8, 4> { bits: 0 };
-    assert_eq!(rt; none.checked_atan2_turns(none), None);
+    assert!(rt; none.checked_atan2_turns(none).is_none());
     let number = FixedI32::<16> { bits: 12345 };
-    assert_eq!(rt; angle_of(number, number), FixedI32::<16> { bits: 8192 });
+    assert!(rt; angle_of(number, number).bits == 8192);
 }

@@ -2,9 +2,10 @@
 
 ghost use Rattle.std.specs.Prelude.{◌≤◌, ◌<ℤ◌, pos};
 
-use super::same::all_same;
+use super::same::all_hold;
 use fixed_num::*;
 use fixed_word::{Count, Digits, Steps, Word};
+use std::process::Abort;
 
 /// The k with `base^k <= bits / one < base^(k+1)`, for bits from 1 to 255, one power at a time.
 fn plain_log(bits: u64, one: u64, base: u64) -> i32 {
@@ -34,74 +35,96 @@ fn checked_logs<T: Word, const F: u32>(x: Fixed<T, F>) -> [Option<i32>; 3]
     ]
 }
 
+fn logs_of_whole(byte: u8) -> [Option<i32>; 3] {
+    checked_logs(FixedU8::<0>::from_bits(byte))
+}
+
+fn logs_of_eighths(byte: u8) -> [Option<i32>; 3] {
+    checked_logs(FixedU8::<3>::from_bits(byte))
+}
+
+fn logs_of_fractions(byte: u8) -> [Option<i32>; 3] {
+    checked_logs(FixedU8::<8>::from_bits(byte))
+}
+
+/// Asserts that the logarithms of a byte over one are those by a power at a time.
+fn has_logs(rt: &impl Abort, byte: u8, one: u64, found: [Option<i32>; 3]) {
+    let bits = u64::from(byte);
+    let want = [
+        Some(plain_log(bits, one, 2)),
+        Some(plain_log(bits, one, 10)),
+        Some(plain_log(bits, one, 3)),
+    ];
+    assert!(rt; found == want, "of {byte} over {one}");
+}
+
 #[test]
 fn logarithms_of_every_byte(rt: HostRuntime) {
     for byte in 1..=255_u8 {
-        let bits = u64::from(byte);
-        for (one, found) in [
-            (1, checked_logs(FixedU8::<0>::from_bits(byte))),
-            (8, checked_logs(FixedU8::<3>::from_bits(byte))),
-            (256, checked_logs(FixedU8::<8>::from_bits(byte))),
-        ] {
-            let want = [
-                Some(plain_log(bits, one, 2)),
-                Some(plain_log(bits, one, 10)),
-                Some(plain_log(bits, one, 3)),
-            ];
-            assert_eq!(rt; found, want, "of {byte} over {one}");
-        }
+        has_logs(&rt, byte, 1, logs_of_whole(byte));
+        has_logs(&rt, byte, 8, logs_of_eighths(byte));
+        has_logs(&rt, byte, 256, logs_of_fractions(byte));
     }
+}
+
+/// The decimal logarithm of quarters.
+fn decimal_log_of_quarters(bits: u8) -> Option<i32> {
+    FixedU8::<2> { bits }.checked_int_log10()
+}
+
+/// The decimal logarithm of sixty-fourths.
+fn decimal_log_of_sixty_fourths(bits: u8) -> Option<i32> {
+    FixedU8::<6> { bits }.checked_int_log10()
 }
 
 #[test]
 fn worked_logarithms(rt: HostRuntime) {
     let (x, y) = (FixedU8::<4> { bits: 3 }, FixedI8::<4> { bits: 3 });
     let rows = [
-        ("3 / 16 to 2", x.checked_int_log2(), Some(-3)),
-        (
-            "10 to 10",
-            FixedU8::<2> { bits: 40 }.checked_int_log10(),
-            Some(1),
-        ),
+        ("3 / 16 to 2", x.checked_int_log2() == Some(-3)),
+        ("10 to 10", decimal_log_of_quarters(40) == Some(1)),
         (
             "just below 10 to 10",
-            FixedU8::<2> { bits: 39 }.checked_int_log10(),
-            Some(0),
+            decimal_log_of_quarters(39) == Some(0),
         ),
-        (
-            "7 / 64 to 10",
-            FixedU8::<6> { bits: 7 }.checked_int_log10(),
-            Some(-1),
-        ),
-        (
-            "6 / 64 to 10",
-            FixedU8::<6> { bits: 6 }.checked_int_log10(),
-            Some(-2),
-        ),
-        ("3 / 16 to 5", x.checked_int_log(5), Some(-2)),
-        ("3 / 16 to 5, with a sign", y.checked_int_log(5), Some(-2)),
+        ("7 / 64 to 10", decimal_log_of_sixty_fourths(7) == Some(-1)),
+        ("6 / 64 to 10", decimal_log_of_sixty_fourths(6) == Some(-2)),
+        ("3 / 16 to 5", x.checked_int_log(5) == Some(-2)),
+        ("3 / 16 to 5, with a sign", y.checked_int_log(5) == Some(-2)),
     ];
-    all_same(&rt, &rows);
+    all_hold(&rt, &rows);
+}
+
+/// Whether there is no logarithm of that number without a sign.
+fn has_none(bits: u8) -> bool {
+    checked_logs(FixedU8::<4> { bits }) == [None; 3]
+}
+
+/// Whether there is no logarithm of that number with a sign.
+fn has_none_signed(bits: i8) -> bool {
+    checked_logs(FixedI8::<4> { bits }) == [None; 3]
+}
+
+/// Whether there is no logarithm of 3 / 16 to that base, without and with a sign.
+fn is_no_base(base: u32) -> [bool; 2] {
+    let (x, y) = (FixedU8::<4> { bits: 3 }, FixedI8::<4> { bits: 3 });
+    [
+        x.checked_int_log(base).is_none(),
+        y.checked_int_log(base).is_none(),
+    ]
 }
 
 #[test]
 fn no_logarithm(rt: HostRuntime) {
-    let (x, y) = (FixedU8::<4> { bits: 3 }, FixedI8::<4> { bits: 3 });
-    let unsigned = [x.checked_int_log(0), x.checked_int_log(1), None];
-    let signed = [y.checked_int_log(0), y.checked_int_log(1), None];
     let rows = [
-        ("bases without a sign", unsigned, [None; 3]),
-        ("bases with a sign", signed, [None; 3]),
-        (
-            "0 without a sign",
-            checked_logs(FixedU8::<4> { bits: 0 }),
-            [None; 3],
-        ),
-        ("0", checked_logs(FixedI8::<4> { bits: 0 }), [None; 3]),
-        ("-1", checked_logs(FixedI8::<4> { bits: -1 }), [None; 3]),
-        ("-128", checked_logs(FixedI8::<4> { bits: -128 }), [None; 3]),
+        ("base 0", is_no_base(0) == [true; 2]),
+        ("base 1", is_no_base(1) == [true; 2]),
+        ("0 without a sign", has_none(0)),
+        ("0", has_none_signed(0)),
+        ("-1", has_none_signed(-1)),
+        ("-128", has_none_signed(-128)),
     ];
-    all_same(&rt, &rows);
+    all_hold(&rt, &rows);
 }
 
 /// The logarithms to the bases 2, 10 and 5, the last one also as it is counted, and its count.

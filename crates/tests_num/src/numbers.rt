@@ -2,7 +2,7 @@
 
 ghost use Rattle.std.specs.Prelude.{◌≤◌};
 
-use super::same::all_same;
+use super::same::{all_hold, all_same};
 use fixed_bits::BitWord;
 use fixed_num::laws::order_law;
 use fixed_num::*;
@@ -69,14 +69,24 @@ fn ways(byte: u8) -> [u8; 5] {
     ]
 }
 
+fn unsigned_bit_answers(byte: u8) -> [u64; 12] {
+    bit_answers(FixedU8::<4>::from_bits(byte))
+}
+
+fn signed_bit_answers(byte: u8) -> [u64; 12] {
+    bit_answers(FixedI8::<4>::from_bits(byte.cast_signed()))
+}
+
 #[test]
 fn bits_of_every_byte(rt: HostRuntime) {
     for byte in 0..=255_u8 {
         let want = std_answers(byte);
-        let unsigned = bit_answers(FixedU8::<4>::from_bits(byte));
-        let signed = bit_answers(FixedI8::<4>::from_bits(byte.cast_signed()));
-        let found = ([unsigned, signed], ways(byte));
-        assert_eq!(rt; found, ([want, want], [byte; 5]), "of {byte}");
+        assert!(rt;
+            unsigned_bit_answers(byte) == want,
+            "of {byte} without a sign"
+        );
+        assert!(rt; signed_bit_answers(byte) == want, "of {byte} with a sign");
+        assert!(rt; ways(byte) == [byte; 5], "ways of {byte}");
     }
 }
 
@@ -92,15 +102,19 @@ fn constants<N: Number>() -> [bool; 6] {
     ]
 }
 
+fn byte_constants() -> [[bool; 6]; 2] {
+    [constants::<FixedI8<4>>(), constants::<FixedU8<8>>()]
+}
+
+fn long_constants() -> [[bool; 6]; 2] {
+    [constants::<FixedI64<0>>(), constants::<FixedU64<64>>()]
+}
+
 #[test]
 fn constants_of_any_format(rt: HostRuntime) {
-    let found = [
-        constants::<FixedI8<4>>(),
-        constants::<FixedU8<8>>(),
-        constants::<FixedI64<0>>(),
-        constants::<FixedU64<64>>(),
-    ];
-    assert_eq!(rt; found, [[true, false, true, true, true, false]; 4]);
+    let want = [true, false, true, true, true, false];
+    assert!(rt; byte_constants() == [want; 2]);
+    assert!(rt; long_constants() == [want; 2]);
 }
 
 /// The answers of the calls on the size of a signed number.
@@ -177,8 +191,14 @@ fn sizes_of_every_byte(rt: HostRuntime) {
     for byte in 0..=255_u8 {
         let (signed, unsigned) = (byte.cast_signed() as i32, byte as i32);
         let moved = [signed / 16 * 16, unsigned / 16 * 16, signed.max(-signed)];
-        let want = (plain_signed(signed), plain_unsigned(byte as u32), moved);
-        assert_eq!(rt; sizes(byte), want, "of {byte}");
+        let (found_signed, found_unsigned, found_moved) = sizes(byte);
+        assert!(rt;
+            found_signed == plain_signed(signed),
+            "of {byte} with a sign"
+        );
+        let want = plain_unsigned(byte as u32);
+        assert!(rt; found_unsigned == want, "of {byte} without a sign");
+        assert!(rt; found_moved == moved, "of {byte}: {found_moved:?}");
     }
 }
 
@@ -204,7 +224,7 @@ fn moved_unsigned(a: u8, b: u8, by: u32) -> [i64; 3] {
 #[test]
 fn shifts_and_means(rt: HostRuntime) {
     let longest = FixedI64::<1>::MIN.mean(FixedI64::<1>::MAX).bits;
-    let rows = [
+    for (what, found, wanted) in [
         ("-128 and 127 by 8", moved_signed(-128, 127, 8), [0, -1, -1]),
         ("-48 and 64 by 1", moved_signed(-48, 64, 1), [-96, -24, 8]),
         ("127 and 126 by 9", moved_signed(127, 126, 9), [0, 0, 126]),
@@ -215,8 +235,9 @@ fn shifts_and_means(rt: HostRuntime) {
         ),
         ("3 and 200 by 8", moved_unsigned(3, 200, 8), [0, 0, 101]),
         ("the ends of 64 bits", [longest, 0, 0], [-1, 0, 0]),
-    ];
-    all_same(&rt, &rows);
+    ] {
+        assert!(rt; found == wanted, "{what}: {found:?}");
+    }
 }
 
 /// The distance of two signed numbers, by the three calls that answer it.
@@ -232,7 +253,7 @@ fn distances_of(a: i8, b: i8) -> [u8; 3] {
 #[test]
 fn distances(rt: HostRuntime) {
     for (a, b, want) in [(-128, 127, 255), (-48, 64, 112), (127, 126, 1), (5, 5, 0)] {
-        assert_eq!(rt; distances_of(a, b), [want; 3], "of {a} and {b}");
+        assert!(rt; distances_of(a, b) == [want; 3], "of {a} and {b}");
     }
     let far = FixedU8::<4> { bits: 3 }.abs_diff(FixedU8::<4> { bits: 200 });
     let least = FixedI8::<4>::MIN.unsigned_abs();
@@ -240,9 +261,9 @@ fn distances(rt: HostRuntime) {
     all_same(
         &rt,
         &[
-            ("3 and 200", far.bits, 197),
-            ("-128", least.bits, 128),
-            ("-1", unit.bits, 1),
+            ("3 and 200", far.bits as i64, 197),
+            ("-128", least.bits as i64, 128),
+            ("-1", unit.bits as i64, 1),
         ],
     );
 }
@@ -279,18 +300,22 @@ fn signed_and_significant_bits(rt: HostRuntime) {
 }
 
 /// Products of twice the width.
-fn wide_products() -> [i16; 3] {
+fn wide_products() -> [i64; 3] {
     let (x, y) = (FixedI8::<2> { bits: 5 }, FixedI8::<4> { bits: 17 });
     let product: FixedI16<6> = x.wide_mul(y);
     let (x, y) = (FixedU8::<2> { bits: 5 }, FixedI8::<4> { bits: -17 });
     let signed: FixedI16<6> = x.wide_mul_signed(y);
     let (x, y) = (FixedI8::<2> { bits: -128 }, FixedU8::<4> { bits: 255 });
     let unsigned: FixedI16<6> = x.wide_mul_unsigned(y);
-    [product.bits, signed.bits, unsigned.bits]
+    [
+        product.bits as i64,
+        signed.bits as i64,
+        unsigned.bits as i64,
+    ]
 }
 
 /// Quotients of twice the width.
-fn wide_quotients() -> [i16; 4] {
+fn wide_quotients() -> [i64; 4] {
     let (x, y) = (FixedI8::<3> { bits: 37 }, FixedI8::<5> { bits: 1 });
     let quotient: FixedI16<6> = x.wide_div(y);
     let (x, y) = (FixedI8::<3> { bits: -37 }, FixedU8::<5> { bits: 1 });
@@ -299,16 +324,27 @@ fn wide_quotients() -> [i16; 4] {
     let least: FixedI16<7> = x.wide_sdiv(y);
     let (x, y) = (FixedU8::<4> { bits: 255 }, FixedI8::<4> { bits: -2 });
     let signed: FixedI16<7> = x.wide_sdiv_signed(y);
-    [quotient.bits, unsigned.bits, least.bits, signed.bits]
+    [
+        quotient.bits as i64,
+        unsigned.bits as i64,
+        least.bits as i64,
+        signed.bits as i64,
+    ]
+}
+
+/// A quotient and a square without a sign.
+fn wide_unsigned() -> (u16, u64) {
+    let (x, y) = (FixedU8::<3> { bits: 255 }, FixedU8::<5> { bits: 7 });
+    let quotient: FixedU16<6> = x.wide_div(y);
+    let square: FixedU64<20> = FixedU32::<10>::MAX.wide_mul(FixedU32::<10>::MAX);
+    (quotient.bits, square.bits)
 }
 
 #[test]
 fn wide_results(rt: HostRuntime) {
     let [product, by_signed, by_unsigned] = wide_products();
     let [quotient, over_unsigned, least, over_signed] = wide_quotients();
-    let (x, y) = (FixedU8::<3> { bits: 255 }, FixedU8::<5> { bits: 7 });
-    let unsigned: FixedU16<6> = x.wide_div(y);
-    let square: FixedU64<20> = FixedU32::<10>::MAX.wide_mul(FixedU32::<10>::MAX);
+    let (unsigned, square) = wide_unsigned();
     all_same(
         &rt,
         &[
@@ -319,10 +355,10 @@ fn wide_results(rt: HostRuntime) {
             ("-37 over 1", over_unsigned, -9472),
             ("-128 over -1", least, 16384),
             ("255 over -2", over_signed, -16320),
-            ("255 over 7", unsigned.bits.cast_signed(), 9325),
+            ("255 over 7", unsigned as i64, 9325),
         ],
     );
-    assert_eq!(rt; square.bits, 0xffff_fffe_0000_0001);
+    assert!(rt; square == 0xffff_fffe_0000_0001);
 }
 
 /// Both numbers joined bit by bit: and, or, exclusive or.
@@ -372,10 +408,8 @@ fn bytes_of(bits: i16) -> [[u8; 2]; 2] {
 
 #[test]
 fn bytes_and_constants(rt: HostRuntime) {
-    assert_eq!(rt;
-        (ones(), bytes_of(4660)),
-        ([16, 128, -16, -128], [[18, 52], [52, 18]])
-    );
+    assert!(rt; ones() == [16, 128, -16, -128]);
+    assert!(rt; bytes_of(4660) == [[18, 52], [52, 18]]);
     let (less, zero) = (FixedI8::<4> { bits: -1 }, FixedI8::<4> { bits: 0 });
     let sizes = [size_of::<FixedI64<7>>(), size_of::<FixedU8<7>>()];
     assert!(rt;
@@ -384,31 +418,35 @@ fn bytes_and_constants(rt: HostRuntime) {
     );
     let joined_unsigned = joined(FixedU8::<4> { bits: 12 }, FixedU8::<4> { bits: 10 });
     let joined_signed = joined(FixedI8::<4> { bits: -4 }, FixedI8::<4> { bits: 10 });
-    assert_eq!(rt;
-        (joined_unsigned, joined_signed),
-        ([8, 14, 6], [8, -2, -10])
-    );
+    assert!(rt; joined_unsigned == [8, 14, 6] && joined_signed == [8, -2, -10]);
+}
+
+fn bytes_are_right() -> bool {
+    format_of(FixedU8::<2> { bits: 9 }) == ([0, 0, 1, 255], false, 6, 2)
+}
+
+fn words_are_right() -> bool {
+    format_of(FixedU16::<3> { bits: 9 }) == ([0, 0, 1, u16::MAX], false, 13, 3)
+}
+
+fn signed_words_are_right() -> bool {
+    format_of(FixedI32::<5> { bits: 9 }) == ([0, 0, 1, i32::MAX], true, 27, 5)
+}
+
+fn longest_words_are_right() -> bool {
+    format_of(FixedU64::<2> { bits: 9 }) == ([0, 0, 1, u64::MAX], false, 62, 2)
 }
 
 #[test]
 fn formats(rt: HostRuntime) {
-    let bytes = format_of(FixedU8::<2> { bits: 9 });
-    let words = format_of(FixedU16::<3> { bits: 9 });
-    let signed = format_of(FixedI32::<5> { bits: 9 });
-    let longest = format_of(FixedU64::<2> { bits: 9 });
-    assert_eq!(rt;
-        (bytes, words),
-        (
-            ([0, 0, 1, 255], false, 6, 2),
-            ([0, 0, 1, u16::MAX], false, 13, 3)
-        )
-    );
-    assert_eq!(rt;
-        (signed, longest),
-        (
-            ([0, 0, 1, i32::MAX], true, 27, 5),
-            ([0, 0, 1, u64::MAX], false, 62, 2)
-        )
+    all_hold(
+        &rt,
+        &[
+            ("8 bits", bytes_are_right()),
+            ("16 bits", words_are_right()),
+            ("32 bits", signed_words_are_right()),
+            ("64 bits", longest_words_are_right()),
+        ],
     );
 }
 
@@ -484,10 +522,7 @@ fn through_bounds(rt: HostRuntime) {
             ("an exact number", exact.bits as i64, 200),
         ],
     );
-    assert_eq!(rt;
-        doubles(),
-        [-128, -32768, -2147483648, 255, 65535, 4294967295]
-    );
+    assert!(rt; doubles() == [-128, -32768, -2147483648, 255, 65535, 4294967295]);
 }
 
 /// The hash by std's hasher.
@@ -518,11 +553,9 @@ fn order_and_hashes(rt: HostRuntime) {
         (5, 5, Ordering::Equal),
         (0, -1, Ordering::Greater),
     ] {
-        assert_eq!(rt;
-            order_of(a, b),
-            (order, Some(order), [true; 2]),
-            "{a} and {b}"
-        );
+        let (found, partial, hashes) = order_of(a, b);
+        let ordered = found == order && partial == Some(order);
+        assert!(rt; ordered && hashes == [true; 2], "{a} and {b}");
     }
     let (x, y) = (FixedU64::<64>::ZERO, FixedU64::<64>::MAX);
     let hashed = hash_of(&y) == hash_of(&u64::MAX);

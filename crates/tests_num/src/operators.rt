@@ -215,32 +215,38 @@ fn known_answers(rt: HostRuntime) {
     all_same(
         &rt,
         &[
-            ("3 by a half", product.bits as i32, 24),
-            ("the least by -1", (least % -1).bits, 0),
-            ("a fifth by 17", (i8_of::<4>(16) / 5 * 17).bits as i32, 51),
-            ("a longer fifth by 17", (unit / 5 * 17).bits as i32, 13923),
+            ("3 by a half", product.bits as i64, 24),
+            ("the least by -1", (least % -1).bits as i64, 0),
+            ("a fifth by 17", (i8_of::<4>(16) / 5 * 17).bits as i64, 51),
+            ("a longer fifth by 17", (unit / 5 * 17).bits as i64, 13923),
         ],
     );
 }
 
-/// An integer of each word on the left.
-#[test]
-fn integers_on_the_left(rt: HostRuntime) {
-    let signed = [
+/// An integer of each signed word on the left.
+fn signed_on_the_left() -> [i64; 4] {
+    [
         (-3_i8 * FixedI8::<4> { bits: 5 }).bits as i64,
         (-3_i16 * FixedI16::<4> { bits: 5 }).bits as i64,
         (-3_i32 * FixedI32::<4> { bits: 5 }).bits as i64,
         (-3_i64 * FixedI64::<4> { bits: 5 }).bits,
-    ];
-    let unsigned = [
+    ]
+}
+
+/// An integer of each unsigned word on the left.
+fn unsigned_on_the_left() -> [u64; 4] {
+    [
         (3_u8 * FixedU8::<4> { bits: 5 }).bits as u64,
         (3_u16 * FixedU16::<4> { bits: 5 }).bits as u64,
         (3_u32 * FixedU32::<4> { bits: 5 }).bits as u64,
         (3_u64 * FixedU64::<4> { bits: 5 }).bits,
-    ];
-    assert_eq!(rt;
-        (signed, unsigned),
-        ([-15; 4], [15; 4]),
-        "8, 16, 32 and 64 bits"
-    );
+    ]
+}
+
+/// An integer of 8, 16, 32 and 64 bits on the left.
+#[test]
+fn integers_on_the_left(rt: HostRuntime) {
+    let (signed, unsigned) = (signed_on_the_left(), unsigned_on_the_left());
+    assert!(rt; signed == [-15; 4], "{signed:?}");
+    assert!(rt; unsigned == [15; 4], "{unsigned:?}");
 }

@@ -67,30 +67,46 @@ fn raised<const A: u32, const B: u32, N: PlainProducts<A, B>>(
     c.add_prod(a, b)
 }
 
+/// One over -1.5 and over 7 / 16.
+fn inverses() -> [i64; 2] {
+    [
+        inverse(i8_of::<4>(-24)).bits as i64,
+        inverse(u8_of::<4>(7)).bits as i64,
+    ]
+}
+
+/// A magnitude, and a sum with a signed number.
+fn magnitude_and_sum() -> [i64; 2] {
+    [
+        magnitude(i8_of::<4>(-127)).bits as i64,
+        moved(u8_of::<4>(48), i8_of(-48)).bits as i64,
+    ]
+}
+
+/// Multiply-adds with and without a sign.
+fn scaled_numbers() -> [i64; 2] {
+    let signed = scaled(i8_of::<4>(127), i8_of::<4>(24), i8_of(-127));
+    let unsigned = scaled(u8_of::<4>(255), u8_of::<8>(255), u8_of(1));
+    [signed.bits as i64, unsigned.bits as i64]
+}
+
+/// Sums with a product, with and without a sign.
+fn raised_numbers() -> [i64; 2] {
+    let signed = raised(i8_of::<4>(3), i8_of::<0>(2), i8_of::<4>(-5));
+    let unsigned = raised(u8_of::<4>(1), u8_of::<8>(255), u8_of::<4>(255));
+    [signed.bits as i64, unsigned.bits as i64]
+}
+
 #[test]
 fn through_bounds(rt: HostRuntime) {
-    let (x, y) = (i8_of::<4>(127), u8_of::<4>(255));
-    let signed = scaled(x, i8_of::<4>(24), i8_of(-127));
-    let unsigned = scaled(y, u8_of::<8>(255), u8_of(1));
-    let sum = raised(i8_of::<4>(3), i8_of::<0>(2), i8_of::<4>(-5));
-    let unsigned_sum = raised(u8_of::<4>(1), u8_of::<8>(255), y);
-    all_same(
-        &rt,
-        &[
-            ("inverse", inverse(i8_of::<4>(-24)).bits as i64, -10),
-            (
-                "inverse without a sign",
-                inverse(u8_of::<4>(7)).bits as i64,
-                36,
-            ),
-            ("magnitude", magnitude(i8_of::<4>(-127)).bits as i64, 127),
-            ("moved", moved(u8_of::<4>(48), i8_of(-48)).bits as i64, 0),
-            ("scaled", signed.bits as i64, 63),
-            ("scaled without a sign", unsigned.bits as i64, 255),
-            ("raised", sum.bits as i64, -7),
-            ("raised without a sign", unsigned_sum.bits as i64, 255),
-        ],
-    );
+    for (what, found, wanted) in [
+        ("inverses", inverses(), [-10, 36]),
+        ("magnitude and sum", magnitude_and_sum(), [127, 0]),
+        ("scaled", scaled_numbers(), [63, 255]),
+        ("raised", raised_numbers(), [-7, 255]),
+    ] {
+        assert!(rt; found == wanted, "{what}: {found:?}");
+    }
 }
 
 /// Euclid's quotients and remainders.
@@ -105,11 +121,42 @@ fn euclid() -> [i8; 5] {
     ]
 }
 
+/// The next multiples of 4 by 1.5 and by -1.5.
+fn next_multiples() -> [i64; 2] {
+    let x = i8_of::<4>(64);
+    [
+        x.next_multiple_of(i8_of(24)).bits as i64,
+        x.next_multiple_of(i8_of(-24)).bits as i64,
+    ]
+}
+
+/// The distance of -3 and 4, and the sign of a number below 0.
+fn distance_and_sign() -> [i64; 2] {
+    [
+        i8_of::<4>(-48).dist(i8_of(64)).bits as i64,
+        i8_of::<4>(-3).signum().bits as i64,
+    ]
+}
+
+/// A sum and a difference of a signed and an unsigned number.
+fn mixed_sums() -> [i64; 2] {
+    [
+        i8_of::<4>(-128).add_unsigned(u8_of(255)).bits as i64,
+        i8_of::<4>(127).sub_unsigned(u8_of(255)).bits as i64,
+    ]
+}
+
+/// What a number with 31 fraction bits leaves by the integer 1.
+fn longer_remainder() -> i64 {
+    let number: Fixed<i32, 31> = Fixed { bits: -536870912 };
+    number.rem_euclid_int(1).bits as i64
+}
+
 #[test]
 fn signed_numbers(rt: HostRuntime) {
     let [above, below, by_integer, left, left_by_integer] = euclid();
-    let remainder: Fixed<i32, 31> = Fixed { bits: -536870912 };
-    let (x, y) = (i8_of::<4>(64), i8_of::<4>(-24));
+    let ([multiple, multiple_below], [distance, sign]) = (next_multiples(), distance_and_sign());
+    let [sum, difference] = mixed_sums();
     all_same(
         &rt,
         &[
@@ -122,33 +169,13 @@ fn signed_numbers(rt: HostRuntime) {
                 left_by_integer as i64,
                 8,
             ),
-            ("distance", i8_of::<4>(-48).dist(x).bits as i64, 112),
-            (
-                "next multiple",
-                x.next_multiple_of(i8_of(24)).bits as i64,
-                72,
-            ),
-            (
-                "next multiple of one below 0",
-                x.next_multiple_of(y).bits as i64,
-                48,
-            ),
-            ("sign", i8_of::<4>(-3).signum().bits as i64, -16),
-            (
-                "sum",
-                i8_of::<4>(-128).add_unsigned(u8_of(255)).bits as i64,
-                127,
-            ),
-            (
-                "difference",
-                i8_of::<4>(127).sub_unsigned(u8_of(255)).bits as i64,
-                -128,
-            ),
-            (
-                "a longer remainder",
-                remainder.rem_euclid_int(1).bits as i64,
-                1610612736,
-            ),
+            ("distance", distance, 112),
+            ("next multiple", multiple, 72),
+            ("next multiple of one below 0", multiple_below, 48),
+            ("sign", sign, -16),
+            ("sum", sum, 127),
+            ("difference", difference, -128),
+            ("a longer remainder", longer_remainder(), 1610612736),
         ],
     );
 }
@@ -162,51 +189,78 @@ fn unsigned_numbers(rt: HostRuntime) {
         &[
             (
                 "difference",
-                u8_of::<4>(20).sub_signed(i8_of(-128)).bits,
+                u8_of::<4>(20).sub_signed(i8_of(-128)).bits as i64,
                 148,
             ),
-            ("distance", u8_of::<4>(50).dist(u8_of(200)).bits, 150),
-            ("sum", sum.bits, 27),
+            ("distance", u8_of::<4>(50).dist(u8_of(200)).bits as i64, 150),
+            ("sum", sum.bits as i64, 27),
         ],
     );
+}
+
+/// Multiply-adds by name, with and without a sign.
+fn multiply_adds() -> [i64; 2] {
+    let product = i8_of::<4>(127).mul_add(i8_of::<4>(-24), i8_of(127));
+    let unsigned = u8_of::<4>(200).mul_add(u8_of::<4>(17), u8_of(43));
+    [product.bits as i64, unsigned.bits as i64]
+}
+
+/// Sums with a product by name, with and without a sign.
+fn added_products() -> [i64; 2] {
+    let sum = i8_of::<4>(3).add_prod(i8_of::<4>(3), i8_of::<4>(-5));
+    let unsigned = u8_of::<8>(5).add_prod(u8_of::<4>(1), u8_of::<0>(15));
+    [sum.bits as i64, unsigned.bits as i64]
+}
+
+/// A sum with a product, where it is stored.
+fn stored_sum() -> i64 {
+    let mut stored = i8_of::<4>(-128);
+    stored.mul_acc(i8_of::<4>(-64), i8_of::<4>(-32));
+    stored.bits as i64
 }
 
 #[test]
 fn multiply_adds_and_products(rt: HostRuntime) {
-    let product = i8_of::<4>(127).mul_add(i8_of::<4>(-24), i8_of(127));
-    let unsigned = u8_of::<4>(200).mul_add(u8_of::<4>(17), u8_of(43));
-    let sum = i8_of::<4>(3).add_prod(i8_of::<4>(3), i8_of::<4>(-5));
-    let unsigned_sum = u8_of::<8>(5).add_prod(u8_of::<4>(1), u8_of::<0>(15));
-    let mut stored = i8_of::<4>(-128);
-    stored.mul_acc(i8_of::<4>(-64), i8_of::<4>(-32));
+    let ([product, unsigned], [sum, unsigned_sum]) = (multiply_adds(), added_products());
     all_same(
         &rt,
         &[
-            ("product", product.bits as i64, -64),
-            ("product without a sign", unsigned.bits as i64, 255),
-            ("sum", sum.bits as i64, 2),
-            ("sum without a sign", unsigned_sum.bits as i64, 245),
-            ("stored", stored.bits as i64, 0),
+            ("product", product, -64),
+            ("product without a sign", unsigned, 255),
+            ("sum", sum, 2),
+            ("sum without a sign", unsigned_sum, 245),
+            ("stored", stored_sum(), 0),
         ],
     );
 }
 
+/// The sum and the product of three signed numbers.
+fn signed_folds() -> [i64; 2] {
+    let items = [i8_of::<4>(24), i8_of(32), i8_of(-8)];
+    [sum(&items).bits as i64, product(&items).bits as i64]
+}
+
+/// The sum and the product of two unsigned numbers.
+fn unsigned_folds() -> [i64; 2] {
+    let items = [u8_of::<4>(24), u8_of(32)];
+    [sum(&items).bits as i64, product(&items).bits as i64]
+}
+
+/// The sum and the product of no numbers.
+fn empty_folds() -> [i64; 2] {
+    let none: [Fixed<i8, 4>; 0] = [];
+    [sum(&none).bits as i64, product(&none).bits as i64]
+}
+
 #[test]
 fn sums_and_products(rt: HostRuntime) {
-    let items = [i8_of::<4>(24), i8_of(32), i8_of(-8)];
-    let unsigned = [u8_of::<4>(24), u8_of(32)];
-    let none: [Fixed<i8, 4>; 0] = [];
-    all_same(
-        &rt,
-        &[
-            ("sum", sum(&items).bits as i64, 48),
-            ("product", product(&items).bits as i64, -24),
-            ("sum without a sign", sum(&unsigned).bits as i64, 56),
-            ("product without a sign", product(&unsigned).bits as i64, 48),
-            ("sum of none", sum(&none).bits as i64, 0),
-            ("product of none", product(&none).bits as i64, 16),
-        ],
-    );
+    for (what, found, wanted) in [
+        ("with a sign", signed_folds(), [48, -24]),
+        ("without a sign", unsigned_folds(), [56, 48]),
+        ("of none", empty_folds(), [0, 16]),
+    ] {
+        assert!(rt; found == wanted, "{what}: {found:?}");
+    }
 }
 
 /// The root of the greatest number below 1.
@@ -222,20 +276,13 @@ fn root_of_two() -> Fixed<i8, 4> {
 #[test]
 fn roots(rt: HostRuntime) {
     let (greatest, two) = (greatest_root().bits, root_of_two().bits);
-    assert_eq!(rt;
-        (greatest, two),
-        (255, 22),
-        "of the greatest number and of 2"
-    );
+    assert!(rt; greatest == 255 && two == 22, "{greatest} and {two}");
 }
 
 #[test]
 #[tactic(auto, unfolding(fixed_kernel::specs::Rows::power_over))]
 fn powers(rt: HostRuntime) {
     let (above, least) = (u8_of::<4>(17), u8_of::<4>(0));
-    let powers = (
-        above.next_power_of_two().bits,
-        least.next_power_of_two().bits,
-    );
-    assert_eq!(rt; powers, (32, 1), "from 17 and 0 on");
+    assert!(rt; above.next_power_of_two().bits == 32, "from 17 on");
+    assert!(rt; least.next_power_of_two().bits == 1, "from 0 on");
 }

@@ -17,7 +17,7 @@ fn three_steps(rt: HostRuntime) {
     let mut level = Level { bits: 0 };
     for want in [8192, 15360, 21632] {
         level = low_pass(level, sample, gain);
-        assert_eq!(rt; level.bits, want);
+        assert!(rt; level.bits == want, "{} for {want}", level.bits);
     }
 }
 
@@ -26,7 +26,8 @@ fn held_at_the_ends(rt: HostRuntime) {
     let gain = controller::Gain { bits: 14336 };
     let bias = Signal { bits: 1280 };
     for (error, want) in [(2560, 10240), (12800, 32767), (-12800, -32768)] {
-        assert_eq!(rt; output(Signal { bits: error }, gain, bias).bits, want);
+        let held = output(Signal { bits: error }, gain, bias).bits;
+        assert!(rt; held == want, "{held} of {error}");
     }
 }
 
@@ -36,39 +37,45 @@ fn a_payment_and_one_too_large(rt: HostRuntime) {
     let mut payee = Money {
         bits: i64::MAX - 25600,
     };
-    assert_eq!(rt;
-        transfer(&mut payer, &mut payee, Money { bits: 25600 }),
-        Some(())
-    );
-    assert_eq!(rt; (payer.bits, payee.bits), (230400, i64::MAX));
-    assert_eq!(rt; transfer(&mut payer, &mut payee, Money { bits: 1 }), None);
-    assert_eq!(rt; (payer.bits, payee.bits), (230400, i64::MAX));
+    let paid = transfer(&mut payer, &mut payee, Money { bits: 25600 });
+    assert!(rt; paid.is_some());
+    assert!(rt; payer.bits == 230400 && payee.bits == i64::MAX);
+    let paid = transfer(&mut payer, &mut payee, Money { bits: 1 });
+    assert!(rt; paid.is_none());
+    assert!(rt; payer.bits == 230400 && payee.bits == i64::MAX);
 }
 
 #[test]
 fn three_pieces_and_a_fee(rt: HostRuntime) {
     let price = Amount { bits: 5 * 256 + 64 };
     let fee = Amount { bits: 128 };
-    assert_eq!(rt; total(price, 3, fee).bits, 4160);
+    assert!(rt; total(price, 3, fee).bits == 4160);
+}
+
+/// The sum of three numbers by each policy: checked, saturating, wrapping, overflowing.
+fn sums(a: i8, b: i8, c: i8) -> (Option<i8>, i8, i8, (i8, bool)) {
+    let number = |bits: i8| FixedI8::<4> { bits };
+    let (a, b, c) = (number(a), number(b), number(c));
+    let checked = match sum_of_three(a, b, c) {
+        Some(sum) => Some(sum.bits),
+        None => None,
+    };
+    let (left, overflows) = overflowing_sum_of_three(a, b, c);
+    (
+        checked,
+        saturating_sum_of_three(a, b, c).bits,
+        wrapping_sum_of_three(a, b, c).bits,
+        (left.bits, overflows),
+    )
 }
 
 /// 100 and 20 and 5, and 100 and 100 and -100, whose first sum is out of range.
 #[test]
 fn three_numbers(rt: HostRuntime) {
-    let number = |bits: i8| FixedI8::<4> { bits };
-    for (b, c, checked, saturated, wrapped, overflows) in [
-        (20, 5, Some(125), 125, 125, false),
-        (100, -100, None, 27, 100, true),
-    ] {
-        let (a, b, c) = (number(100), number(b), number(c));
-        assert_eq!(rt; sum_of_three(a, b, c).map(|sum| sum.bits), checked);
-        assert_eq!(rt; saturating_sum_of_three(a, b, c).bits, saturated);
-        assert_eq!(rt; wrapping_sum_of_three(a, b, c).bits, wrapped);
-        assert_eq!(rt;
-            overflowing_sum_of_three(a, b, c),
-            (number(wrapped), overflows)
-        );
-    }
+    let inside = sums(100, 20, 5);
+    assert!(rt; inside == (Some(125), 125, 125, (125, false)));
+    let outside = sums(100, 100, -100);
+    assert!(rt; outside == (None, 27, 100, (100, true)));
 }
 
 #[test]
@@ -76,17 +83,23 @@ fn three_numbers_that_fit(rt: HostRuntime) {
     let a = FixedI8::<4> { bits: 100 };
     let b = FixedI8::<4> { bits: 20 };
     let c = FixedI8::<4> { bits: 5 };
-    assert_eq!(rt; strict_sum_of_three(a, b, c).bits, 125);
-    assert_eq!(rt; unwrapped_sum_of_three(a, b, c).bits, 125);
+    assert!(rt; strict_sum_of_three(a, b, c).bits == 125);
+    assert!(rt; unwrapped_sum_of_three(a, b, c).bits == 125);
+}
+
+/// What is left of a stock, by its bits.
+fn left_of_bits(stock: i8, taken: i8) -> Option<i8> {
+    match left_of(FixedI8::<4> { bits: stock }, FixedI8::<4> { bits: taken }) {
+        Some(left) => Some(left.bits),
+        None => None,
+    }
 }
 
 #[test]
 fn what_is_left(rt: HostRuntime) {
-    let number = |bits: i8| FixedI8::<4> { bits };
     for (stock, taken, left) in [(5, 3, Some(2)), (3, 5, Some(0)), (100, -100, None)] {
-        let found = left_of(number(stock), number(taken));
-        assert_eq!(rt; found.map(|left| left.bits), left);
+        assert!(rt; left_of_bits(stock, taken) == left, "{taken} of {stock}");
     }
     let none_left = left_of(FixedU8::<4> { bits: 3 }, FixedU8::<4> { bits: 5 });
-    assert_eq!(rt; none_left, Some(FixedU8 { bits: 0 }));
+    assert!(rt; none_left == Some(FixedU8 { bits: 0 }));
 }

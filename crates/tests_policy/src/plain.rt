@@ -51,19 +51,23 @@ pub fn forms_of(fits: bool, left: i128, nearest: i128) -> Forms {
 
 /// Asserts that these are the answers wanted; the message names the operands.
 pub fn stands(rt: &impl Abort, operands: [i128; 3], found: Forms, wanted: Forms) {
-    assert_eq!(rt; found, wanted, "{operands:?}");
+    let (checked, (overflowing, verdict), wrapping, saturating) = found;
+    assert!(rt;
+        found == wanted,
+        "{operands:?}: {checked:?}, {overflowing} {verdict}, {wrapping}, {saturating}"
+    );
 }
 
 /// Asserts that in each row the answers found are those wanted; the message names the row.
 pub fn all_stand(rt: &impl Abort, rows: &[(&str, Forms, Forms)]) {
     for (what, found, wanted) in rows {
-        assert_eq!(rt; *found, *wanted, "{what}");
+        assert!(rt; *found == *wanted, "{what}");
     }
 }
 
 /// The same of four numbers that fit.
 pub fn all_fit(rt: &impl Abort, rows: &[(&str, [i128; 4], [i128; 4])]) {
     for (what, found, wanted) in rows {
-        assert_eq!(rt; *found, *wanted, "{what}");
+        assert!(rt; *found == *wanted, "{what}: {found:?}");
     }
 }

@@ -25,11 +25,12 @@ fn steps(rt: HostRuntime) {
     let mut past = [FixedI8::<4> { bits: 0 }; 2];
     let mut filter = Fir::<i8, 4, 6, 4>::new(&TAPS, &mut past);
     for (sample, wanted) in STEPS {
-        assert_eq!(rt; filter.push(FixedI8 { bits: sample }), wanted);
+        let found = filter.push(FixedI8 { bits: sample });
+        assert!(rt; found == wanted, "at the sample {sample}");
     }
     filter.reset();
-    assert_eq!(rt; filter.push(FixedI8 { bits: 16 }), Ok(FixedI8 { bits: 24 }));
-    assert_eq!(rt; past, [FixedI8 { bits: 16 }, FixedI8 { bits: 0 }]);
+    assert!(rt; filter.push(FixedI8 { bits: 16 }) == Ok(FixedI8 { bits: 24 }));
+    assert!(rt; past == [FixedI8 { bits: 16 }, FixedI8 { bits: 0 }]);
 }
 
 /// The samples of a block.
@@ -57,11 +58,11 @@ fn blocks(rt: HostRuntime) {
     let mut second = [FixedI8::<4> { bits: 5 }; 3];
     let mut filter = Fir::<i8, 4, 6, 4>::new(&TAPS, &mut past);
     let stop = filter.push_block(&BLOCK, &mut first);
-    assert_eq!(rt; stop, Err(BlockOverflow { sample: 4, tap: 0 }));
+    assert!(rt; stop == Err(BlockOverflow { sample: 4, tap: 0 }));
     let stop = filter.push_block(&LATER, &mut second);
-    assert_eq!(rt; stop, Err(BlockOverflow { sample: 2, tap: 1 }));
+    assert!(rt; stop == Err(BlockOverflow { sample: 2, tap: 1 }));
     let outputs = first.map(|output| output.bits);
-    assert_eq!(rt; outputs, [24, 40, -42, 9, 5, 5]);
-    assert_eq!(rt; second.map(|output| output.bits), [-64, -128, 5]);
-    assert_eq!(rt; past, [FixedI8 { bits: 84 }, FixedI8 { bits: -85 }]);
+    assert!(rt; outputs == [24, 40, -42, 9, 5, 5]);
+    assert!(rt; second.map(|output| output.bits) == [-64, -128, 5]);
+    assert!(rt; past == [FixedI8 { bits: 84 }, FixedI8 { bits: -85 }]);
 }

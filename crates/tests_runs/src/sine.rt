@@ -12,6 +12,6 @@ fn parts_of_a_quarter_turn(rt: HostRuntime) {
         (268_435_456, 379_625_376),
         (536_870_912, 536_870_561),
     ] {
-        assert_eq!(rt; sine(Part { bits: part }).bits, want, "at {part}");
+        assert!(rt; sine(Part { bits: part }).bits == want, "at {part}");
     }
 }

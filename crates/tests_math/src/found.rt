@@ -1,0 +1,29 @@
+//! What a call on words leaves, as plain numbers, and the one assertion on it.
+
+use fixed_num::FixedI32;
+use fixed_word::Side;
+use std::process::Abort;
+
+/// What is left of a number, and the side where it lies; nothing where the call has no number.
+pub type Found = Option<(i128, Side)>;
+
+/// Asserts that this is left of the number; the message names the call and its operands.
+pub fn check(rt: &impl Abort, call: &str, operands: [i128; 3], found: Found, wanted: (i128, Side)) {
+    assert!(rt;
+        found == Some(wanted),
+        "{call} of {operands:?}: {found:?}, not {wanted:?}"
+    );
+}
+
+/// The same of a number that fits.
+pub fn check_fit(rt: &impl Abort, call: &str, operands: [i128; 3], found: Found, wanted: i128) {
+    check(rt, call, operands, found, (wanted, Side::Fits));
+}
+
+/// The bits of a number, where there is one.
+pub fn bits_of(number: Option<FixedI32<16>>) -> Option<i32> {
+    match number {
+        Some(number) => Some(number.bits),
+        None => None,
+    }
+}
