@@ -1,11 +1,16 @@
 //! What a call on words leaves, as plain numbers, and the one assertion on it.
 
 use fixed_num::FixedI32;
-use fixed_word::Side;
+use fixed_word::{Outcome, Side};
 use std::process::Abort;
 
 /// What is left of a number, and the side where it lies; nothing where the call has no number.
 pub type Found = Option<(i128, Side)>;
+
+/// What an outcome of 64 bits leaves.
+pub fn found_of(outcome: Outcome<i64>) -> Found {
+    Some((outcome.wrapped as i128, outcome.side))
+}
 
 /// Asserts that this is left of the number; the message names the call and its operands.
 pub fn check(rt: &impl Abort, call: &str, operands: [i128; 3], found: Found, wanted: (i128, Side)) {

@@ -3,7 +3,7 @@
 ghost use Rattle.std.specs.Prelude.{◌≤◌, ◌<ℤ◌, pos};
 
 use crate::fitting::ln_with_16;
-use crate::found::{Found, bits_of, check, check_fit};
+use crate::found::{Found, bits_of, check, check_fit, found_of};
 use fixed_natural::{
     CheckedNatural, OverflowingNatural, SaturatingNatural, WrappingNatural, exp_of, ln_of,
     log10_of, pow_of,
@@ -76,8 +76,7 @@ fn logarithm_of_ten_to_the_19th() -> Found {
 }
 
 fn logarithm_of_a_thousand() -> Found {
-    let outcome = log10_of(4294967296000_i64, 32);
-    Some((outcome.wrapped as i128, outcome.side))
+    found_of(log10_of(4294967296000_i64, 32))
 }
 
 #[test]
@@ -118,8 +117,7 @@ fn power_of_e(a: i32, frac: u32) -> Found {
 }
 
 fn long_power_of_e() -> Found {
-    let outcome = exp_of(12345678901_i64, 32);
-    Some((outcome.wrapped as i128, outcome.side))
+    found_of(exp_of(12345678901_i64, 32))
 }
 
 /// Where e to the greatest power lies, and 1 without integer bits.
@@ -164,8 +162,7 @@ fn power(a: i32, b: i32) -> Found {
 
 /// 3 to the power of minus a half.
 fn long_power() -> Found {
-    let outcome = pow_of(12884901888_i64, -2147483648, 32);
-    Some((outcome.wrapped as i128, outcome.side))
+    found_of(pow_of(12884901888_i64, -2147483648, 32))
 }
 
 #[test]
