@@ -61,7 +61,7 @@ ALLOWED = [
                           ("fixed_filter", "Reply::Overflow(tap) => Err(TapOverflow { tap }),"),
                           ("fixed_poly", "PolyReply::Value(value) => Ok(value),"),
                           ("fixed_poly", "PolyReply::Overflow(step) => Err(StepOverflow { step }),")]),
-    Allowed("crates/fixed_filter/src/sample.rt", "impl", "impl<T: Word> Sample<T> for T {", 1,
+    Allowed("crates/fixed_filter/src/sample.rt", "impl", "impl<T: RawWord> Sample<T> for T {", 1,
             "words are sealed, and so the same types in both languages"),
     *(Allowed("crates/fixed_bits/src/bytes.rt", "method", f"impl BitWord for {word} {{", 1, STD_NAMED)
       for word in WORDS),
