@@ -61,7 +61,7 @@ pub(crate) fn corner<T: Arithmetic>(x: T, y: T) -> T::Whole
 fn least<W: Integer>(x: W, y: W) -> W
     ensures { W.value result ≡ int_min (W.value x) (W.value y) }
 {
-    if y < x { y } else { x }
+    if y.is_below(x) { y } else { x }
 }
 
 /// Returns the greater of two integers.
@@ -69,7 +69,7 @@ fn least<W: Integer>(x: W, y: W) -> W
 fn greatest<W: Integer>(x: W, y: W) -> W
     ensures { W.value result ≡ int_max (W.value x) (W.value y) }
 {
-    if x < y { y } else { x }
+    if x.is_below(y) { y } else { x }
 }
 
 /// Returns a product over `2^frac`, rounded up.
@@ -80,7 +80,7 @@ pub(crate) fn ceiled<T: Arithmetic>(product: T::Whole, frac: u32) -> T::Whole
     ensures { T.Whole.value result ≡ ceiling_over (T.Whole.value product) (pos (2 ^ frac)) }
 {
     let floor = product.floored(frac);
-    if floor.scaled(frac) == product {
+    if floor.scaled(frac).equals(product) {
         floor
     } else {
         floor.plus(T::ONE.whole())

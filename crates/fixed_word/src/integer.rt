@@ -1,20 +1,26 @@
 //! Integers that hold products and quotients of words.
 
-ghost use Rattle.std.specs.Prelude.{◌≡◌, ◌≢◌, ◌↔◌, ◌<◌, ◌^◌, ◌+ℤ◌, ◌-ℤ◌, ◌*ℤ◌, ◌<ℤ◌, ℕ, ℤ, Bool, true, false, IsTrue, Some, pos};
-ghost use Rattle.std.specs.Ordering.{int_cmp};
+ghost use Rattle.std.specs.Prelude.{◌≡◌, ◌≢◌, ◌↔◌, ◌<◌, ◌^◌, ◌+ℤ◌, ◌-ℤ◌, ◌*ℤ◌, ◌<ℤ◌, ℕ, ℤ, Bool, true, false, IsTrue, pos};
 ghost use Rattle.fixed_word.specs.Format.{InRange, wrap};
 ghost use Rattle.fixed_word.specs.Quotient.{euclidean_quotient, euclidean_remainder, floor_quotient, truncated_quotient};
-ghost use Rattle.fixed_word.specs.inside.WordLaws.{signed_eq, signed_partial_order, unsigned_eq, unsigned_partial_order};
 
 use crate::word::Valued;
 
 /// An integer of n bits, in which words are multiplied and divided.
-pub trait Integer: Valued + Eq + PartialOrd {
+pub trait Integer: Valued {
     ghost SIGNED: { Bool };
 
     /// Returns whether the value is negative.
     fn is_below_zero(self) -> bool
         ensures { IsTrue result ↔ (Self.value self <ℤ pos 0) };
+
+    /// Returns whether the value is less than the other one.
+    fn is_below(self, other: Self) -> bool
+        ensures { IsTrue result ↔ (Self.value self <ℤ Self.value other) };
+
+    /// Returns whether the value is the other one.
+    fn equals(self, other: Self) -> bool
+        ensures { IsTrue result ↔ (Self.value self ≡ Self.value other) };
 
     /// Returns the sum. Precondition: it is in the range.
     fn plus(self, other: Self) -> Self
@@ -62,11 +68,6 @@ pub trait Integer: Valued + Eq + PartialOrd {
     fn euclid_remainder(self, divisor: Self) -> Self
         requires { Self.value divisor ≢ pos 0 }
         ensures { Self.value result ≡ euclidean_remainder (Self.value self) (Self.value divisor) };
-
-    ghost eq_law: { (x y : Self) → IsTrue (Self.eq x y) ↔ (Self.value x ≡ Self.value y) };
-
-    ghost partial_order_law: { (x y : Self) → Self.partial_cmp x y
-        ≡ Some (int_cmp (Self.value x) (Self.value y)) };
 }
 
 impl Integer for u16 {
@@ -75,6 +76,16 @@ impl Integer for u16 {
     #[inline]
     fn is_below_zero(self) -> bool {
         false
+    }
+
+    #[inline]
+    fn is_below(self, other: u16) -> bool {
+        self < other
+    }
+
+    #[inline]
+    fn equals(self, other: u16) -> bool {
+        self == other
     }
 
     #[inline]
@@ -116,10 +127,6 @@ impl Integer for u16 {
     fn euclid_remainder(self, divisor: u16) -> u16 {
         self % divisor
     }
-
-    ghost eq_law = { unsigned_eq };
-
-    ghost partial_order_law = { unsigned_partial_order };
 }
 
 impl Integer for i16 {
@@ -128,6 +135,16 @@ impl Integer for i16 {
     #[inline]
     fn is_below_zero(self) -> bool {
         self < 0
+    }
+
+    #[inline]
+    fn is_below(self, other: i16) -> bool {
+        self < other
+    }
+
+    #[inline]
+    fn equals(self, other: i16) -> bool {
+        self == other
     }
 
     #[inline]
@@ -169,10 +186,6 @@ impl Integer for i16 {
     fn euclid_remainder(self, divisor: i16) -> i16 {
         self.wrapping_rem_euclid(divisor)
     }
-
-    ghost eq_law = { signed_eq };
-
-    ghost partial_order_law = { signed_partial_order };
 }
 
 impl Integer for u32 {
@@ -181,6 +194,16 @@ impl Integer for u32 {
     #[inline]
     fn is_below_zero(self) -> bool {
         false
+    }
+
+    #[inline]
+    fn is_below(self, other: u32) -> bool {
+        self < other
+    }
+
+    #[inline]
+    fn equals(self, other: u32) -> bool {
+        self == other
     }
 
     #[inline]
@@ -222,10 +245,6 @@ impl Integer for u32 {
     fn euclid_remainder(self, divisor: u32) -> u32 {
         self % divisor
     }
-
-    ghost eq_law = { unsigned_eq };
-
-    ghost partial_order_law = { unsigned_partial_order };
 }
 
 impl Integer for i32 {
@@ -234,6 +253,16 @@ impl Integer for i32 {
     #[inline]
     fn is_below_zero(self) -> bool {
         self < 0
+    }
+
+    #[inline]
+    fn is_below(self, other: i32) -> bool {
+        self < other
+    }
+
+    #[inline]
+    fn equals(self, other: i32) -> bool {
+        self == other
     }
 
     #[inline]
@@ -275,10 +304,6 @@ impl Integer for i32 {
     fn euclid_remainder(self, divisor: i32) -> i32 {
         self.wrapping_rem_euclid(divisor)
     }
-
-    ghost eq_law = { signed_eq };
-
-    ghost partial_order_law = { signed_partial_order };
 }
 
 impl Integer for u64 {
@@ -287,6 +312,16 @@ impl Integer for u64 {
     #[inline]
     fn is_below_zero(self) -> bool {
         false
+    }
+
+    #[inline]
+    fn is_below(self, other: u64) -> bool {
+        self < other
+    }
+
+    #[inline]
+    fn equals(self, other: u64) -> bool {
+        self == other
     }
 
     #[inline]
@@ -328,10 +363,6 @@ impl Integer for u64 {
     fn euclid_remainder(self, divisor: u64) -> u64 {
         self % divisor
     }
-
-    ghost eq_law = { unsigned_eq };
-
-    ghost partial_order_law = { unsigned_partial_order };
 }
 
 impl Integer for i64 {
@@ -340,6 +371,16 @@ impl Integer for i64 {
     #[inline]
     fn is_below_zero(self) -> bool {
         self < 0
+    }
+
+    #[inline]
+    fn is_below(self, other: i64) -> bool {
+        self < other
+    }
+
+    #[inline]
+    fn equals(self, other: i64) -> bool {
+        self == other
     }
 
     #[inline]
@@ -381,10 +422,6 @@ impl Integer for i64 {
     fn euclid_remainder(self, divisor: i64) -> i64 {
         self.wrapping_rem_euclid(divisor)
     }
-
-    ghost eq_law = { signed_eq };
-
-    ghost partial_order_law = { signed_partial_order };
 }
 
 impl Valued for u128 {
@@ -401,6 +438,16 @@ impl Integer for u128 {
     #[inline]
     fn is_below_zero(self) -> bool {
         false
+    }
+
+    #[inline]
+    fn is_below(self, other: u128) -> bool {
+        self < other
+    }
+
+    #[inline]
+    fn equals(self, other: u128) -> bool {
+        self == other
     }
 
     #[inline]
@@ -442,10 +489,6 @@ impl Integer for u128 {
     fn euclid_remainder(self, divisor: u128) -> u128 {
         self % divisor
     }
-
-    ghost eq_law = { unsigned_eq };
-
-    ghost partial_order_law = { unsigned_partial_order };
 }
 
 impl Valued for i128 {
@@ -462,6 +505,16 @@ impl Integer for i128 {
     #[inline]
     fn is_below_zero(self) -> bool {
         self < 0
+    }
+
+    #[inline]
+    fn is_below(self, other: i128) -> bool {
+        self < other
+    }
+
+    #[inline]
+    fn equals(self, other: i128) -> bool {
+        self == other
     }
 
     #[inline]
@@ -503,8 +556,4 @@ impl Integer for i128 {
     fn euclid_remainder(self, divisor: i128) -> i128 {
         self.wrapping_rem_euclid(divisor)
     }
-
-    ghost eq_law = { signed_eq };
-
-    ghost partial_order_law = { signed_partial_order };
 }
