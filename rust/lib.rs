@@ -176,7 +176,9 @@ mod casts;
 mod stopping {
     use crate::word::{Outcome, Word, strict_of};
 
-    pub use crate::num::{Fixed, Held, Number};
+    pub use crate::num::{
+        Fixed, Held, Number, checked_number, overflowing_number, saturating_number, wrapping_number,
+    };
 
     #[track_caller]
     pub fn exact_number<T: Word, const F: u32>(outcome: Outcome<T>) -> Fixed<T, F> {

@@ -5,11 +5,9 @@ ghost use Rattle.fixed_word.specs.Format.{InRange};
 ghost use Rattle.fixed_word.specs.Policies.{checked, overflowing, saturating, wrapping};
 ghost use Rattle.fixed_convert.specs.WholeNumber.{exact_ceil, exact_floor, exact_frac, exact_round, exact_round_ties_even};
 
-use crate::numbers::{
-    checked_number, overflowing_number, saturating_number, strict_number, wrapping_number,
-};
+use crate::numbers::strict_number;
 use fixed_convert::{Castable, ceil_of, floor_of, frac_of, round_of, round_ties_even_of};
-use fixed_num::{Fixed, Number, exact_number};
+use fixed_num::{Fixed, Number, checked_number, exact_number, overflowing_number, saturating_number, wrapping_number};
 
 /// Rounding to whole numbers of the number's own format, by each policy. Precondition of each call: the fraction is
 /// at most the width.

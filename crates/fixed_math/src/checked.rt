@@ -6,9 +6,9 @@ ghost use Rattle.fixed_elementary.specs.Exp2.{IsExp2Of, exp2_room};
 ghost use Rattle.fixed_elementary.specs.Log2.{IsLog2Of, log2_room};
 ghost use Rattle.fixed_elementary.specs.ElementaryRows.{by_positive, exact_hypot, exact_recip_sqrt};
 
-use crate::numbers::{checked_number, is_above_zero};
+use crate::numbers::is_above_zero;
 use fixed_elementary::{exp2_of, hypot_of, log2_of, recip_sqrt_of};
-use fixed_num::{Fixed, Held, Number};
+use fixed_num::{Fixed, Held, Number, checked_number};
 use fixed_word::{RawWord, Word};
 
 /// The `checked_` calls of elementary functions. If the result does not fit, they return `None`. Results are in units

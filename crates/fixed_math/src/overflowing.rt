@@ -5,9 +5,8 @@ ghost use Rattle.fixed_word.specs.Policies.{overflowing};
 ghost use Rattle.fixed_elementary.specs.Log2.{IsLog2Of, log2_room};
 ghost use Rattle.fixed_elementary.specs.ElementaryRows.{exact_hypot, exact_recip_sqrt};
 
-use crate::numbers::overflowing_number;
 use fixed_elementary::{hypot_of, log2_of, recip_sqrt_of};
-use fixed_num::{Fixed, Held, Number};
+use fixed_num::{Fixed, Held, Number, overflowing_number};
 use fixed_word::{RawWord, Word};
 
 /// The `overflowing_` calls of elementary functions. They return the wrapped result, and whether the result does not

@@ -6,9 +6,8 @@ ghost use Rattle.fixed_elementary.specs.Exp2.{IsExp2Of, exp2_room};
 ghost use Rattle.fixed_elementary.specs.Log2.{IsLog2Of, log2_room};
 ghost use Rattle.fixed_elementary.specs.ElementaryRows.{exact_hypot, exact_recip_sqrt};
 
-use crate::numbers::saturating_number;
 use fixed_elementary::{exp2_of, hypot_of, log2_of, recip_sqrt_of};
-use fixed_num::{Fixed, Held, Number};
+use fixed_num::{Fixed, Held, Number, saturating_number};
 use fixed_word::{RawWord, Word};
 
 /// The `saturating_` calls of elementary functions. If the result does not fit, they return the nearest number that

@@ -5,9 +5,8 @@ ghost use Rattle.fixed_word.specs.Policies.{wrapping};
 ghost use Rattle.fixed_elementary.specs.Log2.{IsLog2Of, log2_room};
 ghost use Rattle.fixed_elementary.specs.ElementaryRows.{exact_hypot, exact_recip_sqrt};
 
-use crate::numbers::wrapping_number;
 use fixed_elementary::{hypot_of, log2_of, recip_sqrt_of};
-use fixed_num::{Fixed, Held, Number};
+use fixed_num::{Fixed, Held, Number, wrapping_number};
 use fixed_word::{RawWord, Word};
 
 /// The `wrapping_` calls of elementary functions. If the result does not fit, they return it wrapped. Results are in

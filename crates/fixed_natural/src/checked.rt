@@ -8,9 +8,9 @@ ghost use Rattle.fixed_natural.specs.Pows.{IsPow};
 
 use crate::exponentials::exp_of;
 use crate::logarithms::{ln_of, log10_of};
-use crate::numbers::{checked_number, is_above_zero};
+use crate::numbers::is_above_zero;
 use crate::powers::pow_of;
-use fixed_num::{Fixed, Held, Number};
+use fixed_num::{Fixed, Held, Number, checked_number};
 use fixed_word::{RawWord, Word};
 
 /// The `checked_` calls of logarithms and powers. If the result does not fit, they return `None`. Operands and results

@@ -1,55 +1,12 @@
-//! The policies on numbers, which the typed calls use.
+//! A test of words, which the typed calls make.
 
-ghost use Rattle.std.specs.Prelude.{◌≡◌, ◌↔◌, ◌<ℤ◌, ℤ, IsTrue, Some, option_map, pos};
-ghost use Rattle.fixed_word.specs.Standing.{StandsFor};
-ghost use Rattle.fixed_word.specs.Policies.{checked, overflowing, saturating, wrapping};
+ghost use Rattle.std.specs.Prelude.{◌↔◌, ◌<ℤ◌, IsTrue, pos};
 
-use fixed_num::Fixed;
-use fixed_word::{Outcome, RawWord, Word, checked_of, overflowing_of, saturating_of, wrapping_of};
+use fixed_word::RawWord;
 
 /// Returns whether the value of a word is above 0.
-pub(crate) fn is_above_zero<T: Word>(word: T) -> bool
+pub(crate) fn is_above_zero<T: RawWord>(word: T) -> bool
     ensures { IsTrue result ↔ (pos 0 <ℤ T.value word) }
 {
     !word.is_below_zero() && word.magnitude() > 0
-}
-
-/// Returns the number, or `None` if it does not fit.
-pub(crate) fn checked_number<T: Word, const F: u32>(outcome: Outcome<T>) -> Option<Fixed<T, F>>
-    ensures { (x : ℤ) → StandsFor T.value T.SIGNED T.BITS x outcome
-        → option_map (λ r. T.value r.bits) result ≡ checked T.SIGNED T.BITS (Some x) }
-{
-    match checked_of(outcome) {
-        Some(bits) => Some(Fixed { bits }),
-        None => None,
-    }
-}
-
-/// Returns the wrapped number, and whether the number does not fit.
-pub(crate) fn overflowing_number<T: Word, const F: u32>(outcome: Outcome<T>) -> (Fixed<T, F>, bool)
-    ensures { (x : ℤ) → StandsFor T.value T.SIGNED T.BITS x outcome
-        → Some (T.value result.0.bits, result.1) ≡ overflowing T.SIGNED T.BITS (Some x) }
-{
-    let (bits, overflows) = overflowing_of(outcome);
-    (Fixed { bits }, overflows)
-}
-
-/// Returns the wrapped number.
-pub(crate) fn wrapping_number<T: Word, const F: u32>(outcome: Outcome<T>) -> Fixed<T, F>
-    ensures { (x : ℤ) → StandsFor T.value T.SIGNED T.BITS x outcome
-        → Some (T.value result.bits) ≡ wrapping T.SIGNED T.BITS (Some x) }
-{
-    Fixed {
-        bits: wrapping_of(outcome),
-    }
-}
-
-/// Returns the nearest number that fits.
-pub(crate) fn saturating_number<T: Word, const F: u32>(outcome: Outcome<T>) -> Fixed<T, F>
-    ensures { (x : ℤ) → StandsFor T.value T.SIGNED T.BITS x outcome
-        → Some (T.value result.bits) ≡ saturating T.SIGNED T.BITS (Some x) }
-{
-    Fixed {
-        bits: saturating_of(outcome),
-    }
 }

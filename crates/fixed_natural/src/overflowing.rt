@@ -5,8 +5,7 @@ ghost use Rattle.fixed_word.specs.Policies.{overflowing};
 ghost use Rattle.fixed_natural.specs.Logs.{IsLn, IsLog10, log_room};
 
 use crate::logarithms::{ln_of, log10_of};
-use crate::numbers::overflowing_number;
-use fixed_num::{Fixed, Held, Number};
+use fixed_num::{Fixed, Held, Number, overflowing_number};
 use fixed_word::{RawWord, Word};
 
 /// The `overflowing_` calls of logarithms. They return the wrapped result, and whether the result does not fit. `exp`

@@ -8,9 +8,8 @@ ghost use Rattle.fixed_natural.specs.Pows.{IsPow};
 
 use crate::exponentials::exp_of;
 use crate::logarithms::{ln_of, log10_of};
-use crate::numbers::saturating_number;
 use crate::powers::pow_of;
-use fixed_num::{Fixed, Held, Number};
+use fixed_num::{Fixed, Held, Number, saturating_number};
 use fixed_word::{RawWord, Word};
 
 /// The `saturating_` calls of logarithms and powers. If the result does not fit, they return the nearest number that

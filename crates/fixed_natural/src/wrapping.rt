@@ -5,8 +5,7 @@ ghost use Rattle.fixed_word.specs.Policies.{wrapping};
 ghost use Rattle.fixed_natural.specs.Logs.{IsLn, IsLog10, log_room};
 
 use crate::logarithms::{ln_of, log10_of};
-use crate::numbers::wrapping_number;
-use fixed_num::{Fixed, Held, Number};
+use fixed_num::{Fixed, Held, Number, wrapping_number};
 use fixed_word::{RawWord, Word};
 
 /// The `wrapping_` calls of logarithms. If the result does not fit, they return it wrapped. `exp` and `pow` have no

@@ -27,4 +27,6 @@ pub use format::{
     Held, Number,
 };
 pub use from_decimal::FromDecimal;
-pub use from_outcome::exact_number;
+pub use from_outcome::{
+    checked_number, exact_number, overflowing_number, saturating_number, wrapping_number,
+};

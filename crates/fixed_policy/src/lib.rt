@@ -10,7 +10,6 @@ mod checked;
 mod checked_products;
 mod checked_rounded;
 pub mod laws;
-mod numbers;
 mod overflowing;
 mod overflowing_products;
 mod overflowing_rounded;

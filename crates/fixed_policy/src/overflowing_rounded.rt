@@ -5,9 +5,8 @@ ghost use Rattle.fixed_word.specs.Policies.{overflowing};
 ghost use Rattle.fixed_kernel.specs.Rounded.{rounded};
 ghost use Rattle.fixed_kernel.specs.RoundedRows.{rounded_div, rounded_mul, rounded_recip};
 
-use crate::numbers::overflowing_number;
 use fixed_kernel::{div_int_round_of, div_round_of, mul_round_of, recip_round_of};
-use fixed_num::{Fixed, Held, Number};
+use fixed_num::{Fixed, Held, Number, overflowing_number};
 use fixed_word::{RawWord, Rounding, Word};
 
 /// The `overflowing_` calls that round as the caller names. They return the wrapped result, and whether the exact

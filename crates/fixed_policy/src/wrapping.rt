@@ -7,13 +7,12 @@ ghost use Rattle.fixed_word.specs.Quotient.{euclidean_remainder, floor_quotient,
 ghost use Rattle.fixed_kernel.specs.Root.{root_of};
 ghost use Rattle.fixed_kernel.specs.Rows.{exact_abs, exact_div, exact_div_euclid, exact_mul, exact_next_multiple_of, exact_next_power_of_two, exact_recip, exact_signum, units};
 
-use crate::numbers::wrapping_number;
 use fixed_kernel::{
     abs_of, add_of, dist_of, div_euclid_int_of, div_euclid_of, div_int_of, div_of, mixed_add_of,
     mixed_sub_of, mul_int_of, mul_of, neg_of, next_multiple_of_of, next_power_of_two_of, recip_of,
     rem_euclid_int_of, signum_of, sqrt_of, sub_of,
 };
-use fixed_num::{Fixed, Held, Number};
+use fixed_num::{Fixed, Held, Number, wrapping_number};
 use fixed_word::{RawWord, SignedWord, UnsignedWord, Word};
 
 /// The `wrapping_` forms of all numbers. If the exact result does not fit, they return the number that fits and

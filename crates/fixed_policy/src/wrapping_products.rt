@@ -5,9 +5,8 @@ ghost use Rattle.fixed_word.specs.Policies.{wrapping};
 ghost use Rattle.fixed_kernel.specs.Rows.{exact_add_prod, exact_mul_add};
 ghost use Rattle.fixed_kernel.specs.RoundedRows.{rounded_add_prod, rounded_mul_add};
 
-use crate::numbers::wrapping_number;
 use fixed_kernel::{add_prod_of, add_prod_round_of, mul_add_of, mul_add_round_of};
-use fixed_num::{Fixed, Held, Number};
+use fixed_num::{Fixed, Held, Number, wrapping_number};
 use fixed_word::{RawWord, Rounding, Word};
 
 /// Multiply-add by a factor with G fraction bits. Precondition of each call: G is at most the width.

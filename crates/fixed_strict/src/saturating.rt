@@ -6,13 +6,13 @@ ghost use Rattle.fixed_word.specs.Quotient.{euclidean_remainder, truncated_quoti
 ghost use Rattle.fixed_kernel.specs.Root.{root_of};
 ghost use Rattle.fixed_kernel.specs.Rows.{exact_abs, exact_div, exact_div_euclid, exact_mul, exact_next_multiple_of, exact_recip, exact_signum, units};
 
-use crate::numbers::{clamped_number, held_number, saturating_number};
+use crate::numbers::{clamped_number, held_number};
 use fixed_kernel::{
     abs_of, add_of, dist_of, div_euclid_int_of, div_euclid_of, div_int_of, div_of, mixed_add_of,
     mixed_sub_of, mul_int_of, mul_of, neg_of, next_multiple_of_of, recip_of, rem_euclid_int_of,
     signum_of, sqrt_of, sub_of,
 };
-use fixed_num::{Fixed, Held, Number};
+use fixed_num::{Fixed, Held, Number, saturating_number};
 use fixed_word::{RawWord, SignedWord, UnsignedWord, Word};
 
 /// The `saturating_` forms of all numbers. If the exact result does not fit, they return the nearest number that

@@ -5,9 +5,8 @@ ghost use Rattle.fixed_word.specs.Policies.{saturating};
 ghost use Rattle.fixed_kernel.specs.Rounded.{rounded};
 ghost use Rattle.fixed_kernel.specs.RoundedRows.{rounded_div, rounded_mul, rounded_recip};
 
-use crate::numbers::saturating_number;
 use fixed_kernel::{div_int_round_of, div_round_of, mul_round_of, recip_round_of};
-use fixed_num::{Fixed, Held, Number};
+use fixed_num::{Fixed, Held, Number, saturating_number};
 use fixed_word::{RawWord, Rounding, Word};
 
 /// The `saturating_` calls that round as the caller names. If the exact result does not fit, they return the nearest

@@ -5,10 +5,10 @@ ghost use Rattle.fixed_word.specs.Policies.{checked};
 ghost use Rattle.fixed_turns.specs.Angles.{IsAngleOf, turn_room};
 ghost use Rattle.fixed_turns.specs.Sines.{IsCosine, IsSine, both, sine_room};
 
-use crate::numbers::{both_numbers, checked_number, is_origin};
+use crate::numbers::{both_numbers, is_origin};
 use crate::points::atan2_turns_of;
 use crate::sines::{cos_turns_of, sin_cos_turns_of, sin_turns_of};
-use fixed_num::{Fixed, Held, Number};
+use fixed_num::{Fixed, Held, Number, checked_number};
 use fixed_word::{RawWord, Word};
 
 /// The `checked_` calls of sines, cosines and angles of points. If a result does not fit, they return `None`. Operands

@@ -5,10 +5,9 @@ ghost use Rattle.fixed_word.specs.Policies.{overflowing};
 ghost use Rattle.fixed_turns.specs.Angles.{IsAngleOf, turn_room};
 ghost use Rattle.fixed_turns.specs.Sines.{IsCosine, IsSine, sine_room};
 
-use crate::numbers::overflowing_number;
 use crate::points::atan2_turns_of;
 use crate::sines::{cos_turns_of, sin_cos_turns_of, sin_turns_of};
-use fixed_num::{Fixed, Held, Number};
+use fixed_num::{Fixed, Held, Number, overflowing_number};
 use fixed_word::{RawWord, Word};
 
 /// The `overflowing_` calls of sines, cosines and angles of points. They return the wrapped result, and whether the
