@@ -7,7 +7,10 @@ ghost use Rattle.fixed_convert.specs.WholeNumber.{exact_ceil, exact_floor, exact
 
 use crate::numbers::strict_number;
 use fixed_convert::{Castable, ceil_of, floor_of, frac_of, round_of, round_ties_even_of};
-use fixed_num::{Fixed, Number, checked_number, exact_number, overflowing_number, saturating_number, wrapping_number};
+use fixed_num::{
+    Fixed, Number, checked_number, exact_number, overflowing_number, saturating_number,
+    wrapping_number,
+};
 
 /// Rounding to whole numbers of the number's own format, by each policy. Precondition of each call: the fraction is
 /// at most the width.

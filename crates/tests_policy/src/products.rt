@@ -46,22 +46,6 @@ fn fitting_scaled<const G: u32, N: StrictMulAdd<G> + UnwrappedMulAdd<G>>(
     ]
 }
 
-fn scaled_signed(a: i8, mul: i8, add: i8) -> Forms {
-    let (x, y) = (FixedI8::<7> { bits: a }, FixedI8::<4> { bits: mul });
-    scaled(x, y, FixedI8::<7> { bits: add })
-}
-
-/// The forms of 127 by 48 and 127, all with four fraction bits.
-fn scaled_alike() -> Forms {
-    let (x, y) = (FixedI8::<4> { bits: 127 }, FixedI8::<4> { bits: 48 });
-    scaled(x, y, x)
-}
-
-fn scaled_unsigned(a: u8, mul: u8, add: u8) -> Forms {
-    let (x, y) = (FixedU8::<4> { bits: a }, FixedU8::<8> { bits: mul });
-    scaled(x, y, FixedU8::<4> { bits: add })
-}
-
 #[test]
 fn multiply_adds(rt: HostRuntime) {
     for (a, mul, add, left, nearest) in [
@@ -69,15 +53,13 @@ fn multiply_adds(rt: HostRuntime) {
         (-3, 5, 0, -1, -1),
         (-128, 48, -1, 127, -128),
     ] {
+        let (x, y) = (FixedI8::<7> { bits: a }, FixedI8::<4> { bits: mul });
+        let found = scaled(x, y, FixedI8::<7> { bits: add });
         let operands = [a as i128, mul as i128, add as i128];
-        stands(
-            &rt,
-            operands,
-            scaled_signed(a, mul, add),
-            forms(left, nearest),
-        );
+        stands(&rt, operands, found, forms(left, nearest));
     }
-    stands(&rt, [127, 48, 127], scaled_alike(), forms(-4, 127));
+    let (x, y) = (FixedI8::<4> { bits: 127 }, FixedI8::<4> { bits: 48 });
+    stands(&rt, [127, 48, 127], scaled(x, y, x), forms(-4, 127));
     for (a, mul, add, left, nearest) in [
         (255_u8, 255_u8, 1_u8, 255, 255),
         (255, 255, 2, 0, 255),
@@ -85,13 +67,10 @@ fn multiply_adds(rt: HostRuntime) {
         (0, 255, 2, 2, 2),
         (1, 255, 0, 0, 0),
     ] {
+        let (x, y) = (FixedU8::<4> { bits: a }, FixedU8::<8> { bits: mul });
+        let found = scaled(x, y, FixedU8::<4> { bits: add });
         let operands = [a as i128, mul as i128, add as i128];
-        stands(
-            &rt,
-            operands,
-            scaled_unsigned(a, mul, add),
-            forms(left, nearest),
-        );
+        stands(&rt, operands, found, forms(left, nearest));
     }
 }
 
@@ -103,9 +82,11 @@ fn multiply_adds_that_fit(rt: HostRuntime) {
     let of_half = fitting_scaled(FixedI8::<4> { bits: 48 }, half, half);
     let (x, y) = (FixedU8::<4> { bits: 255 }, FixedU8::<8> { bits: 255 });
     let unsigned = fitting_scaled(x, y, FixedU8::<4> { bits: 1 });
-    assert!(rt; signed == [63; 2], "signed: {signed:?}");
-    assert!(rt; of_half == [32; 2], "of a half: {of_half:?}");
-    assert!(rt; unsigned == [255; 2], "unsigned: {unsigned:?}");
+    let found = [signed, of_half, unsigned];
+    assert!(rt;
+        found == [[63; 2], [32; 2], [255; 2]],
+        "signed, of a half, unsigned: {found:?}"
+    );
 }
 
 /// Sums as answers, and as they are stored beside what the call answers: checked, overflowing, wrapping, saturating.
@@ -159,21 +140,7 @@ fn sums(before: i128, left: i128, nearest: i128) -> Sums {
 /// Asserts that the sum before and two factors have these sums; the message names them.
 fn sums_stand(rt: &impl Abort, operands: [i128; 3], found: Sums, left: i128, nearest: i128) {
     let [before, _, _] = operands;
-    let (answers, stored) = found;
-    let (wanted_answers, wanted_stored) = sums(before, left, nearest);
-    stands(rt, operands, answers, wanted_answers);
-    assert!(rt; stored == wanted_stored, "{operands:?}, stored");
-}
-
-fn raised_signed(c: i8, a: i8, b: i8) -> Sums {
-    let (x, y) = (FixedI8::<4> { bits: a }, FixedI8::<4> { bits: b });
-    raised(FixedI8::<4> { bits: c }, x, y)
-}
-
-/// The sums of -3 with 2 and -4, which have no fraction bits.
-fn raised_by_whole_factors() -> Sums {
-    let (x, y) = (FixedI8::<0> { bits: 2 }, FixedI8::<0> { bits: -4 });
-    raised(FixedI8::<4> { bits: -3 }, x, y)
+    assert!(rt; found == sums(before, left, nearest), "{operands:?}");
 }
 
 #[test]
@@ -186,21 +153,13 @@ fn sums_with_products(rt: HostRuntime) {
         (100, 16, 32, -124, 127),
         (-100, 127, -48, 31, -128),
     ] {
-        let operands = [c as i128, a as i128, b as i128];
-        sums_stand(&rt, operands, raised_signed(c, a, b), left, nearest);
+        let (x, y) = (FixedI8::<4> { bits: a }, FixedI8::<4> { bits: b });
+        let found = raised(FixedI8::<4> { bits: c }, x, y);
+        sums_stand(&rt, [c as i128, a as i128, b as i128], found, left, nearest);
     }
-    sums_stand(&rt, [-3, 2, -4], raised_by_whole_factors(), 125, -128);
-}
-
-/// The sums of a number with no integer bits.
-fn raised_fraction(c: u8, a: u8, b: u8) -> Sums {
-    let (x, y) = (FixedU8::<4> { bits: a }, FixedU8::<0> { bits: b });
-    raised(FixedU8::<8> { bits: c }, x, y)
-}
-
-fn raised_unsigned(c: u8, a: u8, b: u8) -> Sums {
-    let (x, y) = (FixedU8::<8> { bits: a }, FixedU8::<4> { bits: b });
-    raised(FixedU8::<4> { bits: c }, x, y)
+    let (x, y) = (FixedI8::<0> { bits: 2 }, FixedI8::<0> { bits: -4 });
+    let found = raised(FixedI8::<4> { bits: -3 }, x, y);
+    sums_stand(&rt, [-3, 2, -4], found, 125, -128);
 }
 
 #[test]
@@ -210,8 +169,9 @@ fn unsigned_sums_with_products(rt: HostRuntime) {
         (16, 5, 3, 0, 255),
         (250, 3, 7, 74, 255),
     ] {
-        let operands = [c as i128, a as i128, b as i128];
-        sums_stand(&rt, operands, raised_fraction(c, a, b), left, nearest);
+        let (x, y) = (FixedU8::<4> { bits: a }, FixedU8::<0> { bits: b });
+        let found = raised(FixedU8::<8> { bits: c }, x, y);
+        sums_stand(&rt, [c as i128, a as i128, b as i128], found, left, nearest);
     }
     for (c, a, b, left, nearest) in [
         (0_u8, 255_u8, 255_u8, 254, 254),
@@ -221,8 +181,9 @@ fn unsigned_sums_with_products(rt: HostRuntime) {
         (254, 255, 255, 252, 255),
         (252, 128, 7, 255, 255),
     ] {
-        let operands = [c as i128, a as i128, b as i128];
-        sums_stand(&rt, operands, raised_unsigned(c, a, b), left, nearest);
+        let (x, y) = (FixedU8::<8> { bits: a }, FixedU8::<4> { bits: b });
+        let found = raised(FixedU8::<4> { bits: c }, x, y);
+        sums_stand(&rt, [c as i128, a as i128, b as i128], found, left, nearest);
     }
 }
 
@@ -292,35 +253,26 @@ fn dotted<const A: u32, const B: u32, N: CheckedProducts<A, B>>(
     (answer, value(sum))
 }
 
-fn dotted_signed(c: i8, [a0, a1]: [i8; 2], [b0, b1]: [i8; 2]) -> (Option<()>, i128) {
-    let left = [FixedI8::<4> { bits: a0 }, FixedI8::<4> { bits: a1 }];
-    let right = [FixedI8::<4> { bits: b0 }, FixedI8::<4> { bits: b1 }];
-    dotted(FixedI8::<4> { bits: c }, &left, &right)
-}
-
-/// A sum that fits, without a sign.
-fn fitting_dot() -> (Option<()>, i128) {
-    let left = [FixedU8::<8> { bits: 255 }, FixedU8::<8> { bits: 128 }];
-    let right = [FixedU8::<4> { bits: 255 }, FixedU8::<4> { bits: 3 }];
-    dotted(FixedU8::<4> { bits: 0 }, &left, &right)
-}
-
-/// A sum that is kept, since the products do not fit.
-fn kept_dot() -> (Option<()>, i128) {
-    let large = [FixedU8::<4> { bits: 16 }, FixedU8::<4> { bits: 48 }];
-    dotted(FixedU8::<4> { bits: 100 }, &large, &large)
-}
-
 #[test]
 fn sums_with_all_products(rt: HostRuntime) {
-    for (c, a, b, answer, sum) in [
+    for (c, [a0, a1], [b0, b1], answer, sum) in [
         (100_i8, [64_i8, 64], [64_i8, -64], None, 100),
         (0, [3, 3], [1, -1], Some(()), -1),
         (-1, [127, 127], [127, 127], None, -1),
     ] {
-        let (found, left) = dotted_signed(c, a, b);
-        assert!(rt; found == answer && left == sum, "{c}: {left}");
+        let left = [FixedI8::<4> { bits: a0 }, FixedI8::<4> { bits: a1 }];
+        let right = [FixedI8::<4> { bits: b0 }, FixedI8::<4> { bits: b1 }];
+        let found = dotted(FixedI8::<4> { bits: c }, &left, &right);
+        assert!(rt; found == (answer, sum), "{c}");
     }
-    assert!(rt; fitting_dot() == (Some(()), 255), "one that fits");
-    assert!(rt; kept_dot() == (None, 100), "one that is kept");
+    let left = [FixedU8::<8> { bits: 255 }, FixedU8::<8> { bits: 128 }];
+    let right = [FixedU8::<4> { bits: 255 }, FixedU8::<4> { bits: 3 }];
+    let fits = dotted(FixedU8::<4> { bits: 0 }, &left, &right);
+    let large = [FixedU8::<4> { bits: 16 }, FixedU8::<4> { bits: 48 }];
+    let kept = dotted(FixedU8::<4> { bits: 100 }, &large, &large);
+    let wanted = [(Some(()), 255), (None, 100)];
+    assert!(rt;
+        [fits, kept] == wanted,
+        "one that fits, and one that is kept"
+    );
 }

@@ -118,17 +118,8 @@ where
 
 /// Asserts the forms of a number that fits.
 fn fits(rt: &impl Abort, operands: [i8; 3], found: Forms, number: i128) {
-    let [a, b, c] = operands;
-    stands(
-        rt,
-        [a as i128, b as i128, c as i128],
-        found,
-        forms(number, number),
-    );
-}
-
-fn product_of(a: i8, b: i8, rounding: Rounding) -> Forms {
-    product(Number { bits: a }, Number { bits: b }, rounding)
+    let operands = operands.map(|x| x as i128);
+    stands(rt, operands, found, forms(number, number));
 }
 
 #[test]
@@ -140,20 +131,15 @@ fn products(rt: HostRuntime) {
         (-24, 5, [-8, -7, -8]),
     ] {
         for i in 0..3 {
-            let found = product_of(a, b, ROUNDINGS[i]);
+            let found = product(Number { bits: a }, Number { bits: b }, ROUNDINGS[i]);
             fits(&rt, [a, b, i as i8], found, numbers[i]);
         }
     }
-    let past = product_of(127, 127, Rounding::Even);
+    let (most, least) = (Number { bits: 127 }, Number { bits: -128 });
+    let past = product(most, most, Rounding::Even);
     stands(&rt, [127, 127, 2], past, forms(-16, 127));
-    let below = product_of(-128, 127, Rounding::Even);
+    let below = product(least, most, Rounding::Even);
     stands(&rt, [-128, 127, 2], below, forms(8, -128));
-}
-
-fn quotient_of(a: i8, b: i8, rounding: Rounding) -> Forms
-    requires { b ≢ pos 0 }
-{
-    quotient(Number { bits: a }, Number { bits: b }, rounding)
 }
 
 #[test]
@@ -167,21 +153,20 @@ fn quotients(rt: HostRuntime) {
     ] {
         if b != 0 {
             for i in 0..3 {
-                let found = quotient_of(a, b, ROUNDINGS[i]);
+                let found = quotient(Number { bits: a }, Number { bits: b }, ROUNDINGS[i]);
                 fits(&rt, [a, b, i as i8], found, numbers[i]);
             }
         }
     }
-    let past = quotient_of(127, 1, Rounding::Down);
-    stands(&rt, [127, 1, 0], past, forms(-16, 127));
-    let (most, zero) = (Number { bits: 127 }, Number { bits: 0 });
+    let (most, unit) = (Number { bits: 127 }, Number { bits: 1 });
+    stands(
+        &rt,
+        [127, 1, 0],
+        quotient(most, unit, Rounding::Down),
+        forms(-16, 127),
+    );
+    let zero = Number { bits: 0 };
     assert!(rt; most.checked_div_round(zero, Rounding::Even).is_none());
-}
-
-fn reciprocal_of(a: i8, rounding: Rounding) -> Forms
-    requires { a ≢ pos 0 }
-{
-    reciprocal(Number { bits: a }, rounding)
 }
 
 #[test]
@@ -193,21 +178,20 @@ fn reciprocals(rt: HostRuntime) {
     ] {
         if a != 0 {
             for i in 0..3 {
-                let found = reciprocal_of(a, ROUNDINGS[i]);
+                let found = reciprocal(Number { bits: a }, ROUNDINGS[i]);
                 fits(&rt, [a, 0, i as i8], found, numbers[i]);
             }
         }
     }
-    let past = reciprocal_of(1, Rounding::Even);
-    stands(&rt, [1, 0, 2], past, forms(0, 127));
+    let unit = Number { bits: 1 };
+    stands(
+        &rt,
+        [1, 0, 2],
+        reciprocal(unit, Rounding::Even),
+        forms(0, 127),
+    );
     let zero = Number { bits: 0 };
     assert!(rt; zero.checked_recip_round(Rounding::Even).is_none());
-}
-
-fn quotient_by(a: i8, k: i8, rounding: Rounding) -> Forms
-    requires { k ≢ pos 0 }
-{
-    quotient_by_integer(Number { bits: a }, k, rounding)
 }
 
 #[test]
@@ -220,21 +204,15 @@ fn quotients_by_integers(rt: HostRuntime) {
     ] {
         if k != 0 {
             for i in 0..3 {
-                let found = quotient_by(a, k, ROUNDINGS[i]);
+                let found = quotient_by_integer(Number { bits: a }, k, ROUNDINGS[i]);
                 fits(&rt, [a, k, i as i8], found, numbers[i]);
             }
         }
     }
     let least = Number { bits: -128 };
-    let past = quotient_by(-128, -1, Rounding::Even);
+    let past = quotient_by_integer(least, -1, Rounding::Even);
     stands(&rt, [-128, -1, 2], past, forms(-128, 127));
     assert!(rt; least.checked_div_int_round(0, Rounding::Even).is_none());
-}
-
-/// The forms of multiply-add with a factor of two fraction bits.
-fn scaled_by(a: i8, mul: i8, add: i8, rounding: Rounding) -> Forms {
-    let (x, y) = (Number { bits: a }, FixedI8::<2> { bits: mul });
-    scaled(x, y, Number { bits: add }, rounding)
 }
 
 /// The factor has two fraction bits.
@@ -246,24 +224,14 @@ fn multiply_adds(rt: HostRuntime) {
         (-5, 2, 1, [-2, -1, -1]),
     ] {
         for i in 0..3 {
-            let found = scaled_by(a, mul, add, ROUNDINGS[i]);
+            let (x, y) = (Number { bits: a }, FixedI8::<2> { bits: mul });
+            let found = scaled(x, y, Number { bits: add }, ROUNDINGS[i]);
             fits(&rt, [a, mul, add], found, numbers[i]);
         }
     }
-    let past = scaled_by(127, 127, 0, Rounding::Even);
+    let (most, factor) = (Number { bits: 127 }, FixedI8::<2> { bits: 127 });
+    let past = scaled(most, factor, Number { bits: 0 }, Rounding::Even);
     stands(&rt, [127, 127, 0], past, forms(-64, 127));
-}
-
-/// The forms of a sum with a product of factors with four and two fraction bits.
-fn raised_by(c: i8, a: i8, b: i8, rounding: Rounding) -> Forms {
-    let (x, y) = (Number { bits: a }, FixedI8::<2> { bits: b });
-    raised(Number { bits: c }, x, y, rounding)
-}
-
-/// The forms of the greatest number without a sign, raised by the product of the greatest.
-fn raised_past_the_end() -> Forms {
-    let (most, factor) = (FixedU8::<4> { bits: 255 }, FixedU8::<8> { bits: 255 });
-    raised(most, most, factor, Rounding::Even)
 }
 
 /// The factors have four and two fraction bits, so that the product moves down by two places.
@@ -275,22 +243,21 @@ fn sums_with_products(rt: HostRuntime) {
         (-1, -5, 2, [-4, -3, -3]),
     ] {
         for i in 0..3 {
-            let found = raised_by(c, a, b, ROUNDINGS[i]);
+            let (x, y) = (Number { bits: a }, FixedI8::<2> { bits: b });
+            let found = raised(Number { bits: c }, x, y, ROUNDINGS[i]);
             fits(&rt, [c, a, b], found, numbers[i]);
         }
     }
-    stands(&rt, [255, 255, 255], raised_past_the_end(), forms(253, 255));
+    let (most, factor) = (FixedU8::<4> { bits: 255 }, FixedU8::<8> { bits: 255 });
+    let past = raised(most, most, factor, Rounding::Even);
+    stands(&rt, [255, 255, 255], past, forms(253, 255));
 }
 
-fn bits_of([a, b, c, d, e, f]: [Number; 6]) -> [i8; 6] {
-    [a.bits, b.bits, c.bits, d.bits, e.bits, f.bits]
-}
-
-/// What fits, by the strict calls: bankers' rounding.
+/// What fits, by the strict and the unwrapped calls: bankers' rounding.
 #[test]
 fn numbers_that_fit(rt: HostRuntime) {
     let (a, b, even) = (Number { bits: 24 }, Number { bits: 5 }, Rounding::Even);
-    let found = [
+    let strict = [
         a.strict_mul_round(b, even),
         a.strict_div_round(Number { bits: 64 }, even),
         a.strict_recip_round(even),
@@ -298,14 +265,7 @@ fn numbers_that_fit(rt: HostRuntime) {
         a.strict_mul_add_round(FixedI8::<2> { bits: 1 }, b, even),
         a.strict_add_prod_round(b, FixedI8::<2> { bits: 2 }, even),
     ];
-    assert!(rt; bits_of(found) == [8, 6, 11, 2, 11, 26], "strict");
-}
-
-/// The same by the unwrapped calls.
-#[test]
-fn numbers_that_fit_unwrapped(rt: HostRuntime) {
-    let (a, b, even) = (Number { bits: 24 }, Number { bits: 5 }, Rounding::Even);
-    let found = [
+    let unwrapped = [
         a.unwrapped_mul_round(b, even),
         a.unwrapped_div_round(Number { bits: 64 }, even),
         a.unwrapped_recip_round(even),
@@ -313,5 +273,6 @@ fn numbers_that_fit_unwrapped(rt: HostRuntime) {
         a.unwrapped_mul_add_round(FixedI8::<2> { bits: 1 }, b, even),
         a.unwrapped_add_prod_round(b, FixedI8::<2> { bits: 2 }, even),
     ];
-    assert!(rt; bits_of(found) == [8, 6, 11, 2, 11, 26], "unwrapped");
+    assert!(rt; strict.map(|x| x.bits) == [8, 6, 11, 2, 11, 26]);
+    assert!(rt; unwrapped.map(|x| x.bits) == [8, 6, 11, 2, 11, 26]);
 }

@@ -52,10 +52,13 @@ where
     );
 }
 
-/// The row of numbers with four fraction bits.
-fn i8_of_4(rt: &impl Abort, op: Op, [a, b]: [i8; 2], left: i8, side: Side) {
-    let (x, y) = (FixedI8::<4> { bits: a }, Fixed { bits: b });
-    stands(rt, op, x, y, Fixed { bits: left }, side);
+/// Asserts that the operation is undefined: there is no answer.
+fn is_undefined<N>(rt: &impl Abort, op: Op, a: N, b: N)
+where
+    N: Checked + Overflowing + Wrapping + Saturating + Strict + Unwrapped + PartialEq,
+    requires { N.FRACTION ≤ N.BITS }
+{
+    assert!(rt; answers(op, a, b) == (None, None, None), "{op:?}");
 }
 
 #[test]
@@ -96,14 +99,9 @@ fn signed_bytes(rt: HostRuntime) {
         (Op::RemEuclidInt, -120, 20, -56, Above),
         (Op::RemEuclidInt, -23, 1, 9, Fits),
     ] {
-        i8_of_4(&rt, op, [a, b], left, side);
+        let (x, y) = (FixedI8::<4> { bits: a }, Fixed { bits: b });
+        stands(&rt, op, x, y, Fixed { bits: left }, side);
     }
-}
-
-/// The row of numbers with seven fraction bits.
-fn i8_of_7(rt: &impl Abort, op: Op, [a, b]: [i8; 2], left: i8, side: Side) {
-    let (x, y) = (FixedI8::<7> { bits: a }, Fixed { bits: b });
-    stands(rt, op, x, y, Fixed { bits: left }, side);
 }
 
 #[test]
@@ -112,14 +110,9 @@ fn one_integer_bit(rt: HostRuntime) {
         (Op::Recip, 32_i8, 0, 0, Above),
         (Op::Recip, -32, 0, 0, Below),
     ] {
-        i8_of_7(&rt, op, [a, b], left, side);
+        let (x, y) = (FixedI8::<7> { bits: a }, Fixed { bits: b });
+        stands(&rt, op, x, y, Fixed { bits: left }, side);
     }
-}
-
-/// The row of numbers with eight fraction bits.
-fn i8_of_8(rt: &impl Abort, op: Op, [a, b]: [i8; 2], left: i8, side: Side) {
-    let (x, y) = (FixedI8::<8> { bits: a }, Fixed { bits: b });
-    stands(rt, op, x, y, Fixed { bits: left }, side);
 }
 
 #[test]
@@ -130,14 +123,9 @@ fn no_integer_bits(rt: HostRuntime) {
         (Op::DivEuclid, 64, 100, 0, Fits),
         (Op::DivEuclidInt, -64, 2, 0, Below),
     ] {
-        i8_of_8(&rt, op, [a, b], left, side);
+        let (x, y) = (FixedI8::<8> { bits: a }, Fixed { bits: b });
+        stands(&rt, op, x, y, Fixed { bits: left }, side);
     }
-}
-
-/// The row of numbers with four fraction bits.
-fn u8_of_4(rt: &impl Abort, op: Op, [a, b]: [u8; 2], left: u8, side: Side) {
-    let (x, y) = (FixedU8::<4> { bits: a }, Fixed { bits: b });
-    stands(rt, op, x, y, Fixed { bits: left }, side);
 }
 
 #[test]
@@ -159,40 +147,25 @@ fn unsigned_bytes(rt: HostRuntime) {
         (Op::Rem, 250, 20, 10, Fits),
         (Op::RemInt, 250, 3, 10, Fits),
     ] {
-        u8_of_4(&rt, op, [a, b], left, side);
+        let (x, y) = (FixedU8::<4> { bits: a }, Fixed { bits: b });
+        stands(&rt, op, x, y, Fixed { bits: left }, side);
     }
-}
-
-/// The row of numbers with eight fraction bits.
-fn u8_of_8(rt: &impl Abort, op: Op, [a, b]: [u8; 2], left: u8, side: Side) {
-    let (x, y) = (FixedU8::<8> { bits: a }, Fixed { bits: b });
-    stands(rt, op, x, y, Fixed { bits: left }, side);
 }
 
 #[test]
 fn unsigned_fractions(rt: HostRuntime) {
     for (op, a, b, left, side) in [(Op::Sqrt, 255_u8, 0, 255, Fits)] {
-        u8_of_8(&rt, op, [a, b], left, side);
+        let (x, y) = (FixedU8::<8> { bits: a }, Fixed { bits: b });
+        stands(&rt, op, x, y, Fixed { bits: left }, side);
     }
-}
-
-/// The row of numbers with 16 fraction bits.
-fn i32_of_16(rt: &impl Abort, op: Op, [a, b]: [i32; 2], left: i32, side: Side) {
-    let (x, y) = (FixedI32::<16> { bits: a }, Fixed { bits: b });
-    stands(rt, op, x, y, Fixed { bits: left }, side);
 }
 
 #[test]
 fn thirty_two_bits(rt: HostRuntime) {
     for (op, a, b, left, side) in [(Op::RemInt, i32::MIN, -1, 0, Fits)] {
-        i32_of_16(&rt, op, [a, b], left, side);
+        let (x, y) = (FixedI32::<16> { bits: a }, Fixed { bits: b });
+        stands(&rt, op, x, y, Fixed { bits: left }, side);
     }
-}
-
-/// The row of numbers with 31 fraction bits.
-fn i32_of_31(rt: &impl Abort, op: Op, [a, b]: [i32; 2], left: i32, side: Side) {
-    let (x, y) = (FixedI32::<31> { bits: a }, Fixed { bits: b });
-    stands(rt, op, x, y, Fixed { bits: left }, side);
 }
 
 #[test]
@@ -201,14 +174,9 @@ fn thirty_two_bits_one_integer_bit(rt: HostRuntime) {
         (Op::RemEuclidInt, -1073741824_i32, 3, 1073741824, Above),
         (Op::RemEuclidInt, -536870912, 3, 1610612736, Above),
     ] {
-        i32_of_31(&rt, op, [a, b], left, side);
+        let (x, y) = (FixedI32::<31> { bits: a }, Fixed { bits: b });
+        stands(&rt, op, x, y, Fixed { bits: left }, side);
     }
-}
-
-/// The row of numbers with 32 fraction bits.
-fn i32_of_32(rt: &impl Abort, op: Op, [a, b]: [i32; 2], left: i32, side: Side) {
-    let (x, y) = (FixedI32::<32> { bits: a }, Fixed { bits: b });
-    stands(rt, op, x, y, Fixed { bits: left }, side);
 }
 
 #[test]
@@ -219,13 +187,9 @@ fn thirty_two_fraction_bits(rt: HostRuntime) {
         (Op::Div, -2147483647, i32::MIN, -2, Above),
         (Op::RemEuclidInt, -1610612736, 1, -1610612736, Above),
     ] {
-        i32_of_32(&rt, op, [a, b], left, side);
+        let (x, y) = (FixedI32::<32> { bits: a }, Fixed { bits: b });
+        stands(&rt, op, x, y, Fixed { bits: left }, side);
     }
-}
-
-/// Whether the operation is undefined: no policy has an answer.
-fn is_undefined(op: Op, a: i8, b: i8) -> bool {
-    answers(op, FixedI8::<4> { bits: a }, Fixed { bits: b }) == (None, None, None)
 }
 
 #[test]
@@ -243,6 +207,6 @@ fn undefined(rt: HostRuntime) {
         (Op::RemEuclidInt, 1, 0),
         (Op::RemInt, 5, 0),
     ] {
-        assert!(rt; is_undefined(op, a, b), "{op:?} of {a} and {b}");
+        is_undefined(&rt, op, FixedI8::<4> { bits: a }, Fixed { bits: b });
     }
 }

@@ -4,7 +4,7 @@ ghost use Rattle.std.specs.Prelude.{◌<◌, ◌≤◌, ◌+ℤ◌, ◌-ℤ◌};
 ghost use Rattle.fixed_word.specs.Format.{InRange};
 ghost use Rattle.fixed_kernel.specs.Rows.{exact_abs, exact_next_power_of_two, exact_signum};
 
-use super::plain::{Forms, all_fit, all_stand, forms, forms_of, shown, stands, value};
+use super::plain::{Forms, all_fit, all_stand, forms, forms_of, shown, value};
 use fixed_num::{FixedI8, FixedU8};
 use fixed_policy::{
     Checked, CheckedSigned, CheckedUnsigned, Overflowing, OverflowingSigned, OverflowingUnsigned,
@@ -106,10 +106,6 @@ where
     [sum, difference]
 }
 
-fn unsigned_sums_of(a: i8, b: u8) -> [Forms; 2] {
-    unsigned_sums(FixedI8::<4> { bits: a }, FixedU8::<4> { bits: b })
-}
-
 #[test]
 fn sums_of_a_signed_and_an_unsigned_number(rt: HostRuntime) {
     for (a, b, sum, difference) in [
@@ -121,13 +117,12 @@ fn sums_of_a_signed_and_an_unsigned_number(rt: HostRuntime) {
         (0, 127, (true, 127), (true, -127)),
         (-100, 100, (true, 0), (false, 56)),
     ] {
-        let [found_sum, found_difference] = unsigned_sums_of(a, b);
+        let found = unsigned_sums(FixedI8::<4> { bits: a }, FixedU8::<4> { bits: b });
         let greatest = if sum.0 { sum.1 } else { 127 };
         let least = if difference.0 { difference.1 } else { -128 };
-        let operands = [a as i128, b as i128, 0];
-        stands(&rt, operands, found_sum, forms_of(sum.0, sum.1, greatest));
-        let wanted = forms_of(difference.0, difference.1, least);
-        stands(&rt, operands, found_difference, wanted);
+        let sum = forms_of(sum.0, sum.1, greatest);
+        let difference = forms_of(difference.0, difference.1, least);
+        assert!(rt; found == [sum, difference], "{a} and {b}");
     }
 }
 
@@ -151,10 +146,6 @@ where
     [sum, difference]
 }
 
-fn signed_sums_of(a: u8, b: i8) -> [Forms; 2] {
-    signed_sums(FixedU8::<4> { bits: a }, FixedI8::<4> { bits: b })
-}
-
 #[test]
 fn sums_of_an_unsigned_and_a_signed_number(rt: HostRuntime) {
     for (a, b, sum, difference) in [
@@ -166,15 +157,10 @@ fn sums_of_an_unsigned_and_a_signed_number(rt: HostRuntime) {
         (128, 127, (255, 255), (1, 1)),
         (32, -48, (240, 0), (80, 80)),
     ] {
-        let [found_sum, found_difference] = signed_sums_of(a, b);
-        let operands = [a as i128, b as i128, 0];
-        stands(&rt, operands, found_sum, forms(sum.0, sum.1));
-        stands(
-            &rt,
-            operands,
-            found_difference,
-            forms(difference.0, difference.1),
-        );
+        let found = signed_sums(FixedU8::<4> { bits: a }, FixedI8::<4> { bits: b });
+        let sum = forms(sum.0, sum.1);
+        let difference = forms(difference.0, difference.1);
+        assert!(rt; found == [sum, difference], "{a} and {b}");
     }
 }
 
@@ -238,23 +224,16 @@ fn fitting_powers<N: StrictUnsigned + UnwrappedUnsigned>(a: N) -> [i128; 2]
     ]
 }
 
-fn powers_of(bits: u8) -> (Option<i128>, i128) {
-    powers(FixedU8::<4> { bits })
-}
-
 #[test]
 #[tactic(auto, unfolding(fixed_kernel::specs::Rows::power_over))]
 fn powers_of_two(rt: HostRuntime) {
     for (bits, checked, left) in [(0_u8, Some(1), 1), (17, Some(32), 32), (200, None, 0)] {
-        let (found, wrapped) = powers_of(bits);
-        assert!(rt;
-            found == checked && wrapped == left,
-            "{bits}: {found:?}, {wrapped}"
-        );
+        let found = powers(FixedU8::<4> { bits });
+        assert!(rt; found == (checked, left), "{bits}");
     }
     let above = fitting_powers(FixedU8::<4> { bits: 17 });
     let least = fitting_powers(FixedU8::<4> { bits: 0 });
-    assert!(rt; above == [32; 2] && least == [1; 2], "17 and 0");
+    assert!(rt; [above, least] == [[32; 2], [1; 2]], "17 and 0");
 }
 
 /// The shifts up and down, checked, overflowing and wrapping; none is saturating, and the wrapping one stands there.
@@ -278,10 +257,6 @@ fn fitting_shifts<N: Strict + Unwrapped>(a: N, by: u32) -> [i128; 4]
     ]
 }
 
-fn shifts_of(bits: i8, by: u32) -> [Forms; 2] {
-    shifts(FixedI8::<4> { bits }, by)
-}
-
 #[test]
 fn shifted(rt: HostRuntime) {
     for (bits, by, fits, up, down) in [
@@ -292,10 +267,9 @@ fn shifted(rt: HostRuntime) {
         (-3, 8, false, -3, -3),
         (-3, 9, false, -6, -2),
     ] {
-        let [found_up, found_down] = shifts_of(bits, by);
-        let operands = [bits as i128, by as i128, 0];
-        stands(&rt, operands, found_up, forms_of(fits, up, up));
-        stands(&rt, operands, found_down, forms_of(fits, down, down));
+        let found = shifts(FixedI8::<4> { bits }, by);
+        let wanted = [forms_of(fits, up, up), forms_of(fits, down, down)];
+        assert!(rt; found == wanted, "{bits} by {by}");
     }
     let above = fitting_shifts(FixedI8::<4> { bits: 48 }, 1);
     let below = fitting_shifts(FixedI8::<4> { bits: -3 }, 1);
