@@ -1,9 +1,9 @@
 -- The ends of a negation and of a magnitude hold what they should, and are narrower where the operand is.
-use Rattle.std.proofs.Common.{◌≡◌, ◌<◌, ◌≤ℤ◌, ◌<ℤ◌, ◌-ℤ◌, ◌*ℤ◌, ℕ, ℤ, pos, negsuc, neg_ℤ, arith, ◌⊎◌, inl, inr}
+use Rattle.std.proofs.Common.{◌≡◌, ◌≤ℤ◌, ◌-ℤ◌, ◌*ℤ◌, ℤ, pos, negsuc, neg_ℤ, arith, ◌⊎◌, inl, inr}
 use Rattle.std.proofs.lemmas.Int.{by_lt_z, clamps, ints}
 use Rattle.fixed_kernel.specs.Rows.{exact_abs}
 use Rattle.fixed_interval.specs.Ends.{Ends, magnitude_of, negation_of}
-use Rattle.fixed_interval.specs.Containment.{HoldsMagnitudes, HoldsNegations, IsInside, IsWithin}
+use Rattle.fixed_interval.specs.Containment.{HoldsMagnitudes, HoldsNegations, IsWithin}
 use Rattle.fixed_interval.proofs.Lines.{neg_times, times_le}
 use Rattle.fixed_interval.proofs.Corners.{inside_order}
 

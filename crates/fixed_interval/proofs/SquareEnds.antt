@@ -3,8 +3,8 @@ use Rattle.std.proofs.Common.{◌≡◌, ◌*◌, ◌^◌, ◌≤◌, ◌≤ℤ�
 use Rattle.std.proofs.lemmas.Int.{clamps, ints}
 use Rattle.std.proofs.lemmas.Nat.{mul-le}
 use Rattle.fixed_kernel.specs.Rows.{exact_abs}
-use Rattle.fixed_interval.specs.Ends.{Ends, ceiling_over, floor_over, magnitude_of, square_of}
-use Rattle.fixed_interval.specs.Containment.{HoldsSquares, IsInside, IsWithin}
+use Rattle.fixed_interval.specs.Ends.{Ends, magnitude_of, square_of}
+use Rattle.fixed_interval.specs.Containment.{HoldsSquares, IsWithin}
 use Rattle.fixed_interval.proofs.ProductEnds.{corner_high, corner_low, some}
 use Rattle.fixed_interval.proofs.Rounded.{ceiling_order, floor_below_ceiling, floor_order}
 use Rattle.fixed_interval.proofs.SignEnds.{abs_from_zero, holds_magnitudes, magnitude_order, magnitude_within}

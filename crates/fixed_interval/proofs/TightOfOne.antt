@@ -1,5 +1,5 @@
 -- Whatever has all negatives, magnitudes or squares of an interval has their ends.
-use Rattle.std.proofs.Common.{◌≡◌, ◌^◌, ◌≤ℤ◌, ◌*ℤ◌, ℕ, ℤ, pos, neg_ℤ, refl, sym, ap, ◌∙◌, arith, subst}
+use Rattle.std.proofs.Common.{◌≡◌, ◌^◌, ◌≤ℤ◌, ◌*ℤ◌, ℕ, ℤ, pos, neg_ℤ, sym, ap, ◌∙◌, arith, subst}
 use Rattle.std.proofs.lemmas.Int.{by_lt_z, clamps, ints}
 use Rattle.std.proofs.lemmas.Option.{same_Some}
 use Rattle.fixed_kernel.specs.Rows.{exact_abs}

@@ -17,14 +17,14 @@ plus-requires g c =
     let small = floored_is s n (2 ^ c.args.frac) _ c.requires.size in
     rw (c.floored-floor.ensures, c.whole.ensures.value) (sum_room s g.T.Whole.Integer.SIGNED n g.T.Whole.Valued.BITS _ _ g.met.T.Arithmetic.whole_sign_law (width_pos n g.met.T.RawWord.width_law) g.met.T.Arithmetic.whole_width_law small c.whole.ensures.in_range)
 
-pub returns-then-eq : goal.returns-then-eq
-returns-then-eq g c =
-    let same = (g.met.T.Whole.Integer.eq_law _ _).0 (sym c.eq.ensures ∙ c.if-eq.true) in
+pub returns-then-equals : goal.returns-then-equals
+returns-then-equals g c =
+    let same = c.equals.ensures.0 c.if-equals.true in
     c.floored-floor.ensures ∙ ceiled_exact _ (2 ^ c.args.frac) (pow_pos c.args.frac) (ap (λ z. z *ℤ pos (2 ^ c.args.frac)) (sym c.floored-floor.ensures) ∙ sym c.scaled.ensures ∙ same)
 
-pub returns-else-eq : goal.returns-else-eq
-returns-else-eq g c =
+pub returns-else-equals : goal.returns-else-equals
+returns-else-equals g c =
     let x = g.T.Whole.Valued.value c.args.product in
     let d = 2 ^ c.args.frac in
-    let other : floor_quotient x d *ℤ pos d ≡ x → ⊥ = λ e. false≢true (sym c.if-eq.false ∙ c.eq.ensures ∙ (g.met.T.Whole.Integer.eq_law _ _).1 (c.scaled.ensures ∙ ap (λ z. z *ℤ pos d) c.floored-floor.ensures ∙ e)) in
+    let other : floor_quotient x d *ℤ pos d ≡ x → ⊥ = λ e. false≢true (sym c.if-equals.false ∙ c.equals.ensures.1 (c.scaled.ensures ∙ ap (λ z. z *ℤ pos d) c.floored-floor.ensures ∙ e)) in
     c.plus.ensures ∙ rw (c.floored-floor.ensures, c.whole.ensures.value, c.ONE.ensures, g.met.T.RawWord.one_law) (ceiled_past x d (pow_pos c.args.frac) other)

@@ -1,5 +1,5 @@
-use Rattle.std.proofs.Common.{◌^◌, ◌*ℤ◌, ℤ, pos, ap, ◌∙◌, sym}
-use Rattle.fixed_interval.specs.Ends.{ceiling_over, ends_of, floor_over, square_of}
+use Rattle.std.proofs.Common.{◌*ℤ◌, ℤ, ap, ◌∙◌, sym}
+use Rattle.fixed_interval.specs.Ends.{ends_of, square_of}
 use Rattle.fixed_interval.specs.Containment.{HoldsSquares}
 use Rattle.fixed_interval.proofs.Fitting.{seen, held_some}
 use Rattle.fixed_interval.proofs.SquareEnds.{abs_square, holds_squares, square_order}
