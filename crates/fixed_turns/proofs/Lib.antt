@@ -1,6 +1,7 @@
 pub mod AngleLaws
 pub mod Coordinates
 pub mod Nesting
+pub mod Pi
 pub mod Quarters
 pub mod Sides
 pub mod Sums

@@ -3,7 +3,8 @@
 ghost use Rattle.std.specs.Prelude.{◌≡◌, ◌≢◌, ◌+◌, ◌*◌, ◌^◌, ◌<◌, ◌+ℤ◌, ◌*ℤ◌, ◌≤ℤ◌, ℕ, ℤ, true, pos, neg_ℤ};
 ghost use Rattle.fixed_word.specs.Format.{InRange};
 ghost use Rattle.fixed_turns.specs.Angles.{IsAngleOf};
-ghost use Rattle.fixed_turns.specs.Sines.{IsCosine, IsSine};
+ghost use Rattle.fixed_turns.specs.Series.{sine_series};
+ghost use Rattle.fixed_turns.specs.Sines.{IsCosine, IsSine, pi, radians};
 
 /// The sines of 0, 1/4, 1/2 and 3/4 are exact. A number that meets the bound for the sine of an angle also meets it a
 /// whole turn further, and its negative meets it for the sine of minus the angle. No sine is above 1 or below -1. On
@@ -35,4 +36,11 @@ pub fn angle_law()
     ensures most { (k f : ℕ) (x y r : ℤ) → IsAngleOf k x y f r → (pos 2 *ℤ r) ≤ℤ pos (2 ^ f) }
     ensures minus { (k f : ℕ) (x y r : ℤ) → y ≢ pos 0 → IsAngleOf k x y f r → IsAngleOf k x (neg_ℤ y) f (neg_ℤ r) }
     ensures fits { (k n f : ℕ) (x y r : ℤ) → f < n → IsAngleOf k x y f r → InRange true n r }
+{}
+
+/// The decimals of pi are those of the angle of half a turn, at which the series of the sine comes to 0: by `pi`, each
+/// sum of more than 25 terms is above 0, and by `pi + 1` none is, where `pi` is a number of units of `10^-39`.
+pub fn pi_law()
+    ensures above_zero { (n : ℕ) → 0 < (sine_series (radians pi 2 0) (n + 25)).num }
+    ensures not_above_zero { (n : ℕ) → (sine_series (radians (pi + 1) 2 0) (n + 25)).num ≡ 0 }
 {}
