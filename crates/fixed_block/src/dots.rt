@@ -7,8 +7,8 @@ ghost use Rattle.fixed_word.specs.Standing.{StandsFor};
 ghost use Rattle.fixed_block.specs.Dots.{SumsFit, exact_dot, partial_sum};
 
 use crate::chunks::short_sum;
-use fixed_convert::Castable;
-use fixed_word::{Integer, Outcome, RawWord, Valued, outcome_of};
+use fixed_convert::{Castable, outcome_of_magnitude};
+use fixed_word::{Integer, Outcome, RawWord, Valued};
 
 /// Returns the sum plus the product of two numbers of 64 bits, or `None` if that does not fit.
 #[inline(always)]
@@ -88,7 +88,7 @@ fn outcome_of_sum<T: Castable>(sum: i128, frac: u32) -> Outcome<T>
     ensures { StandsFor T.value T.SIGNED T.BITS (floor_quotient sum (2 ^ frac)) result }
 {
     let moved = sum.floored(frac);
-    outcome_of(moved < 0, moved.unsigned_abs())
+    outcome_of_magnitude(moved < 0, moved.unsigned_abs())
 }
 
 /// Returns the outcome of the sum of the products of the numbers at the same places, over `2^frac` and rounded down
@@ -113,7 +113,7 @@ pub fn dot_of<T: Castable>(a: &[T], b: &[T], frac: u32) -> Option<Outcome<T>>
         }
     } else {
         match unsigned_sum(a, b) {
-            Some(sum) => Some(outcome_of(false, sum.floored(frac))),
+            Some(sum) => Some(outcome_of_magnitude(false, sum.floored(frac))),
             None => None,
         }
     }

@@ -109,7 +109,7 @@ pub struct Convert {
     pub rounding: Rounding,
 }
 
-impl<T: Castable> Each<T> for Convert {
+impl<T: Castable + Word> Each<T> for Convert {
     ghost exact = { λ s x. rounded_convert x s.from s.to s.rounding };
 
     ghost each_ready = { λ s. (s.from ≤ T.BITS) × (s.to ≤ T.BITS) };
@@ -133,7 +133,7 @@ pub struct Raise {
     pub convert: Convert,
 }
 
-impl<T: Castable> Each<T> for Raise {
+impl<T: Castable + Word> Each<T> for Raise {
     ghost exact = { λ s x. rounded_convert x s.convert.from s.convert.to s.convert.rounding };
 
     ghost each_ready = { λ s. (s.convert.from ≤ s.convert.to) × (s.convert.to ≤ T.BITS) };

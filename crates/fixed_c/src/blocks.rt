@@ -248,7 +248,7 @@ pub(crate) fn mul_add<T: Word>(
 /// `NoPolicy` if no policy has the number `policy`, and with `OutOfRange` if the policy is `Checked` and a result does
 /// not fit.
 #[inline]
-pub(crate) fn convert<T: Castable>(
+pub(crate) fn convert<T: Castable + Word>(
     block: &mut [T],
     from: u32,
     to: u32,

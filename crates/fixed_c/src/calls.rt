@@ -9,7 +9,7 @@ use crate::answer::Code;
 use crate::{conversions, products, quotients, remainders, roots, rounded};
 use fixed_convert::Castable;
 use fixed_kernel::{add_of, dist_of, mul_int_of, neg_of, sub_of};
-use fixed_word::Outcome;
+use fixed_word::{Outcome, Word};
 
 /// A call with its operands: numbers, then numbers of fraction bits, then the number of a rounding. Numbers are bits,
 /// in units of `2^-frac` unless a comment names another unit.
@@ -77,7 +77,7 @@ pub(crate) enum Call<T> {
 
 /// Returns the outcome that stands for the exact result of a call, or the code of why there is none.
 #[inline(always)]
-pub(crate) fn result_of<T: Castable>(call: Call<T>) -> Result<Outcome<T>, Code>
+pub(crate) fn result_of<T: Castable + Word>(call: Call<T>) -> Result<Outcome<T>, Code>
     ensures { IsResultOf T.value T.SIGNED T.BITS (given T.value T.BITS call) result }
 {
     match call {

@@ -14,7 +14,7 @@ use crate::answer::Code;
 use crate::rounded::rounding_of;
 use fixed_convert::{Castable, convert_round_of};
 use fixed_float::{from_float_round_of, to_float_of};
-use fixed_word::{Outcome, Word};
+use fixed_word::{Outcome, RawWord};
 
 /// Returns `number / 2^from` in units of `2^-to`, rounded as named. Fails with `FractionPastWidth` if `from` is greater
 /// than the width of S, or `to` than that of T, and with `NoRounding` if no rounding has the number `rounding`.
@@ -42,7 +42,7 @@ pub(crate) fn convert<S: Castable, T: Castable>(
 /// greater than the width, with `NoRounding` if no rounding has the number `rounding`, and with `NotFinite` if the
 /// double is a NaN or an infinity.
 #[inline]
-pub(crate) fn from_double<T: Word>(
+pub(crate) fn from_double<T: RawWord>(
     number: f64,
     frac: u32,
     rounding: u32,
@@ -66,7 +66,7 @@ pub(crate) fn from_double<T: Word>(
 /// Writes the double nearest to `a / 2^frac`, ties to even, and returns 0. Fails with `FractionPastWidth` if `frac` is
 /// greater than the width.
 #[inline]
-pub(crate) fn to_double<T: Word>(a: T, frac: u32, value: &mut f64) -> i32
+pub(crate) fn to_double<T: Castable>(a: T, frac: u32, value: &mut f64) -> i32
     ensures { ValueAnswers (at_fraction T.BITS frac (Ok (nearest_float binary64 (T.value a) frac)))
         value.old value.new result }
 {

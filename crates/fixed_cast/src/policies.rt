@@ -5,9 +5,8 @@ ghost use Rattle.fixed_word.specs.Policies.{checked, overflowing, saturating, wr
 ghost use Rattle.fixed_word.specs.Standing.{StandsFor};
 
 use crate::numeric::Numeric;
-use fixed_word::{
-    Outcome, Word, checked_of, overflowing_of, saturating_of, strict_of, wrapping_of,
-};
+use fixed_convert::nearest_of;
+use fixed_word::{Outcome, RawWord, Side};
 
 /// Returns the number, or `None` if it does not fit.
 #[inline]
@@ -15,9 +14,9 @@ pub(crate) fn checked_num<N: Numeric>(outcome: Outcome<N::Word>) -> Option<N>
     ensures { (x : ℤ) → StandsFor N.Word.value N.Word.SIGNED N.Word.BITS x outcome
         → option_map N.units result ≡ checked N.Word.SIGNED N.Word.BITS (Some x) }
 {
-    match checked_of(outcome) {
-        Some(word) => Some(N::from_word(word)),
-        None => None,
+    match outcome.side {
+        Side::Fits => Some(N::from_word(outcome.wrapped)),
+        Side::Above | Side::Below => None,
     }
 }
 
@@ -27,8 +26,7 @@ pub(crate) fn overflowing_num<N: Numeric>(outcome: Outcome<N::Word>) -> (N, bool
     ensures { (x : ℤ) → StandsFor N.Word.value N.Word.SIGNED N.Word.BITS x outcome
         → Some (N.units result.0, result.1) ≡ overflowing N.Word.SIGNED N.Word.BITS (Some x) }
 {
-    let (word, overflows) = overflowing_of(outcome);
-    (N::from_word(word), overflows)
+    (N::from_word(outcome.wrapped), outcome.side != Side::Fits)
 }
 
 /// Returns the wrapped number.
@@ -37,7 +35,7 @@ pub(crate) fn wrapping_num<N: Numeric>(outcome: Outcome<N::Word>) -> N
     ensures { (x : ℤ) → StandsFor N.Word.value N.Word.SIGNED N.Word.BITS x outcome
         → Some (N.units result) ≡ wrapping N.Word.SIGNED N.Word.BITS (Some x) }
 {
-    N::from_word(wrapping_of(outcome))
+    N::from_word(outcome.wrapped)
 }
 
 /// Returns the nearest number that fits.
@@ -46,7 +44,7 @@ pub(crate) fn saturating_num<N: Numeric>(outcome: Outcome<N::Word>) -> N
     ensures { (x : ℤ) → StandsFor N.Word.value N.Word.SIGNED N.Word.BITS x outcome
         → Some (N.units result) ≡ saturating N.Word.SIGNED N.Word.BITS (Some x) }
 {
-    N::from_word(saturating_of(outcome))
+    N::from_word(nearest_of(outcome))
 }
 
 /// Returns the number if it fits.
@@ -60,7 +58,7 @@ pub(crate) fn exact_num<N: Numeric>(outcome: Outcome<N::Word>) -> N
 
 /// Returns the word of a number if that fits.
 #[inline]
-fn exact_word<T: Word>(outcome: Outcome<T>) -> T
+fn exact_word<T: RawWord>(outcome: Outcome<T>) -> T
     ensures { (x : ℤ) → StandsFor T.value T.SIGNED T.BITS x outcome
         → IsSome (checked T.SIGNED T.BITS (Some x)) → T.value result ≡ x }
 {
@@ -75,5 +73,5 @@ pub(crate) fn strict_num<N: Numeric>(outcome: Outcome<N::Word>) -> N
     ensures { (x : ℤ) → StandsFor N.Word.value N.Word.SIGNED N.Word.BITS x outcome
         → Some (N.units result) ≡ Some x }
 {
-    N::from_word(strict_of(outcome))
+    N::from_word(outcome.wrapped)
 }

@@ -11,6 +11,7 @@ use fixed_num::{
     Fixed, Number, checked_number, exact_number, overflowing_number, saturating_number,
     wrapping_number,
 };
+use fixed_word::Word;
 
 /// Rounding to whole numbers of the number's own format, by each policy. Precondition of each call: the fraction is
 /// at most the width.
@@ -197,7 +198,7 @@ pub trait ToWhole: Number {
         ensures { Self.number result ≡ exact_round_ties_even (Self.number self) Self.FRACTION };
 }
 
-impl<T: Castable, const F: u32> ToWhole for Fixed<T, F> {
+impl<T: Castable + Word, const F: u32> ToWhole for Fixed<T, F> {
     #[inline]
     fn int(self) -> Self {
         self.wrapping_floor()

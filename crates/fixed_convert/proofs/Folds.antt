@@ -1,5 +1,5 @@
 -- Magnitudes moved up, of which every word keeps the same as of smaller ones.
-use Rattle.std.proofs.Common.{◌≡◌, ◌+◌, ◌-◌, ◌*◌, ◌/◌, ◌%◌, ◌^◌, ◌<◌, ◌≤◌, ℕ, zero, suc, Bool, true, false, pos, neg_ℤ, refl, ap, sym, ◌∙◌, arith, inl, inr}
+use Rattle.std.proofs.Common.{◌≡◌, ◌+◌, ◌-◌, ◌*◌, ◌/◌, ◌%◌, ◌^◌, ◌<◌, ◌≤◌, ℕ, Bool, true, false, pos, neg_ℤ, ap, sym, ◌∙◌, arith, inl, inr}
 use native.Mathlib.Nat.{mul_assoc, mul-pos, mod-eq_of_lt}
 use Rattle.std.proofs.lemmas.Int.{ints}
 use Rattle.std.proofs.lemmas.Nat.{div-add-mod', mul-le, mul-mod_first, pow-add, pow_pos, shl_below}

@@ -3,10 +3,10 @@
 ghost use Rattle.std.specs.Prelude.{◌≡◌};
 ghost use Rattle.fixed_word.specs.Format.{InRange, wrap};
 
-use fixed_word::{RawWord, Valued, Word};
+use fixed_word::{RawWord, Valued};
 
 /// A word that converts to an integer of 128 bits and back.
-pub trait Castable: Word {
+pub trait Castable: RawWord {
     /// Returns the same value as an integer of 128 bits.
     fn to_wide(self) -> i128
         ensures value { result ≡ Self.value self }

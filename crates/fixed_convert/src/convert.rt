@@ -6,8 +6,9 @@ ghost use Rattle.fixed_word.specs.Standing.{StandsFor};
 ghost use Rattle.fixed_convert.specs.Convert.{exact_convert, rounded_convert};
 
 use crate::castable::Castable;
+use crate::fitting::nearest_of;
 use crate::moved::{lowered, lowered_clamped, lowered_round, raised};
-use fixed_word::{Outcome, Rounding, saturating_of};
+use fixed_word::{Outcome, Rounding};
 
 /// Returns `a / 2^from` in units of `2^-to`, rounded down.
 #[inline]
@@ -51,7 +52,7 @@ pub fn saturating_convert_of<S: Castable, T: Castable>(
         ≡ clamp T.SIGNED T.BITS (rounded_convert (S.value a) from to rounding) }
 {
     if from <= to {
-        saturating_of(raised(a, to - from))
+        nearest_of(raised(a, to - from))
     } else {
         lowered_clamped(a, from - to, rounding)
     }

@@ -8,7 +8,8 @@ ghost use Rattle.fixed_kernel.specs.inside.Steps.{rounding_step};
 ghost use Rattle.fixed_convert.specs.Convert.{rounded_convert};
 
 use crate::castable::Castable;
-use fixed_word::{Outcome, RawWord, Rounding, outcome_of};
+use crate::fitting::outcome_of_magnitude;
+use fixed_word::{Outcome, RawWord, Rounding};
 
 /// Returns the product of two words over `2^from` in units of `2^-to`, rounded as named.
 #[inline]
@@ -26,9 +27,9 @@ pub(crate) fn long_product_of<A: Castable, B: Castable, T: Castable>(
     let below_zero = a.is_below_zero() != b.is_below_zero();
     let magnitude = a.magnitude() as u128 * b.magnitude() as u128;
     if from <= to {
-        outcome_of(below_zero, raised_alike(magnitude, to - from))
+        outcome_of_magnitude(below_zero, raised_alike(magnitude, to - from))
     } else {
-        outcome_of(
+        outcome_of_magnitude(
             below_zero,
             lowered(below_zero, magnitude, from - to, rounding),
         )

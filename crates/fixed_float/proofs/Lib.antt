@@ -10,6 +10,5 @@ pub mod Products
 pub mod Ends
 pub mod Beside
 pub mod Sums
-pub mod Signed
 pub mod Centre
 pub mod Quick

@@ -6,7 +6,7 @@ ghost use Rattle.std.specs.Float.Ieee.{hid, low, neg, of_bits, ones, prec, round
 ghost use Rattle.fixed_float.specs.Rows.{nearest_float};
 
 use crate::nearest::{nearest_f32, nearest_f64};
-use fixed_word::Word;
+use fixed_convert::Castable;
 
 /// A float type of IEEE 754: `f32` or `f64`.
 pub trait Binary: Copy {
@@ -57,7 +57,7 @@ pub trait Binary: Copy {
         ensures { float result ≡ round format false whole (2 ^ by) };
 
     /// Returns the float nearest to `a / 2^frac`, ties to even. Precondition: `frac` is at most the width.
-    fn nearest<T: Word>(a: T, frac: u32) -> Self
+    fn nearest<T: Castable>(a: T, frac: u32) -> Self
         requires { frac ≤ T.BITS }
         ensures { float result ≡ nearest_float format (T.value a) frac };
 
@@ -115,7 +115,7 @@ impl Binary for f32 {
     }
 
     #[inline]
-    fn nearest<T: Word>(a: T, frac: u32) -> f32 {
+    fn nearest<T: Castable>(a: T, frac: u32) -> f32 {
         nearest_f32(a, frac)
     }
 
@@ -174,7 +174,7 @@ impl Binary for f64 {
     }
 
     #[inline]
-    fn nearest<T: Word>(a: T, frac: u32) -> f64 {
+    fn nearest<T: Castable>(a: T, frac: u32) -> f64 {
         nearest_f64(a, frac)
     }
 

@@ -10,12 +10,12 @@ use crate::binary::Binary;
 use crate::incoming::magnitude_of_parts;
 use crate::near::whole_near;
 use crate::parts::parts_of;
-use fixed_word::{RawWord, Rounding, Word};
+use fixed_word::{RawWord, Rounding};
 
 /// Returns the float in units of `2^-frac`, rounded as named, or the nearest word if that does not fit. An infinity
 /// returns the end of the range on its side. Precondition: the float is not a NaN.
 #[inline]
-pub fn saturating_float_of<X: Binary, T: Word>(x: X, frac: u32, rounding: Rounding) -> T
+pub fn saturating_float_of<X: Binary, T: RawWord>(x: X, frac: u32, rounding: Rounding) -> T
     requires { NotNan (X.float x) }
     ensures { Some (T.value result)
         ≡ saturated_float T.SIGNED T.BITS (X.float x) frac rounding }
@@ -29,7 +29,7 @@ pub fn saturating_float_of<X: Binary, T: Word>(x: X, frac: u32, rounding: Roundi
 
 /// Does the same for every `f64`, by its bits. Precondition: it is not a NaN.
 #[inline]
-fn far_held<T: Word>(x: f64, frac: u32, rounding: Rounding) -> T
+fn far_held<T: RawWord>(x: f64, frac: u32, rounding: Rounding) -> T
     requires { NotNan x }
     ensures { Some (T.value result) ≡ saturated_float T.SIGNED T.BITS x frac rounding }
 {
@@ -41,7 +41,7 @@ fn far_held<T: Word>(x: f64, frac: u32, rounding: Rounding) -> T
 
 /// Returns the word nearest to the whole number.
 #[inline]
-fn whole_held<T: Word>(whole: i64) -> T
+fn whole_held<T: RawWord>(whole: i64) -> T
     ensures { Some (T.value result) ≡ saturating T.SIGNED T.BITS (Some whole) }
 {
     magnitude_held(whole < 0, whole.unsigned_abs() as u128)
@@ -49,7 +49,7 @@ fn whole_held<T: Word>(whole: i64) -> T
 
 /// Returns the number of the word that is nearest to the magnitude with that sign. A branch on the sign would be slow.
 #[inline]
-fn magnitude_held<T: Word>(below_zero: bool, magnitude: u128) -> T
+fn magnitude_held<T: RawWord>(below_zero: bool, magnitude: u128) -> T
     ensures { T.value result ≡ clamp T.SIGNED T.BITS (with_sign below_zero magnitude) }
 {
     let end: T = end_on(below_zero);
@@ -59,7 +59,7 @@ fn magnitude_held<T: Word>(below_zero: bool, magnitude: u128) -> T
 
 /// Returns the end of the range on the side of an infinity.
 #[inline]
-fn end_beside<T: Word>(x: f64) -> T
+fn end_beside<T: RawWord>(x: f64) -> T
     ensures { (s : Bool) → x ≡ inf s → T.value result
         ≡ (if s then lowest T.SIGNED T.BITS else highest T.SIGNED T.BITS) }
 {
@@ -68,7 +68,7 @@ fn end_beside<T: Word>(x: f64) -> T
 
 /// Returns the lower end of the range if `below_zero`, and otherwise the upper end.
 #[inline]
-fn end_on<T: Word>(below_zero: bool) -> T
+fn end_on<T: RawWord>(below_zero: bool) -> T
     ensures { T.value result
         ≡ (if below_zero then lowest T.SIGNED T.BITS else highest T.SIGNED T.BITS) }
 {

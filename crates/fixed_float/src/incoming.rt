@@ -12,12 +12,13 @@ use crate::binary::Binary;
 use crate::lowered::lowered;
 use crate::near::whole_near;
 use crate::parts::{LEAST, Parts, parts_of};
-use fixed_word::{Outcome, Rounding, Word, outcome_of};
+use fixed_convert::outcome_of_magnitude;
+use fixed_word::{Outcome, RawWord, Rounding};
 
 /// Returns the outcome of the float in units of `2^-frac`, rounded to the nearest, ties to even. Returns `None` for a
 /// NaN and the infinities.
 #[inline]
-pub fn from_float_of<X: Binary, T: Word>(x: X, frac: u32) -> Option<Outcome<T>>
+pub fn from_float_of<X: Binary, T: RawWord>(x: X, frac: u32) -> Option<Outcome<T>>
     ensures { IsOutcomeOfRow T.value T.SIGNED T.BITS (units_of_float (X.float x) frac Even) result }
 {
     from_float_round_of(x, frac, Rounding::Even)
@@ -26,7 +27,7 @@ pub fn from_float_of<X: Binary, T: Word>(x: X, frac: u32) -> Option<Outcome<T>>
 /// Returns the outcome of the float in units of `2^-frac`, rounded as named. Returns `None` for a NaN and the
 /// infinities.
 #[inline]
-pub fn from_float_round_of<X: Binary, T: Word>(
+pub fn from_float_round_of<X: Binary, T: RawWord>(
     x: X,
     frac: u32,
     rounding: Rounding,
@@ -36,14 +37,18 @@ pub fn from_float_round_of<X: Binary, T: Word>(
 {
     let wide = x.widened();
     match whole_near(wide, frac, rounding) {
-        Some(whole) => Some(outcome_of(whole < 0, whole.unsigned_abs() as u128)),
+        Some(whole) => Some(outcome_of_magnitude(whole < 0, whole.unsigned_abs() as u128)),
         None => outcome_by_parts(wide, frac, rounding),
     }
 }
 
 /// Does the same for every `f64`, by its bits.
 #[inline]
-pub(crate) fn outcome_by_parts<T: Word>(x: f64, frac: u32, rounding: Rounding) -> Option<Outcome<T>>
+pub(crate) fn outcome_by_parts<T: RawWord>(
+    x: f64,
+    frac: u32,
+    rounding: Rounding,
+) -> Option<Outcome<T>>
     ensures { IsOutcomeOfRow T.value T.SIGNED T.BITS (units_of_float x frac rounding) result }
 {
     let parts = parts_of(x)?;
@@ -52,14 +57,14 @@ pub(crate) fn outcome_by_parts<T: Word>(x: f64, frac: u32, rounding: Rounding) -
 
 /// Returns the outcome of `digits * 2^(scale + frac - LEAST)`, with the sign, rounded as named.
 #[inline]
-fn outcome_of_parts<T: Word>(parts: Parts, frac: u32, rounding: Rounding) -> Outcome<T>
+fn outcome_of_parts<T: RawWord>(parts: Parts, frac: u32, rounding: Rounding) -> Outcome<T>
     requires digits { parts.digits < 2 ^ 53 }
     requires scale { parts.scale < 2 ^ 11 }
     ensures { StandsFor T.value T.SIGNED T.BITS
         (rounded (with_sign parts.below_zero (parts.digits * 2 ^ (parts.scale + frac)))
         (pos (2 ^ 1074)) rounding) result }
 {
-    outcome_of(parts.below_zero, magnitude_of_parts(parts, frac, rounding))
+    outcome_of_magnitude(parts.below_zero, magnitude_of_parts(parts, frac, rounding))
 }
 
 /// Returns the magnitude of `digits * 2^(scale + frac - LEAST)`, rounded as named with the sign. In place of one of

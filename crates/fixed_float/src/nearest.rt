@@ -6,13 +6,14 @@ ghost use Rattle.std.specs.Float.Ieee.{of_int};
 ghost use Rattle.fixed_word.specs.Format.{InRange};
 ghost use Rattle.fixed_float.specs.Rows.{nearest_float};
 
-use fixed_word::{RawWord, Valued, Word};
+use fixed_convert::Castable;
+use fixed_word::{RawWord, Valued};
 use std::num::{nearest_i64_to_f32, nearest_i64_to_f64, nearest_u64_to_f32, nearest_u64_to_f64};
 
 /// Returns the `f64` nearest to `a / 2^frac`, ties to even. Only the conversion rounds: the product by a power of two
 /// is exact, since no number is as small as the least floats.
 #[inline]
-pub(crate) fn nearest_f64<T: Word>(a: T, frac: u32) -> f64
+pub(crate) fn nearest_f64<T: Castable>(a: T, frac: u32) -> f64
     requires { frac ≤ T.BITS }
     ensures { result ≡ nearest_float binary64 (T.value a) frac }
 {
@@ -21,7 +22,7 @@ pub(crate) fn nearest_f64<T: Word>(a: T, frac: u32) -> f64
 
 /// Returns the `f32` nearest to `a / 2^frac`, ties to even.
 #[inline]
-pub(crate) fn nearest_f32<T: Word>(a: T, frac: u32) -> f32
+pub(crate) fn nearest_f32<T: Castable>(a: T, frac: u32) -> f32
     requires { frac ≤ T.BITS }
     ensures { result ≡ nearest_float binary32 (T.value a) frac }
 {
@@ -30,7 +31,7 @@ pub(crate) fn nearest_f32<T: Word>(a: T, frac: u32) -> f32
 
 /// Returns the `f64` nearest to the value.
 #[inline]
-fn whole_f64<T: Word>(a: T) -> f64
+fn whole_f64<T: Castable>(a: T) -> f64
     ensures value { result ≡ of_int binary64 (T.value a) }
     ensures in_range { InRange T.SIGNED T.BITS (T.value a) }
 {
@@ -43,7 +44,7 @@ fn whole_f64<T: Word>(a: T) -> f64
 
 /// Returns the `f32` nearest to the value.
 #[inline]
-fn whole_f32<T: Word>(a: T) -> f32
+fn whole_f32<T: Castable>(a: T) -> f32
     ensures value { result ≡ of_int binary32 (T.value a) }
     ensures in_range { InRange T.SIGNED T.BITS (T.value a) }
 {
@@ -56,11 +57,10 @@ fn whole_f32<T: Word>(a: T) -> f32
 
 /// Returns the value of a signed word.
 #[inline]
-fn signed_of<T: Word>(a: T) -> i64
+fn signed_of<T: Castable>(a: T) -> i64
     requires { T.SIGNED ≡ true }
     ensures value { result ≡ T.value a }
     ensures in_range { InRange T.SIGNED T.BITS (T.value a) }
 {
-    let spare = 64 - T::BITS;
-    (a.to_unsigned().magnitude() << spare).cast_signed() >> spare
+    a.to_wide() as i64
 }

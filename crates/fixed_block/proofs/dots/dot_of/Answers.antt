@@ -14,7 +14,7 @@ pub returns-in-Some-unsigned_sum-clause-dot : goal.returns-in-Some-unsigned_sum-
 returns-in-Some-unsigned_sum-clause-dot g c =
     let value = g.T.Valued.value in
     let is : pos c.floored.result ≡ exact_dot (map value c.args.a.now) (map value c.args.b.now) c.args.frac = c.floored.ensures ∙ ap (λ (z : ℤ). floor_quotient z (2 ^ c.args.frac)) (c.in-Some-unsigned_sum.ensures.sum ∙ whole_sum value c.args.a.now c.args.b.now c.requires.lengths) in
-    rw is at c.outcome_of.ensures
+    rw is at c.outcome_of_magnitude.ensures
 
 pub returns-then-BITS-lt32-clause-dot : goal.returns-then-BITS-lt32-clause-dot
 returns-then-BITS-lt32-clause-dot g c =

@@ -1,14 +1,11 @@
 use Rattle.fixed_convert.proofs.Rounds.{rounded_down, rounded_up}
-use Rattle.std.proofs.Common.{◌≡◌, ◌-◌, ◌^◌, ◌*ℤ◌, pos, arith}
-use Rattle.fixed_word.specs.Format.{clamp}
+use Rattle.std.proofs.Common.{◌-◌, ◌^◌, ◌*ℤ◌, pos, arith}
 use Rattle.fixed_convert.proofs.convert.saturating_convert_of.Goals as goal
 
 pub returns-then-from-to : goal.returns-then-from-to
 returns-then-from-to g c =
     let a = g.S.Valued.value c.args.a in
-    let s = c.saturating_of.ensures (a *ℤ pos (2 ^ (c.args.to - c.args.from))) c.raised.ensures in
-    let e : g.T.Valued.value c.saturating_of.result ≡ clamp g.T.RawWord.SIGNED g.T.Valued.BITS (a *ℤ pos (2 ^ (c.args.to - c.args.from))) = cc in
-    rw (rounded_up a c.args.from c.args.to c.args.rounding c.if-from-to.true) e
+    rw (rounded_up a c.args.from c.args.to c.args.rounding c.if-from-to.true) (c.nearest_of.ensures (a *ℤ pos (2 ^ (c.args.to - c.args.from))) c.raised.ensures)
 
 pub returns-else-from-to : goal.returns-else-from-to
 returns-else-from-to g c =

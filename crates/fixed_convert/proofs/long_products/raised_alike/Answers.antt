@@ -1,4 +1,4 @@
-use Rattle.std.proofs.Common.{◌≡◌, ◌*◌, ◌^◌, ℕ, ap, sym, arith, Bool}
+use Rattle.std.proofs.Common.{◌≡◌, ◌*◌, ◌^◌, ap, sym, arith}
 use Rattle.fixed_word.specs.Format.{with_sign}
 use Rattle.fixed_kernel.proofs.Alikes.{alike_same}
 use Rattle.fixed_convert.proofs.Folds.{raised_far, raised_large, raised_small}

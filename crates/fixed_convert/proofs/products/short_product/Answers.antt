@@ -1,6 +1,4 @@
-use Rattle.std.proofs.Common.{◌≡◌, ◌≤◌, ◌^◌, ℤ, nat_abs, true, ap, sym, ◌∙◌, arith, ◌*ℤ◌}
-use Rattle.std.specs.Int.{w64}
-use Rattle.std.proofs.lemmas.Int.{to_z-of_z}
+use Rattle.std.proofs.Common.{true, ap, ◌∙◌, arith, ◌*ℤ◌}
 use Rattle.fixed_word.specs.Format.{wrap}
 use Rattle.fixed_convert.specs.inside.Narrow.{digits_of}
 use Rattle.fixed_convert.proofs.Cuts.{read_back}
