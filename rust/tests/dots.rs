@@ -3,7 +3,7 @@
 use std::fmt::Debug;
 use zugyelmas::block::dot_of;
 use zugyelmas::convert::Castable;
-use zugyelmas::word::{Side, checked_of, saturating_of, wrapping_of};
+use zugyelmas::word::{Side, Word, checked_of, saturating_of, wrapping_of};
 
 /// Numbers that are drawn, the same in each run.
 struct Draws(u64);
@@ -25,7 +25,7 @@ fn words<T: Castable>(draws: &mut Draws, count: usize, down: u32) -> Vec<T> {
 }
 
 /// The dot product of words of up to 32 bits by each policy, beside that of integers of 128 bits.
-fn dots_of<T: Castable + Debug>() {
+fn dots_of<T: Castable + Word + Debug>() {
     let mut draws = Draws(88_172_645_463_325_252);
     for count in [0, 1, 2, 5, 17, 1000, 16_384, 16_385, 40_000] {
         for down in [0, 33, 48, 57, 61] {

@@ -456,7 +456,7 @@ impl std::fmt::Write for Line {
     }
 }
 
-fn text<T: Castable>() {
+fn text<T: Castable + Word>() {
     let mut line = Line {
         bytes: [0; 100],
         length: 0,
@@ -469,7 +469,7 @@ fn text<T: Castable>() {
     assert_eq!(number::<T>(9).to_float::<f32>(), 2.25);
 }
 
-fn all<T: Castable>() {
+fn all<T: Castable + Word>() {
     for calls in [
         kernels::<T>,
         checked::<T>,
