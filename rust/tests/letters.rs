@@ -380,3 +380,15 @@ fn planted_differences() {
     let cut = difference(&WRITTEN[..WRITTEN.len() - 2]);
     assert!(cut.is_some_and(|said| said.contains("the end")));
 }
+
+/// A strict conversion has no clause that becomes an assertion: it stops by a line of `rust/script/added.txt`, which has
+/// to hold in release builds too.
+#[test]
+fn strict_conversions_stop_in_every_build() {
+    let start = WRITTEN.find("fn strict_num<").expect("the function");
+    let body: Vec<&str> = WRITTEN[start..].lines().take(3).collect();
+    assert!(
+        body[1].trim_start().starts_with("assert!(outcome.side == crate::word::Side::Fits"),
+        "{body:?}"
+    );
+}
