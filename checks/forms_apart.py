@@ -33,12 +33,12 @@ WORDS = ["u8", "u16", "u32", "u64", "i8", "i16", "i32", "i64"]
 
 ALLOWED = [
     Allowed(DISPLAY, "text", "use std::{fmt, str};", 1, "for the trait that it implements, and its own `fmt::Error`"),
-    Allowed(DISPLAY, "text", "impl<T: Word, const F: u32> fmt::Display for Fixed<T, F> {", 1,
+    Allowed(DISPLAY, "text", "impl<T: RawWord, const F: u32> fmt::Display for Fixed<T, F> {", 1,
             "its contract states the text, which goes to its formatter; rust/tests/decimals.rs prints by Rust"),
-    Allowed(DISPLAY, "text", "impl<T: Word, const F: u32> fmt::Debug for Fixed<T, F> {", 1,
+    Allowed(DISPLAY, "text", "impl<T: RawWord, const F: u32> fmt::Debug for Fixed<T, F> {", 1,
             "its contract states the text, which is that of `Display`"),
     Allowed(IN_BASE, "text", "use std::{fmt, str};", 1, "for the trait that it implements, and its own `fmt::Error`"),
-    Allowed(IN_BASE, "text", "impl<T: Word, const F: u32> fmt::Display for InBase<T, F> {", 1,
+    Allowed(IN_BASE, "text", "impl<T: RawWord, const F: u32> fmt::Display for InBase<T, F> {", 1,
             "its contract states the text, which goes to its formatter; rust/tests/radices.rs prints by Rust"),
     Allowed("crates/fixed_decimal/src/layout.rt", "text", "use std::fmt::{self, Alignment, Write};", 1,
             "its contracts state the text, which goes to a formatter"),

@@ -12,12 +12,11 @@ use script::modules::{CALCULATOR, LIBRARY, write, write_library};
 use std::env;
 
 /// The tests of the library, and the example that they test.
-const TESTS: [&str; 7] = [
+const TESTS: [&str; 6] = [
     "guide",
     "tests_kernel",
     "tests_num",
     "tests_convert",
-    "tests_float",
     "tests_policy",
     "tests_math",
 ];

@@ -5,7 +5,7 @@ use zugyelmas::convert::{
     Castable, ceil_of, compare_of, convert_of, convert_round_of, floor_of, frac_of, mul_into_of,
     round_of, round_ties_even_of, saturating_convert_of,
 };
-use zugyelmas::float::compare_float_of;
+use zugyelmas::float::{compare_float_of, from_float_round_of, saturating_float_of};
 use zugyelmas::kernel::Rounding;
 use zugyelmas::prelude::*;
 use zugyelmas::word::{Outcome, Side};
@@ -262,6 +262,53 @@ fn floats_in_one_format() {
             "{x}"
         );
     }
+}
+
+/// The row of an `f64` from `2^44` to `2^72` units of `2^-frac`.
+fn far_row(x: f64, frac: u32, rounding: Rounding) -> i128 {
+    let bits = x.to_bits();
+    let digits = i128::from(bits & 0xf_ffff_ffff_ffff) + (1 << 52);
+    let digits = if x < 0.0 { -digits } else { digits };
+    match (bits >> 52 & 2047) as i32 - 1075 + frac as i32 {
+        up @ 0..=20 => digits << up,
+        down => quotient(digits, down.unsigned_abs(), rounding),
+    }
+}
+
+/// Floats beside each power of two from `2^44` to `2^70` units of `2^-frac`, and between them.
+fn far_floats(frac: u32) -> impl Iterator<Item = f64> {
+    let patterns = (1067 - u64::from(frac)..1094 - u64::from(frac)).flat_map(|field| {
+        let beside = (0..9).map(move |low| (field << 52) + low - 4);
+        let between =
+            (1..64).map(move |part| (field << 52) + part * 0x3_fff7_1234_5677 % (1 << 52));
+        beside.chain(between)
+    });
+    patterns.flat_map(|bits| [f64::from_bits(bits), -f64::from_bits(bits)])
+}
+
+/// Checks each rounding of far floats in one format.
+fn far<T: Castable>(frac: u32) {
+    let (least, most) = ends::<T>();
+    for x in far_floats(frac) {
+        for rounding in ROUNDINGS {
+            let row = far_row(x, frac, rounding);
+            let of = &format!("{x:e} in 2^-{frac}, {rounding:?}");
+            let outcome: Option<Outcome<T>> = from_float_round_of(x, frac, rounding);
+            assert_stands(outcome.unwrap(), row, of);
+            let held: T = saturating_float_of(x, frac, rounding);
+            assert_eq!(held.to_wide(), row.clamp(least, most), "{of}");
+        }
+    }
+}
+
+#[test]
+fn floats_of_many_units() {
+    for frac in [0, 1, 13, 32, 63, 64] {
+        far::<i64>(frac);
+        far::<u64>(frac);
+    }
+    far::<i32>(16);
+    far::<u8>(8);
 }
 
 #[test]

@@ -13,10 +13,11 @@ use std::fs;
 const WRITTEN: &str = include_str!(concat!(env!("OUT_DIR"), "/library.rs"));
 
 /// Forms of sources, and what Rust has in their place.
-const FORMS: [(&str, &str); 11] = [
+const FORMS: [(&str, &str); 12] = [
     ("use std::alloc::AllocError;", ""),
     ("std::alloc", "crate::memory"),
     ("std::num::{nearest_i64_to_f32", "crate::casts::{nearest_i64_to_f32"),
+    ("std::num::saturating_f64_to_i64", "crate::casts::saturating_f64_to_i64"),
     ("Valued: Copy {", "Valued: Copy + crate::sealed::Sealed {"),
     ("Binary: Copy {", "Binary: Copy + crate::sealed::Sealed {"),
     ("type Unsigned: RawWord", "type Unsigned: UnsignedWord"),
@@ -381,11 +382,11 @@ fn planted_differences() {
     assert!(cut.is_some_and(|said| said.contains("the end")));
 }
 
-/// A strict conversion has no clause that becomes an assertion: it stops by a line of `rust/script/added.txt`, which has
-/// to hold in release builds too.
+/// A strict conversion has no public clause that becomes an assertion: it stops by a line of `rust/script/added.txt`,
+/// which has to hold in release builds too.
 #[test]
 fn strict_conversions_stop_in_every_build() {
-    let start = WRITTEN.find("fn strict_num<").expect("the function");
+    let start = WRITTEN.find("fn strict_word<").expect("the function");
     let body: Vec<&str> = WRITTEN[start..].lines().take(3).collect();
     assert!(
         body[1].trim_start().starts_with("assert!(outcome.side == crate::word::Side::Fits"),

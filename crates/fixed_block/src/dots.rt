@@ -7,8 +7,8 @@ ghost use Rattle.fixed_word.specs.Standing.{StandsFor};
 ghost use Rattle.fixed_block.specs.Dots.{SumsFit, exact_dot, partial_sum};
 
 use crate::chunks::short_sum;
-use fixed_convert::{Castable, outcome_of_magnitude};
-use fixed_word::{Integer, Outcome, RawWord, Valued};
+use fixed_convert::Castable;
+use fixed_word::{Integer, Outcome, RawWord, Valued, outcome_of_magnitude};
 
 /// Returns the sum plus the product of two numbers of 64 bits, or `None` if that does not fit.
 #[inline(always)]

@@ -1,12 +1,12 @@
 //! What each policy makes of an outcome, as a number of a format or an integer.
 
 ghost use Rattle.std.specs.Prelude.{◌≡◌, ℤ, Some, IsSome, option_map};
+ghost use Rattle.fixed_word.specs.declared.outcome.Side.TheVariants.{Fits};
 ghost use Rattle.fixed_word.specs.Policies.{checked, overflowing, saturating, wrapping};
 ghost use Rattle.fixed_word.specs.Standing.{StandsFor};
 
 use crate::numeric::Numeric;
-use fixed_convert::nearest_of;
-use fixed_word::{Outcome, RawWord, Side};
+use fixed_word::{Outcome, RawWord, Side, nearest_of};
 
 /// Returns the number, or `None` if it does not fit.
 #[inline]
@@ -73,5 +73,14 @@ pub(crate) fn strict_num<N: Numeric>(outcome: Outcome<N::Word>) -> N
     ensures { (x : ℤ) → StandsFor N.Word.value N.Word.SIGNED N.Word.BITS x outcome
         → Some (N.units result) ≡ Some x }
 {
-    N::from_word(outcome.wrapped)
+    N::from_word(strict_word(outcome))
+}
+
+/// Returns the word of a number. Precondition: it fits.
+#[inline]
+pub(crate) fn strict_word<T: RawWord>(outcome: Outcome<T>) -> T
+    requires { outcome.side ≡ Fits }
+    ensures { (x : ℤ) → StandsFor T.value T.SIGNED T.BITS x outcome → T.value result ≡ x }
+{
+    outcome.wrapped
 }

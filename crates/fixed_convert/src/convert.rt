@@ -6,9 +6,8 @@ ghost use Rattle.fixed_word.specs.Standing.{StandsFor};
 ghost use Rattle.fixed_convert.specs.Convert.{exact_convert, rounded_convert};
 
 use crate::castable::Castable;
-use crate::fitting::nearest_of;
 use crate::moved::{lowered, lowered_clamped, lowered_round, raised};
-use fixed_word::{Outcome, Rounding};
+use fixed_word::{Outcome, Rounding, nearest_of};
 
 /// Returns `a / 2^from` in units of `2^-to`, rounded down.
 #[inline]

@@ -5,12 +5,11 @@
 //! for numbers that were shifted right.
 
 ghost use Rattle.std.specs.Prelude.{◌≡◌, ℤ, int_lt, if◌then◌else◌};
-ghost use Rattle.fixed_word.specs.declared.outcome.Side.TheVariants.{Above, Below};
-ghost use Rattle.fixed_word.specs.Format.{clamp, highest, lowest, with_sign, wrap};
+ghost use Rattle.fixed_word.specs.Format.{clamp, wrap};
 ghost use Rattle.fixed_word.specs.Standing.{StandsFor, side_of};
 
 use crate::castable::Castable;
-use fixed_word::{Outcome, RawWord, Side};
+use fixed_word::{Outcome, Side};
 
 /// Returns the outcome, by the ends of the range.
 #[inline(always)]
@@ -85,51 +84,5 @@ fn nearest_from(number: i128, least: i128, most: i128) -> i128
         most
     } else {
         number
-    }
-}
-
-/// Returns the outcome of `magnitude`, or of `-magnitude` if `below_zero`: `outcome_of` for every word whose range is
-/// known.
-pub fn outcome_of_magnitude<T: RawWord>(below_zero: bool, magnitude: u128) -> Outcome<T>
-    ensures { StandsFor T.value T.SIGNED T.BITS (with_sign below_zero magnitude) result }
-{
-    let wrapped = T::residue(below_zero, magnitude);
-    let side = if below_zero {
-        if magnitude <= T::MIN.magnitude() as u128 {
-            Side::Fits
-        } else {
-            Side::Below
-        }
-    } else if magnitude <= T::MAX.magnitude() as u128 {
-        Side::Fits
-    } else {
-        Side::Above
-    };
-    Outcome { wrapped, side }
-}
-
-/// Returns the word nearest to the number of an outcome. The end of the range is chosen before the test whether the
-/// number fits, so that loops select it without a branch.
-#[inline]
-pub fn nearest_of<T: RawWord>(outcome: Outcome<T>) -> T
-    ensures { (x : ℤ) → StandsFor T.value T.SIGNED T.BITS x outcome
-        → T.value result ≡ clamp T.SIGNED T.BITS x }
-{
-    let end: T = end_on(outcome.side);
-    match outcome.side {
-        Side::Fits => outcome.wrapped,
-        Side::Above | Side::Below => end,
-    }
-}
-
-/// Returns the end of the range on the side of a number that does not fit.
-#[inline]
-fn end_on<T: RawWord>(side: Side) -> T
-    ensures below { side ≡ Below → T.value result ≡ lowest T.SIGNED T.BITS }
-    ensures above { side ≡ Above → T.value result ≡ highest T.SIGNED T.BITS }
-{
-    match side {
-        Side::Below => T::MIN,
-        _ => T::MAX,
     }
 }

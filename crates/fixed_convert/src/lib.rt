@@ -25,6 +25,5 @@ mod whole_numbers;
 pub use castable::Castable;
 pub use compare::compare_of;
 pub use convert::{convert_of, convert_round_of, saturating_convert_of};
-pub use fitting::{nearest_of, outcome_of_magnitude};
 pub use products::mul_into_of;
 pub use whole_numbers::{ceil_of, floor_of, frac_of, round_of, round_ties_even_of};

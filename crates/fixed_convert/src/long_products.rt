@@ -8,8 +8,7 @@ ghost use Rattle.fixed_kernel.specs.inside.Steps.{rounding_step};
 ghost use Rattle.fixed_convert.specs.Convert.{rounded_convert};
 
 use crate::castable::Castable;
-use crate::fitting::outcome_of_magnitude;
-use fixed_word::{Outcome, RawWord, Rounding};
+use fixed_word::{Outcome, RawWord, Rounding, outcome_of_magnitude};
 
 /// Returns the product of two words over `2^from` in units of `2^-to`, rounded as named.
 #[inline]

@@ -6,11 +6,11 @@ ghost use Rattle.fixed_decimal.specs.Text.{IsExactAt, IsLeast, ReadsBack, shorte
 
 use crate::halves::low_bits;
 use crate::tens::ten_to;
-use fixed_word::{RawWord, Word};
+use fixed_word::RawWord;
 
 /// Returns how many digits after the point the exact text of a number in units of `2^-frac` has, which is at most
 /// `frac`. Precondition: `frac` is at most the width.
-pub fn exact_places<T: Word>(number: T, frac: u32) -> usize
+pub fn exact_places<T: RawWord>(number: T, frac: u32) -> usize
     requires { frac ≤ T.BITS }
     ensures places { IsLeast (IsExactAt (T.value number) frac) result }
     ensures bound { result ≤ frac }
@@ -21,7 +21,7 @@ pub fn exact_places<T: Word>(number: T, frac: u32) -> usize
 
 /// Returns how many digits after the point the shortest text has that is read as the number, to the nearest, ties to
 /// even. That is at most 20. Precondition: `frac` is at most the width.
-pub fn shortest_places<T: Word>(number: T, frac: u32) -> usize
+pub fn shortest_places<T: RawWord>(number: T, frac: u32) -> usize
     requires { frac ≤ T.BITS }
     ensures places { IsLeast (ReadsBack (T.value number) frac) result }
     ensures shortest { result ≡ shortest (T.value number) frac }

@@ -13,11 +13,11 @@ use crate::error::DecimalError;
 use crate::halves::rounded_halves;
 use crate::numeral::{PART, point_of, short_decimal, sign_of, value_of};
 use crate::tens::ten_to;
-use fixed_word::{Outcome, Rounding, Word, outcome_of};
+use fixed_word::{Outcome, RawWord, Rounding, outcome_of_magnitude};
 
 /// Returns the outcome of the number of a decimal in units of `2^-frac`, rounded as named. Fails if the text is not a
 /// decimal. Precondition: `frac` is at most the width.
-pub fn decimal_of<T: Word>(
+pub fn decimal_of<T: RawWord>(
     text: &[u8],
     frac: u32,
     rounding: Rounding,
@@ -26,7 +26,7 @@ pub fn decimal_of<T: Word>(
     ensures { IsOutcomeOf T.value T.SIGNED T.BITS (decimal_row text.now frac rounding) result }
 {
     match magnitude_of(text, frac, rounding) {
-        Ok((below_zero, magnitude)) => Ok(outcome_of(below_zero, magnitude)),
+        Ok((below_zero, magnitude)) => Ok(outcome_of_magnitude(below_zero, magnitude)),
         Err(error) => Err(error),
     }
 }
@@ -84,7 +84,7 @@ const fn rounded_quotient(
 
 /// Returns the outcome of the number of a decimal in units of `2^-frac`. Fails if the text is not a decimal, or if its
 /// number is not a whole number of units. Precondition: `frac` is at most the width.
-pub fn exact_decimal_of<T: Word>(text: &[u8], frac: u32) -> Result<Outcome<T>, DecimalError>
+pub fn exact_decimal_of<T: RawWord>(text: &[u8], frac: u32) -> Result<Outcome<T>, DecimalError>
     requires { frac ≤ T.BITS }
     ensures { IsOutcomeOf T.value T.SIGNED T.BITS (exact_row text.now frac) result }
 {

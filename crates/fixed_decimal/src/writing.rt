@@ -8,13 +8,13 @@ use crate::halves::{low_bits, rounded_halves};
 use crate::numeral::PART;
 use crate::tens::ten_to;
 use fixed_digits::decimal_before;
-use fixed_word::{RawWord, Rounding, Word};
+use fixed_word::{RawWord, Rounding};
 
 /// Writes the text of a number in units of `2^-frac`, rounded as named to `places` digits after the point, at the end
 /// of the buffer, and returns where it begins. The text of a number below 0 begins with a minus, even if the number is
 /// rounded to 0. No text is longer than a minus, 20 digits, a point and 64 digits. Preconditions: `frac` is at most the
 /// width, and `places` is at most 64.
-pub fn write_decimal<T: Word>(
+pub fn write_decimal<T: RawWord>(
     number: T,
     frac: u32,
     places: usize,

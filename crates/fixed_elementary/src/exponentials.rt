@@ -9,7 +9,7 @@ use crate::logarithms::in_units;
 use crate::powers_of_two::{broad_factor, narrow_factor};
 use crate::reciprocals::power_of_two;
 use crate::wide::product;
-use fixed_word::{Outcome, RawWord, Valued, Word, outcome_of};
+use fixed_word::{Outcome, RawWord, Valued, outcome_of_magnitude};
 
 /// Returns the product in units of `2^-62`, rounded down.
 #[inline]
@@ -168,13 +168,13 @@ fn exponent_of<T: RawWord>(a: T, frac: u32) -> Option<u128>
 /// `r <= p < (r + 1) 2^(2^-k)`, where k is 54 on words of up to 32 bits and 117 on words of 64 bits. 2 to the power of
 /// a whole number of at least `-frac` is exact. If the result is above the range, the outcome stands for some number
 /// above the range. Precondition: `frac` is at most the width.
-pub fn exp2_of<T: Word>(a: T, frac: u32) -> Outcome<T>
+pub fn exp2_of<T: RawWord>(a: T, frac: u32) -> Outcome<T>
     requires { frac ≤ T.BITS }
     ensures { (r : ℤ) × IsExp2Of (exp2_room T.BITS) (T.value a) frac r
         × StandsUpTo T.value T.SIGNED T.BITS r result }
 {
     match exponent_of(a, frac) {
-        Some(exponent) => outcome_of(false, power_of(exponent, frac, T::BITS)),
-        None => outcome_of(false, 0),
+        Some(exponent) => outcome_of_magnitude(false, power_of(exponent, frac, T::BITS)),
+        None => outcome_of_magnitude(false, 0),
     }
 }

@@ -6,7 +6,7 @@ ghost use Rattle.fixed_root.specs.inside.Parts.{IsRootOf};
 ghost use Rattle.fixed_elementary.specs.ElementaryRows.{exact_hypot};
 
 use crate::roots::{root_of_whole, root_past};
-use fixed_word::{Outcome, RawWord, Word, outcome_of};
+use fixed_word::{Outcome, RawWord, outcome_of_magnitude};
 
 /// Returns the square of a magnitude.
 fn square(magnitude: u64) -> u128
@@ -29,8 +29,8 @@ fn length_of(a: u64, b: u64) -> u128
 
 /// Returns the length of the pair `(a, b)`, which is the root of `a^2 + b^2`, rounded down. The operands and the result
 /// have the same number of fraction bits, which may be any.
-pub fn hypot_of<T: Word>(a: T, b: T) -> Outcome<T>
+pub fn hypot_of<T: RawWord>(a: T, b: T) -> Outcome<T>
     ensures { StandsFor T.value T.SIGNED T.BITS (exact_hypot (T.value a) (T.value b)) result }
 {
-    outcome_of(false, length_of(a.magnitude(), b.magnitude()))
+    outcome_of_magnitude(false, length_of(a.magnitude(), b.magnitude()))
 }

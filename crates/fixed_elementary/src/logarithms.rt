@@ -8,7 +8,7 @@ ghost use Rattle.fixed_elementary.specs.Squaring.{IsMantissa, IsSquared};
 ghost use Rattle.fixed_elementary.specs.inside.Digits.{IsFound};
 
 use crate::wide::product;
-use fixed_word::{Digits, Outcome, RawWord, Silent, Steps, Valued, Word, outcome_of};
+use fixed_word::{Digits, Outcome, RawWord, Silent, Steps, Valued, outcome_of_magnitude};
 
 /// Digits of a logarithm, and the mantissa that is left, in units of `2^-63`.
 #[derive(Clone, Copy)]
@@ -167,20 +167,20 @@ pub(crate) fn in_units(places: u32) -> u128
 }
 
 /// Returns the outcome of `units - less`.
-fn outcome_of_difference<T: Word>(units: u128, less: u128) -> Outcome<T>
+fn outcome_of_difference<T: RawWord>(units: u128, less: u128) -> Outcome<T>
     ensures { StandsFor T.value T.SIGNED T.BITS (pos units -ℤ pos less) result }
 {
     if units < less {
-        outcome_of(true, less - units)
+        outcome_of_magnitude(true, less - units)
     } else {
-        outcome_of(false, units - less)
+        outcome_of_magnitude(false, units - less)
     }
 }
 
 /// Returns the logarithm of `a 2^-frac` to the base 2, in units of `2^-frac`. For the result r and the exact logarithm
 /// l in units, `r <= l < r + 1 + 2^-k`, where `frac + k` is 62 on words of up to 32 bits and 126 on words of 64 bits.
 /// The logarithm of a power of two is exact. Preconditions: `a` is above 0, and `frac` is at most the width.
-pub fn log2_of<T: Word>(a: T, frac: u32) -> Outcome<T>
+pub fn log2_of<T: RawWord>(a: T, frac: u32) -> Outcome<T>
     requires frac { frac ≤ T.BITS }
     requires sign { pos 0 <ℤ T.value a }
     ensures { (r : ℤ) × IsLog2Of (log2_room T.BITS) (T.value a) frac r

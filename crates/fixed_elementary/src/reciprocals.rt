@@ -7,7 +7,7 @@ ghost use Rattle.fixed_elementary.specs.inside.RecipParts.{IsRecipRootOf};
 
 use crate::digits::recip_root_by_digits;
 use crate::roots::root_of_whole;
-use fixed_word::{Outcome, RawWord, Word, outcome_of};
+use fixed_word::{Outcome, RawWord, outcome_of_magnitude};
 
 /// Returns a power of two. Precondition: the exponent is below 128.
 pub(crate) fn power_of_two(exponent: u32) -> u128
@@ -46,10 +46,10 @@ fn recip_root(a: u64, exponent: u32) -> u128
 
 /// Returns one over the square root of `a 2^-frac`, in units of `2^-frac`, rounded down: the r from 0 on with
 /// `r^2 a <= 2^(3 frac) < (r+1)^2 a`. Preconditions: `a` is above 0, and `frac` is at most the width.
-pub fn recip_sqrt_of<T: Word>(a: T, frac: u32) -> Outcome<T>
+pub fn recip_sqrt_of<T: RawWord>(a: T, frac: u32) -> Outcome<T>
     requires frac { frac ≤ T.BITS }
     requires sign { pos 0 <ℤ T.value a }
     ensures { StandsFor T.value T.SIGNED T.BITS (exact_recip_sqrt (T.value a) frac) result }
 {
-    outcome_of(false, recip_root(a.magnitude(), 3 * frac))
+    outcome_of_magnitude(false, recip_root(a.magnitude(), 3 * frac))
 }

@@ -6,18 +6,17 @@ ghost use Rattle.fixed_interval.specs.Ends.{ends_of};
 ghost use Rattle.fixed_interval.specs.Containment.{Encloses};
 ghost use Rattle.fixed_enclosure.specs.Sets.{Contains, common_of, hull_of};
 
-use crate::enclosure::{Enclosure, enclosed};
+use crate::enclosure::Enclosure;
 use crate::order::{greater, is_at_most, lesser};
-use fixed_interval::Interval;
 use fixed_num::Fixed;
-use fixed_word::Word;
+use fixed_word::RawWord;
 
-impl<T: Word, const F: u32> Enclosure<T, F> {
+impl<T: RawWord, const F: u32> Enclosure<T, F> {
     /// Returns the enclosure of a single number.
     pub fn point(number: Fixed<T, F>) -> Self
         ensures { result ≡ record { lo = number.bits; hi = number.bits } }
     {
-        Self::from_interval(Interval::from_ends(number.bits, number.bits))
+        Self::from_ends(number.bits, number.bits)
     }
 
     /// Returns whether the number is in the enclosure.
@@ -41,7 +40,7 @@ impl<T: Word, const F: u32> Enclosure<T, F> {
     {
         let low = lesser(self.low().bits, other.low().bits);
         let high = greater(self.high().bits, other.high().bits);
-        Self::from_interval(Interval::from_ends(low, high))
+        Self::from_ends(low, high)
     }
 
     /// Returns the enclosure of the numbers that are in both, or `None` if there are none.
@@ -50,6 +49,6 @@ impl<T: Word, const F: u32> Enclosure<T, F> {
     {
         let low = greater(self.low().bits, other.low().bits);
         let high = lesser(self.high().bits, other.high().bits);
-        enclosed(Interval::new(low, high))
+        Self::new(Fixed { bits: low }, Fixed { bits: high })
     }
 }

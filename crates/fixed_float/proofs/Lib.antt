@@ -12,3 +12,4 @@ pub mod Beside
 pub mod Sums
 pub mod Centre
 pub mod Quick
+pub mod Cast

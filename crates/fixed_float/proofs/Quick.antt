@@ -95,26 +95,15 @@ module _ (x : Float) (fit : T (fits binary64 x)) (g : ℕ) (G : g ≤ 64) where
   centre_value = packed_value binary64 1074 (2 ^ 51) (lit< tt) (lit< tt)
 
   -- x is d * 2 ^ k of the least floats, or minus that
-  module _ (p : Parts) (are : AreParts x p) (under : le (float_with_sign false x) bound ≡ true) where
-    abbrev d : ℕ
+  module _ (p : Parts) (are : AreParts x p) where
+    abbrev pub d : ℕ
     d = p.digits * 2 ^ p.scale
 
-    abbrev n : ℕ
+    abbrev pub n : ℕ
     n = p.digits * 2 ^ (p.scale + g)
 
-    n_is : n ≡ d * 2 ^ g
+    pub n_is : n ≡ d * 2 ^ g
     n_is = ap (λ (z : ℕ). p.digits * z) (pow-add 2 p.scale g) ∙ sym (mul_assoc p.digits (2 ^ p.scale) (2 ^ g))
-
-    sized : d * 2 ^ 1074 ≤ (2 ^ 52 + 0) * 2 ^ (1072 - g) * 2 ^ 1074
-    sized = size_under (float_with_sign false x) bound d (2 ^ 1074) ((2 ^ 52 + 0) * 2 ^ (1072 - g)) (2 ^ 1074) (abs_value x p.below_zero d (2 ^ 1074) are.value) bound_value under
-
-    small : n ≤ 2 ^ 50 * 2 ^ 1074
-    small =
-        let e : (2 ^ 52 + 0) * 2 ^ (1072 - g) * 2 ^ g ≡ (2 ^ 52 + 0) * 2 ^ 1072 =
-        mul_assoc (2 ^ 52 + 0) (2 ^ (1072 - g)) (2 ^ g) ∙ ap (λ (z : ℕ). (2 ^ 52 + 0) * z) (sym (pow-add 2 (1072 - g) g) ∙ ap (λ (z : ℕ). 2 ^ z) {x = 1072 - g + g} {y = 1072} (omega (arith, G))) in
-        let l : d ≤ (2 ^ 52 + 0) * 2 ^ (1072 - g) = le_of_mul-le-mul_right sized (pow_pos 1074) in
-        let m : d * 2 ^ g ≤ (2 ^ 52 + 0) * 2 ^ (1072 - g) * 2 ^ g = mul-le-mul_right (2 ^ g) l in
-        omega (arith, n_is, m, e)
 
     scaled : mul binary64 x power ≡ round binary64 p.below_zero n (2 ^ 1074)
     scaled =
@@ -128,25 +117,36 @@ module _ (x : Float) (fit : T (fits binary64 x)) (g : ℕ) (G : g ≤ 64) where
         times_is binary64 x power p.below_zero d ((2 ^ 52 + 0) * 2 ^ (1022 + g)) (2 ^ 1074) (2 ^ 1074) U U are.value power_value
         ∙ round_same binary64 p.below_zero (d * ((2 ^ 52 + 0) * 2 ^ (1022 + g))) (2 ^ 1074 * 2 ^ 1074) n (2 ^ 1074) (mul-pos U U) U e
 
-    scaled_value : HasValue (mul binary64 x power) p.below_zero n (2 ^ 1074)
-    scaled_value =
-        let fine : n < 2 ^ (1074 + suc 1023) = lt_of_le_of_lt small (lit< tt) in
+    pub scaled_value : n < 2 ^ (1074 + suc 1023) → HasValue (mul binary64 x power) p.below_zero n (2 ^ 1074)
+    scaled_value fine =
         subst (λ (y : Float). HasValue y p.below_zero n (2 ^ 1074)) (sym scaled) (round_exact binary64 p.below_zero n (2 ^ 1074) p.digits (p.scale + g) (pow_pos 1074) are.digits fine refl)
 
-    sum_is : add binary64 (mul binary64 x power) centre ≡ round binary64 false (beside p.below_zero n (2 ^ 1074)) (2 ^ 1074)
-    sum_is = moved binary64 (mul binary64 x power) centre p.below_zero n ((2 ^ 52 + 2 ^ 51) * 2 ^ 1074) 1074 scaled_value centre_value (low_enough n (2 ^ 1074) (pow_pos 1074) small).1
+    module _ (under : le (float_with_sign false x) bound ≡ true) where
+      sized : d * 2 ^ 1074 ≤ (2 ^ 52 + 0) * 2 ^ (1072 - g) * 2 ^ 1074
+      sized = size_under (float_with_sign false x) bound d (2 ^ 1074) ((2 ^ 52 + 0) * 2 ^ (1072 - g)) (2 ^ 1074) (abs_value x p.below_zero d (2 ^ 1074) are.value) bound_value under
 
-    pub rounded_by_sum : IsMoved x g (add binary64 (mul binary64 x power) centre)
-    unfolding Beside
-    rounded_by_sum =
-        let b = beside_is p.below_zero n small in record {
-          below = p.below_zero;
-          size = closest n (2 ^ 1074);
-          number = subst (λ (y : Float). T (not (is_nan y))) (sym sum_is) b.0;
-          bits = ap (to_bits binary64) sum_is ∙ b.1;
-          small = le_trans (closest_small n (2 ^ 1074) (pow_pos 1074) small) (lit≤ tt);
-          row = row_of_parts x p g Even are ∙ ap Some (rounded_at Even p.below_zero n (2 ^ 1074) (pow_pos 1074) ∙ ap (with_sign p.below_zero) (sym (closest_stepped n (2 ^ 1074) p.below_zero)));
-        }
+      small : n ≤ 2 ^ 50 * 2 ^ 1074
+      small =
+          let e : (2 ^ 52 + 0) * 2 ^ (1072 - g) * 2 ^ g ≡ (2 ^ 52 + 0) * 2 ^ 1072 =
+          mul_assoc (2 ^ 52 + 0) (2 ^ (1072 - g)) (2 ^ g) ∙ ap (λ (z : ℕ). (2 ^ 52 + 0) * z) (sym (pow-add 2 (1072 - g) g) ∙ ap (λ (z : ℕ). 2 ^ z) {x = 1072 - g + g} {y = 1072} (omega (arith, G))) in
+          let l : d ≤ (2 ^ 52 + 0) * 2 ^ (1072 - g) = le_of_mul-le-mul_right sized (pow_pos 1074) in
+          let m : d * 2 ^ g ≤ (2 ^ 52 + 0) * 2 ^ (1072 - g) * 2 ^ g = mul-le-mul_right (2 ^ g) l in
+          omega (arith, n_is, m, e)
+
+      sum_is : add binary64 (mul binary64 x power) centre ≡ round binary64 false (beside p.below_zero n (2 ^ 1074)) (2 ^ 1074)
+      sum_is = moved binary64 (mul binary64 x power) centre p.below_zero n ((2 ^ 52 + 2 ^ 51) * 2 ^ 1074) 1074 (scaled_value (lt_of_le_of_lt small (lit< tt))) centre_value (low_enough n (2 ^ 1074) (pow_pos 1074) small).1
+
+      pub rounded_by_sum : IsMoved x g (add binary64 (mul binary64 x power) centre)
+      unfolding Beside
+      rounded_by_sum =
+          let b = beside_is p.below_zero n small in record {
+            below = p.below_zero;
+            size = closest n (2 ^ 1074);
+            number = subst (λ (y : Float). T (not (is_nan y))) (sym sum_is) b.0;
+            bits = ap (to_bits binary64) sum_is ∙ b.1;
+            small = le_trans (closest_small n (2 ^ 1074) (pow_pos 1074) small) (lit≤ tt);
+            row = row_of_parts x p g Even are ∙ ap Some (rounded_at Even p.below_zero n (2 ^ 1074) (pow_pos 1074) ∙ ap (with_sign p.below_zero) (sym (closest_stepped n (2 ^ 1074) p.below_zero)));
+          }
 
   pub quick : le (float_with_sign false x) bound ≡ true → IsMoved x g (add binary64 (mul binary64 x power) centre)
   quick under =

@@ -10,6 +10,7 @@ use crate::binary::Binary;
 use crate::incoming::magnitude_of_parts;
 use crate::near::whole_near;
 use crate::parts::parts_of;
+use crate::whole::whole_far;
 use fixed_word::{RawWord, Rounding};
 
 /// Returns the float in units of `2^-frac`, rounded as named, or the nearest word if that does not fit. An infinity
@@ -27,9 +28,22 @@ pub fn saturating_float_of<X: Binary, T: RawWord>(x: X, frac: u32, rounding: Rou
     }
 }
 
-/// Does the same for every `f64`, by its bits. Precondition: it is not a NaN.
+/// Does the same for every `f64`, in words of 64 bits first by a cast: narrower ones hold no such float. Precondition:
+/// it is not a NaN.
 #[inline]
 fn far_held<T: RawWord>(x: f64, frac: u32, rounding: Rounding) -> T
+    requires { NotNan x }
+    ensures { Some (T.value result) ≡ saturated_float T.SIGNED T.BITS x frac rounding }
+{
+    match whole_far(x, frac) {
+        Some(whole) if T::BITS == 64 => whole_held(whole),
+        _ => held_by_parts(x, frac, rounding),
+    }
+}
+
+/// Does the same for every `f64`, by its bits. Precondition: it is not a NaN.
+#[inline]
+fn held_by_parts<T: RawWord>(x: f64, frac: u32, rounding: Rounding) -> T
     requires { NotNan x }
     ensures { Some (T.value result) ≡ saturated_float T.SIGNED T.BITS x frac rounding }
 {
@@ -39,12 +53,17 @@ fn far_held<T: RawWord>(x: f64, frac: u32, rounding: Rounding) -> T
     }
 }
 
-/// Returns the word nearest to the whole number.
+/// Returns the word nearest to the whole number. In a signed word of 64 bits it fits, which rustc does not see.
 #[inline]
 fn whole_held<T: RawWord>(whole: i64) -> T
     ensures { Some (T.value result) ≡ saturating T.SIGNED T.BITS (Some whole) }
 {
-    magnitude_held(whole < 0, whole.unsigned_abs() as u128)
+    let magnitude = whole.unsigned_abs() as u128;
+    if T::SIGNED && T::BITS == 64 {
+        T::residue(whole < 0, magnitude)
+    } else {
+        magnitude_held(whole < 0, magnitude)
+    }
 }
 
 /// Returns the number of the word that is nearest to the magnitude with that sign. A branch on the sign would be slow.

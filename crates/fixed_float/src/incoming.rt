@@ -12,8 +12,8 @@ use crate::binary::Binary;
 use crate::lowered::lowered;
 use crate::near::whole_near;
 use crate::parts::{LEAST, Parts, parts_of};
-use fixed_convert::outcome_of_magnitude;
-use fixed_word::{Outcome, RawWord, Rounding};
+use crate::whole::whole_far;
+use fixed_word::{Outcome, RawWord, Rounding, outcome_of_magnitude};
 
 /// Returns the outcome of the float in units of `2^-frac`, rounded to the nearest, ties to even. Returns `None` for a
 /// NaN and the infinities.
@@ -37,9 +37,28 @@ pub fn from_float_round_of<X: Binary, T: RawWord>(
 {
     let wide = x.widened();
     match whole_near(wide, frac, rounding) {
-        Some(whole) => Some(outcome_of_magnitude(whole < 0, whole.unsigned_abs() as u128)),
-        None => outcome_by_parts(wide, frac, rounding),
+        Some(whole) => Some(outcome_of_signed(whole)),
+        None => far_outcome(wide, frac, rounding),
     }
+}
+
+/// Does the same for every `f64`, in words of 64 bits first by a cast: narrower ones hold no such float.
+#[inline]
+fn far_outcome<T: RawWord>(x: f64, frac: u32, rounding: Rounding) -> Option<Outcome<T>>
+    ensures { IsOutcomeOfRow T.value T.SIGNED T.BITS (units_of_float x frac rounding) result }
+{
+    match whole_far(x, frac) {
+        Some(whole) if T::BITS == 64 => Some(outcome_of_signed(whole)),
+        _ => outcome_by_parts(x, frac, rounding),
+    }
+}
+
+/// Returns the outcome of the whole number.
+#[inline]
+fn outcome_of_signed<T: RawWord>(whole: i64) -> Outcome<T>
+    ensures { StandsFor T.value T.SIGNED T.BITS whole result }
+{
+    outcome_of_magnitude(whole < 0, whole.unsigned_abs() as u128)
 }
 
 /// Does the same for every `f64`, by its bits.

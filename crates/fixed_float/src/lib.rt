@@ -16,6 +16,7 @@ mod near;
 mod nearest;
 mod outgoing;
 mod parts;
+mod whole;
 
 pub use binary::Binary;
 pub use compare::compare_float_of;

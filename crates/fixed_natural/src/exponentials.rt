@@ -9,7 +9,7 @@ ghost use Rattle.fixed_natural.specs.inside.Scaling.{IsInverse, IsQuotient};
 
 use crate::scaling::{difference, in_places, scaled};
 use fixed_elementary::exponentials::power_of;
-use fixed_word::{Outcome, RawWord, Valued, Word, outcome_of};
+use fixed_word::{Outcome, RawWord, Valued, outcome_of_magnitude};
 
 /// Half the logarithm of e to the base 2, in units of `2^-128`, rounded down.
 const HALF_LOG2_E: u128 = 0xb8aa_3b29_5c17_f0bb_be87_fed0_691d_3e88;
@@ -54,16 +54,16 @@ fn one(frac: u32) -> u128
 /// Returns e to the power of `a 2^-frac`, in units of `2^-frac`. For the result r and the exact power p in units,
 /// `r <= p 2^(2^-61)` and `p < r + 1`. e to the power of 0 is exactly 1. If the result is above the range, the outcome
 /// stands for some number above the range. Precondition: `frac` is at most the width.
-pub fn exp_of<T: Word>(a: T, frac: u32) -> Outcome<T>
+pub fn exp_of<T: RawWord>(a: T, frac: u32) -> Outcome<T>
     requires { frac ≤ T.BITS }
     ensures { (r : ℤ) × IsExp (T.value a) frac r
         × StandsUpTo T.value T.SIGNED T.BITS r result }
 {
     if a.magnitude() == 0 {
-        return outcome_of(false, one(frac));
+        return outcome_of_magnitude(false, one(frac));
     }
     match exponent_of(a, frac, PLACES) {
-        Some(exponent) => outcome_of(false, power_of(exponent, PLACES, 64)),
-        None => outcome_of(false, 0),
+        Some(exponent) => outcome_of_magnitude(false, power_of(exponent, PLACES, 64)),
+        None => outcome_of_magnitude(false, 0),
     }
 }

@@ -8,7 +8,7 @@ ghost use Rattle.fixed_natural.specs.inside.PowExponent.{IsPowExponent};
 
 use crate::scaling::{broad_log2, difference, in_places, scaled};
 use fixed_elementary::exponentials::power_of;
-use fixed_word::{Outcome, RawWord, Valued, Word, outcome_of};
+use fixed_word::{Outcome, RawWord, Valued, outcome_of_magnitude};
 
 /// Returns a number times `2^64`.
 fn wide(number: u64) -> u128
@@ -66,15 +66,15 @@ fn power_at(exponent: Option<u128>) -> u128
 /// units, `r <= p 2^(2^-55)` and `p < r + 1`. A power that is a whole number of up to `2^54` units is exact. If the
 /// result is above the range, the outcome stands for some number above the range. Preconditions: `a` is above 0, and
 /// `frac` is at most the width.
-pub fn pow_of<T: Word>(a: T, b: T, frac: u32) -> Outcome<T>
+pub fn pow_of<T: RawWord>(a: T, b: T, frac: u32) -> Outcome<T>
     requires frac { frac ≤ T.BITS }
     requires sign { pos 0 <ℤ T.value a }
     ensures { (r : ℤ) × IsPow (T.value a) (T.value b) frac r
         × StandsUpTo T.value T.SIGNED T.BITS r result }
 {
     if b.is_below_zero() {
-        outcome_of(false, power_at(falling(a.magnitude(), frac, b.magnitude())))
+        outcome_of_magnitude(false, power_at(falling(a.magnitude(), frac, b.magnitude())))
     } else {
-        outcome_of(false, power_at(rising(a.magnitude(), frac, b.magnitude())))
+        outcome_of_magnitude(false, power_at(rising(a.magnitude(), frac, b.magnitude())))
     }
 }

@@ -8,13 +8,13 @@ ghost use Rattle.fixed_num.specs.Shown.{places_of, plain_text, styled_text};
 
 use crate::format::Fixed;
 use fixed_decimal::{pad_number, shortest_places, write_decimal};
-use fixed_word::{RawWord, Rounding, Word};
+use fixed_word::{RawWord, Rounding};
 use std::{fmt, str};
 
 /// Writes the shortest decimal that is read back as the number. With a precision, writes that many digits after the
 /// point, rounded to the nearest, ties to even. Sign, width and fill work as for integers. Fails if F is greater than
 /// the width.
-impl<T: Word, const F: u32> fmt::Display for Fixed<T, F> {
+impl<T: RawWord, const F: u32> fmt::Display for Fixed<T, F> {
     ghost output = { λ x. plain_text (T.value x.bits) F T.BITS };
 
     ghost styled_output = { λ x s. styled_text (padded_integral s) (spec_precision s) (T.value x.bits) F T.BITS };
@@ -38,7 +38,7 @@ impl<T: Word, const F: u32> fmt::Display for Fixed<T, F> {
 }
 
 /// Writes the value, as `{}` does.
-impl<T: Word, const F: u32> fmt::Debug for Fixed<T, F> {
+impl<T: RawWord, const F: u32> fmt::Debug for Fixed<T, F> {
     ghost debug_output = { λ x. plain_text (T.value x.bits) F T.BITS };
 
     fn fmt<W: fmt::Write>(&self, f: &mut fmt::Formatter<W>) -> fmt::Result {
@@ -48,7 +48,7 @@ impl<T: Word, const F: u32> fmt::Debug for Fixed<T, F> {
 
 /// Text without a formatter. Each call writes the text at the end of the buffer, and returns the index at which it
 /// begins. (`fixed` does not have these calls.)
-impl<T: Word, const F: u32> Fixed<T, F> {
+impl<T: RawWord, const F: u32> Fixed<T, F> {
     /// Writes the shortest decimal that is read back as the number, and returns where it begins. Precondition: F is
     /// at most the width.
     pub fn write_decimal(self, buffer: &mut [u8; 86]) -> usize
@@ -78,7 +78,7 @@ impl<T: Word, const F: u32> Fixed<T, F> {
 }
 
 /// Returns how many digits after the point a number has with that precision.
-fn places_for<T: Word>(bits: T, frac: u32, precision: Option<usize>) -> usize
+fn places_for<T: RawWord>(bits: T, frac: u32, precision: Option<usize>) -> usize
     requires { frac ≤ T.BITS }
     ensures { result ≡ places_of precision (T.value bits) frac }
 {

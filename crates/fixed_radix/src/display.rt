@@ -9,7 +9,7 @@ use crate::digits::put_number;
 use crate::places::{exact_places, in_units};
 use fixed_decimal::pad_number;
 use fixed_num::Fixed;
-use fixed_word::{RawWord, Word};
+use fixed_word::RawWord;
 use std::{fmt, str};
 
 /// A number that is printed in a base: exactly, or, if the formatter has a precision, with that many digits after the
@@ -23,7 +23,7 @@ pub struct InBase<T: RawWord, const F: u32> {
     pub base: Base,
 }
 
-impl<T: Word, const F: u32> fmt::Display for InBase<T, F> {
+impl<T: RawWord, const F: u32> fmt::Display for InBase<T, F> {
     ghost output = { λ x. plain_in x.base (T.value x.number.bits) F T.BITS };
 
     ghost styled_output = { λ x s. styled_in (padded_integral s) (spec_precision s) x.base (T.value x.number.bits) F T.BITS };

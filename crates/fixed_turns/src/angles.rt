@@ -4,7 +4,7 @@ ghost use Rattle.std.specs.Prelude.{◌≡◌, ◌≤◌, ◌-◌, ◌*◌, ◌%
 ghost use Rattle.fixed_word.specs.Format.{Congruent};
 ghost use Rattle.fixed_turns.specs.inside.Rests.{IsParted};
 
-use fixed_word::{RawWord, Word};
+use fixed_word::RawWord;
 
 /// A number of quarter turns, and a rest in units of `2^-64` quarter turns, which is subtracted if `below`.
 #[derive(Clone, Copy)]
@@ -26,7 +26,7 @@ fn moved(magnitude: u64, frac: u32) -> u64
 /// Returns the angle `a 2^-frac` without its whole turns, in units of `2^-64` turns. The result is not below 0.
 /// Precondition: `frac` is at most the width.
 #[inline(always)]
-pub(crate) fn part_of_turn<T: Word>(a: T, frac: u32) -> u64
+pub(crate) fn part_of_turn<T: RawWord>(a: T, frac: u32) -> u64
     requires { frac ≤ T.BITS }
     ensures { Congruent (2 ^ 64) (T.value a *ℤ pos (2 ^ (64 - frac))) (pos result) }
 {

@@ -6,7 +6,7 @@ ghost use Rattle.fixed_word.specs.Standing.{StandsFor};
 ghost use Rattle.fixed_turns.specs.Angles.{IsAngleOf, IsByQuarters, IsUpperAngle, is_below, turn_room};
 
 use crate::octants::{power, rest_of};
-use fixed_word::{Outcome, RawWord, Word, outcome_of};
+use fixed_word::{Outcome, RawWord, outcome_of_magnitude};
 
 /// Returns the angle of a point, from 0 to 1/2, in units of `2^-frac` turns. The point is `y` above the origin, and `x`
 /// to its right or, if `below`, to its left. Preconditions: the coordinates are not both 0, and `frac` is from 2 to 64.
@@ -53,7 +53,7 @@ fn upper_angle(below: bool, x: u64, y: u64, bits: u32, frac: u32) -> u64
 /// 32 bits and 60 on words of 64 bits. Multiples of 1/8 are exact if they are whole numbers of units. If y is 0 and x
 /// is below 0, the exact angle is 1/2. Preconditions: the coordinates are not both 0, and `frac` is at most the width.
 #[inline(always)]
-pub fn atan2_turns_of<T: Word>(y: T, x: T, frac: u32) -> Outcome<T>
+pub fn atan2_turns_of<T: RawWord>(y: T, x: T, frac: u32) -> Outcome<T>
     requires fraction { frac ≤ T.BITS }
     requires some { T.value x ≡ pos 0 → T.value y ≢ pos 0 }
     ensures { (r : ℤ) × IsAngleOf (turn_room T.BITS) (T.value x) (T.value y) frac r
@@ -66,5 +66,5 @@ pub fn atan2_turns_of<T: Word>(y: T, x: T, frac: u32) -> Outcome<T>
         T::BITS,
         frac,
     );
-    outcome_of(y.is_below_zero(), u128::from(magnitude))
+    outcome_of_magnitude(y.is_below_zero(), u128::from(magnitude))
 }

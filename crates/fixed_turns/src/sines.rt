@@ -7,7 +7,7 @@ ghost use Rattle.fixed_turns.specs.Sines.{IsCosine, IsSine, IsSineAt, IsSumOf, s
 
 use crate::angles::{Angle, part_of_turn, parted};
 use crate::series::{cosine, radians_of, rounded, sine};
-use fixed_word::{Outcome, RawWord, Word, outcome_of};
+use fixed_word::{Outcome, RawWord, outcome_of_magnitude};
 
 /// Returns the sine of a rest, in units of `2^-frac`, rounded to the nearest.
 #[inline(always)]
@@ -41,7 +41,7 @@ fn turned(quarter: u64, below: bool) -> bool
 
 /// Returns the sine of quarter turns and a rest, which is subtracted if `below`.
 #[inline(always)]
-fn outcome_at<T: Word>(quarter: u64, below: bool, rest: u64, frac: u32) -> Outcome<T>
+fn outcome_at<T: RawWord>(quarter: u64, below: bool, rest: u64, frac: u32) -> Outcome<T>
     requires quarter { quarter ≤ 4 }
     requires rest { rest ≤ 2 ^ 63 }
     requires frac { frac ≤ 64 }
@@ -50,9 +50,9 @@ fn outcome_at<T: Word>(quarter: u64, below: bool, rest: u64, frac: u32) -> Outco
         × StandsFor T.value T.SIGNED T.BITS r result }
 {
     if quarter % 2 == 0 {
-        outcome_of(turned(quarter, below), sine_of_rest(rest, T::BITS, frac))
+        outcome_of_magnitude(turned(quarter, below), sine_of_rest(rest, T::BITS, frac))
     } else {
-        outcome_of(turned(quarter, false), cosine_of_rest(rest, T::BITS, frac))
+        outcome_of_magnitude(turned(quarter, false), cosine_of_rest(rest, T::BITS, frac))
     }
 }
 
@@ -60,7 +60,7 @@ fn outcome_at<T: Word>(quarter: u64, below: bool, rest: u64, frac: u32) -> Outco
 /// exact sine by at most half a unit plus `2^-k`, where k is 41 on words of up to 32 bits and 61 on words of 64 bits.
 /// Sines of whole quarter turns are exact, and none is above 1 or below -1. Precondition: `frac` is at most the width.
 #[inline(always)]
-pub fn sin_turns_of<T: Word>(a: T, frac: u32) -> Outcome<T>
+pub fn sin_turns_of<T: RawWord>(a: T, frac: u32) -> Outcome<T>
     requires { frac ≤ T.BITS }
     ensures { (r : ℤ) × IsSine (sine_room T.BITS) (T.value a) frac r × StandsFor T.value T.SIGNED T.BITS r result }
 {
@@ -73,7 +73,7 @@ pub fn sin_turns_of<T: Word>(a: T, frac: u32) -> Outcome<T>
 /// Cosines of whole quarter turns are exact, and none is above 1 or below -1. Precondition: `frac` is at most the
 /// width.
 #[inline(always)]
-pub fn cos_turns_of<T: Word>(a: T, frac: u32) -> Outcome<T>
+pub fn cos_turns_of<T: RawWord>(a: T, frac: u32) -> Outcome<T>
     requires { frac ≤ T.BITS }
     ensures { (r : ℤ) × IsCosine (sine_room T.BITS) (T.value a) frac r × StandsFor T.value T.SIGNED T.BITS r result }
 {
@@ -84,7 +84,7 @@ pub fn cos_turns_of<T: Word>(a: T, frac: u32) -> Outcome<T>
 /// Returns the sine and the cosine of an angle. Preconditions: its quarter turns are at most 3, and its rest is at most
 /// an eighth of a turn.
 #[inline(always)]
-fn outcomes_at<T: Word>(angle: Angle, frac: u32) -> (Outcome<T>, Outcome<T>)
+fn outcomes_at<T: RawWord>(angle: Angle, frac: u32) -> (Outcome<T>, Outcome<T>)
     requires quarter { angle.quarter ≤ 3 }
     requires rest { angle.rest ≤ 2 ^ 63 }
     requires frac { frac ≤ 64 }
@@ -99,11 +99,11 @@ fn outcomes_at<T: Word>(angle: Angle, frac: u32) -> (Outcome<T>, Outcome<T>)
     let cosine = cosine_of_rest(angle.rest, T::BITS, frac);
     let next = angle.quarter + 1;
     if angle.quarter % 2 == 0 {
-        let first = outcome_of(turned(angle.quarter, angle.below), sine);
-        (first, outcome_of(turned(next, false), cosine))
+        let first = outcome_of_magnitude(turned(angle.quarter, angle.below), sine);
+        (first, outcome_of_magnitude(turned(next, false), cosine))
     } else {
-        let first = outcome_of(turned(angle.quarter, false), cosine);
-        (first, outcome_of(turned(next, angle.below), sine))
+        let first = outcome_of_magnitude(turned(angle.quarter, false), cosine);
+        (first, outcome_of_magnitude(turned(next, angle.below), sine))
     }
 }
 
@@ -112,7 +112,7 @@ fn outcomes_at<T: Word>(angle: Angle, frac: u32) -> (Outcome<T>, Outcome<T>)
 /// 61 on words of 64 bits. The results at whole quarter turns are exact, and none is above 1 or below -1. Precondition:
 /// `frac` is at most the width.
 #[inline(always)]
-pub fn sin_cos_turns_of<T: Word>(a: T, frac: u32) -> (Outcome<T>, Outcome<T>)
+pub fn sin_cos_turns_of<T: RawWord>(a: T, frac: u32) -> (Outcome<T>, Outcome<T>)
     requires { frac ≤ T.BITS }
     ensures sine { (r : ℤ) × IsSine (sine_room T.BITS) (T.value a) frac r
         × StandsFor T.value T.SIGNED T.BITS r result.0 }

@@ -22,7 +22,11 @@ pub use digits::Digits;
 pub use integer::Integer;
 pub use ledger::{Count, Ledger, Silent, Steps};
 pub use narrow::Narrow;
-pub use outcome::{Outcome, Side, outcome_of, outcome_of_kept, outcome_of_whole};
-pub use policies::{checked_of, clamped_of, overflowing_of, saturating_of, strict_of, wrapping_of};
+pub use outcome::{
+    Outcome, Side, outcome_of, outcome_of_kept, outcome_of_magnitude, outcome_of_whole,
+};
+pub use policies::{
+    checked_of, clamped_of, nearest_of, overflowing_of, saturating_of, strict_of, wrapping_of,
+};
 pub use rounding::Rounding;
 pub use word::{RawWord, SignedWord, UnsignedWord, Valued, Word};

@@ -2,7 +2,7 @@
 
 ghost use Rattle.std.specs.Prelude.{◌≡◌, ℤ, Some, option_map};
 ghost use Rattle.fixed_word.specs.declared.outcome.Side.TheVariants.{Above, Below};
-ghost use Rattle.fixed_word.specs.Format.{highest, lowest};
+ghost use Rattle.fixed_word.specs.Format.{clamp, highest, lowest};
 ghost use Rattle.fixed_word.specs.Standing.{StandsFor};
 ghost use Rattle.fixed_word.specs.Policies.{checked, overflowing, wrapping, saturating};
 
@@ -37,28 +37,37 @@ pub fn wrapping_of<T: Word>(outcome: Outcome<T>) -> T
     overflowing_of(outcome).0
 }
 
+/// Returns the nearest number that fits.
+pub fn saturating_of<T: Word>(outcome: Outcome<T>) -> T
+    ensures { (x : ℤ) → StandsFor T.value T.SIGNED T.BITS x outcome
+        → Some (T.value result) ≡ saturating T.SIGNED T.BITS (Some x) }
+{
+    nearest_of(outcome)
+}
+
+/// Returns the word nearest to the number of an outcome: `saturating_of` for every word whose range is known. The end
+/// of the range is chosen before the test whether the number fits, so that loops select it without a branch.
+#[inline]
+pub fn nearest_of<T: RawWord>(outcome: Outcome<T>) -> T
+    ensures { (x : ℤ) → StandsFor T.value T.SIGNED T.BITS x outcome
+        → T.value result ≡ clamp T.SIGNED T.BITS x }
+{
+    let end: T = end_on(outcome.side);
+    match outcome.side {
+        Side::Fits => outcome.wrapped,
+        _ => end,
+    }
+}
+
 /// Returns the end of the range on the side of a number that does not fit.
 #[inline]
-fn end_of<T: Word>(side: Side) -> T
+fn end_on<T: RawWord>(side: Side) -> T
     ensures below { side ≡ Below → T.value result ≡ lowest T.SIGNED T.BITS }
     ensures above { side ≡ Above → T.value result ≡ highest T.SIGNED T.BITS }
 {
     match side {
         Side::Below => T::MIN,
         _ => T::MAX,
-    }
-}
-
-/// Returns the nearest number that fits. The end of the range is computed before the test whether the number fits, so
-/// that loops select it without a branch.
-pub fn saturating_of<T: Word>(outcome: Outcome<T>) -> T
-    ensures { (x : ℤ) → StandsFor T.value T.SIGNED T.BITS x outcome
-        → Some (T.value result) ≡ saturating T.SIGNED T.BITS (Some x) }
-{
-    let end: T = end_of(outcome.side);
-    match outcome.side {
-        Side::Fits => outcome.wrapped,
-        _ => end,
     }
 }
 

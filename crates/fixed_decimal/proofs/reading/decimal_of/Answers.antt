@@ -9,8 +9,8 @@ magnitude_of-requires g c = omega (arith, c.requires, width_at_most g.T.Valued.B
 
 pub returns-in-Ok : goal.returns-in-Ok
 returns-in-Ok g c =
-    stood g.T.Valued.value g.T.RawWord.SIGNED g.T.Valued.BITS (decimal_row c.args.text.now c.args.frac c.args.rounding) c.in-Ok.below_zero c.in-Ok.magnitude c.outcome_of.result
-    g.met.T.RawWord.width_law c.in-Ok.ensures c.outcome_of.ensures
+    stood g.T.Valued.value g.T.RawWord.SIGNED g.T.Valued.BITS (decimal_row c.args.text.now c.args.frac c.args.rounding) c.in-Ok.below_zero c.in-Ok.magnitude c.outcome_of_magnitude.result
+    g.met.T.RawWord.width_law c.in-Ok.ensures c.outcome_of_magnitude.ensures
 
 pub returns-in-Err : goal.returns-in-Err
 returns-in-Err g c =

@@ -24,7 +24,7 @@ returns-then-less-units g c =
     let is = c.in_places-less.ensures in
     let less : f * 2 ^ (f + d) ≤ s + 2 = omega arith in
     let x = subst (λ (n : ℕ). IsQuotient ((s + 2 - n) * (c.args.factor + 1)) (2 ^ 128 * 2 ^ d) u) is c.scaled.ensures in
-    (pos u, λ p q o i. up_by (unsigned_abs (g.T.Valued.value c.args.a)) c.magnitude.result f (log_room g.T.Valued.BITS) d s c.args.factor p q u c.magnitude.ensures.magnitude e o places.1 c.requires.factor c.fine_log2-units.ensures i less x, c.outcome_of.ensures)
+    (pos u, λ p q o i. up_by (unsigned_abs (g.T.Valued.value c.args.a)) c.magnitude.result f (log_room g.T.Valued.BITS) d s c.args.factor p q u c.magnitude.ensures.magnitude e o places.1 c.requires.factor c.fine_log2-units.ensures i less x, c.outcome_of_magnitude.ensures)
 
 pub returns-else-less-units : goal.returns-else-less-units
 returns-else-less-units g c =
@@ -37,4 +37,4 @@ returns-else-less-units g c =
     let is = c.in_places-less.ensures in
     let more : s + 2 < f * 2 ^ (f + d) = let t : s + 2 < c.in_places-less.result = search rules in omega arith in
     let x = subst (λ (n : ℕ). IsQuotient ((n - (s + 2)) * c.args.factor) (2 ^ 128 * 2 ^ d) v) is c.scaled-else-less-units.ensures in
-    (neg_ℤ (pos (v + 1)), λ p q o i. down_by (unsigned_abs (g.T.Valued.value c.args.a)) c.magnitude.result f (log_room g.T.Valued.BITS) d s c.args.factor p q v c.magnitude.ensures.magnitude e o places.0 places.1 c.requires.factor c.fine_log2-units.ensures i more x, c.outcome_of-else-less-units.ensures)
+    (neg_ℤ (pos (v + 1)), λ p q o i. down_by (unsigned_abs (g.T.Valued.value c.args.a)) c.magnitude.result f (log_room g.T.Valued.BITS) d s c.args.factor p q v c.magnitude.ensures.magnitude e o places.0 places.1 c.requires.factor c.fine_log2-units.ensures i more x, c.outcome_of_magnitude-else-less-units.ensures)
