@@ -1,5 +1,5 @@
 -- Texts whose number is a whole number of units.
-use Rattle.std.proofs.Common.{◌≡◌, ◌==◌, ◌+◌, ◌*◌, ◌/◌, ◌%◌, ◌^◌, ◌<◌, ◌*ℤ◌, ◌++◌, ◌&&◌, ℕ, ℤ, zero, suc, pos, Bool, true, false, not, List, length, take, drop, None, Result, Ok, Err, refl, sym, ap, ◌∙◌, add-mul, mul_assoc, mul_right_comm, arith}
+use Rattle.std.proofs.Common.{◌≡◌, ◌==◌, ◌+◌, ◌*◌, ◌/◌, ◌%◌, ◌^◌, ◌<◌, ◌*ℤ◌, ◌++◌, ◌&&◌, ℕ, ℤ, zero, suc, pos, Bool, true, false, not, List, length, take, drop, None, Result, Ok, Err, if◌then◌else◌, refl, sym, ap, ◌∙◌, add-mul, mul_assoc, mul_right_comm, arith}
 use Rattle.std.specs.Str.Parse.{digits_value, starts_with_minus, without_leading_sign}
 use Rattle.std.proofs.Math.Nat.{mul-add-mod_self_right, one-le-pow}
 use Rattle.std.proofs.lemmas.Bool.{ne_eqb}
@@ -12,8 +12,10 @@ use Rattle.fixed_kernel.specs.Rounded.{IsRounded, rounded}
 use Rattle.fixed_kernel.proofs.Alikes.{signed_times}
 use Rattle.fixed_kernel.proofs.RoundedLaws.{rounded_is}
 use Rattle.std.proofs.lemmas.Int.{ints}
+use Rattle.std.specs.Result.{result_and}
 use Rattle.fixed_decimal.specs.declared.error.DecimalError.{DecimalError}
-use Rattle.fixed_decimal.specs.Decimal.{decimal_row, digits_in, exact_row, fault_in, is_exact_in, number_in, places_in, unless, unless_inexact}
+use Rattle.fixed_decimal.specs.declared.error.DecimalError.TheVariants.{Inexact}
+use Rattle.fixed_decimal.specs.Decimal.{decimal_row, digits_in, exact_row, fault_in, is_exact_in, number_in, places_in, unless}
 use Rattle.fixed_decimal.specs.inside.Reading.{IsPointAt}
 use Rattle.fixed_decimal.proofs.Decided.{rounded_by_step}
 use Rattle.fixed_decimal.proofs.Readings.{stepped_exact, unless_ok}
@@ -33,10 +35,10 @@ rounded_law f r text free =
     (rounded x d r, ap (λ o. unless o (rounded x d r)) free, rounded_is x d r (λ e. omega (arith, ints)))
 
 -- ---- a number read as exact
-only_ok : (b : Bool) (row : Result ℤ DecimalError) (a : ℤ) → unless_inexact b row ≡ ok a → (b ≡ true) × (row ≡ ok a)
-only_ok true (Ok x) a e = (refl, e)
+only_ok : (b : Bool) (row : Result ℤ DecimalError) (a : ℤ) → (if b then row else result_and row (Err Inexact)) ≡ ok a → (b ≡ true) × (row ≡ ok a)
+only_ok true row a e = (refl, e)
 only_ok false (Ok x) a e = absurd (cc)
-only_ok b (Err f) a e = absurd (cc)
+only_ok false (Err f) a e = absurd (cc)
 
 test_zero : (n : ℕ) → n == 0 ≡ true → n ≡ 0
 test_zero n e = grind (arith, nat_tests, e)

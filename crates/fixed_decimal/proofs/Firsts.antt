@@ -1,34 +1,66 @@
 -- The first number that passes a test, and the digits behind the point that it finds.
-use Rattle.std.proofs.Common.{◌≡◌, ◌+◌, ◌-◌, ◌*◌, ◌/◌, ◌%◌, ◌^◌, ◌≤◌, ◌*ℤ◌, ℕ, ℤ, zero, suc, pos, nat_abs, Bool, true, false, refl, sym, ap, ◌∙◌, pow-add, mul_assoc, mul_comm, arith}
+use Rattle.std.proofs.Common.{◌≡◌, ◌+◌, ◌-◌, ◌*◌, ◌/◌, ◌%◌, ◌^◌, ◌<◌, ◌≤◌, ◌*ℤ◌, ℕ, ℤ, zero, suc, pos, nat_abs, Bool, true, false, not, cond, refl, sym, ap, ◌∙◌, pow-add, add-zero, zero-add, mul_assoc, mul_comm, arith}
+use Rattle.std.specs.List.{position_or_len, range_with_len}
 use Rattle.std.specs.Ordering.{int_eq}
 use Rattle.std.proofs.Math.Nat.{mul-mod_left, one-le-pow}
 use Rattle.std.proofs.lemmas.Int.{ints}
 use Rattle.std.proofs.lemmas.Nat.{mul-pow}
 use Rattle.fixed_word.specs.declared.rounding.Rounding.TheVariants.{Even}
 use Rattle.fixed_kernel.specs.Rounded.{rounded}
-use Rattle.fixed_decimal.specs.Text.{IsExactAt, IsLeast, ReadsBack, first_of, reads_back, shortest, to_places}
+use Rattle.fixed_decimal.specs.Text.{IsExactAt, IsLeast, ReadsBack, reads_back, shortest, to_places}
 use Rattle.fixed_decimal.proofs.Backs.{close_enough}
 use Rattle.fixed_decimal.proofs.Enough.{enough}
 use Rattle.fixed_decimal.proofs.Trips.{reads_from_close}
 
-first_step : (b : Bool) (test : ℕ → Bool) (n m : ℕ) → test zero ≡ b → m ≤ suc n → test m ≡ true → ((k : ℕ) → k ≤ n → test (suc k) ≡ true → test (suc (first_of (λ j. test (suc j)) n)) ≡ true) → test (first_of test (suc n)) ≡ true
-first_step true test n m e le hit more = rw e e
-first_step false test n zero e le hit more = absurd (cc)
-first_step false test n (suc m) e le hit more = rw e (more m (omega arith) hit)
+true_false : false ≡ true → ⊥
+true_false e = cc
 
-first_holds : (test : ℕ → Bool) (n m : ℕ) → m ≤ n → test m ≡ true → test (first_of test n) ≡ true
-first_holds test zero zero le hit = hit
-first_holds test zero (suc m) le hit = absurd (omega arith)
-first_holds test (suc n) m le hit = first_step (test zero) test n m refl le hit (first_holds (λ j. test (suc j)) n)
+add_one : (a k : ℕ) → a + (1 + k) ≡ a + 1 + k
+add_one a k = omega arith
 
-least_step : (b : Bool) (test : ℕ → Bool) (n k : ℕ) → test zero ≡ b → test k ≡ true → ((j : ℕ) → test (suc j) ≡ true → first_of (λ i. test (suc i)) n ≤ j) → first_of test (suc n) ≤ k
-least_step true test n k e hit more = rw e (omega arith)
-least_step false test n zero e hit more = absurd (cc)
-least_step false test n (suc k) e hit more = let f = more k hit in rw e (omega arith)
+add_suc : (a k : ℕ) → a + suc k ≡ a + 1 + k
+add_suc a k = omega arith
 
-first_least : (test : ℕ → Bool) (n k : ℕ) → test k ≡ true → first_of test n ≤ k
-first_least test zero k hit = omega arith
-first_least test (suc n) k hit = least_step (test zero) test n k refl hit (first_least (λ j. test (suc j)) n)
+one_more : (m : ℕ) → 1 + m ≡ suc m
+one_more m = omega arith
+
+-- the first number from a on that passes the test, less a, or n if none of n numbers does
+abbrev pub first : (ℕ → Bool) → ℕ → ℕ → ℕ
+first test a n = position_or_len test (range_with_len a n)
+
+first_here : (test : ℕ → Bool) (a n : ℕ) → test a ≡ true → first test a (suc n) ≡ 0
+first_here test a n e = ap (λ b. cond (not b) (1 + first test (a + 1) n) 0) e
+
+first_later : (test : ℕ → Bool) (a n : ℕ) → test a ≡ false → first test a (suc n) ≡ 1 + first test (a + 1) n
+first_later test a n e = ap (λ b. cond (not b) (1 + first test (a + 1) n) 0) e
+
+first_step : (b : Bool) (test : ℕ → Bool) (a n m : ℕ) → test a ≡ b → m ≤ suc n → test (a + m) ≡ true → ((k : ℕ) → k ≤ n → test (a + 1 + k) ≡ true → test (a + 1 + first test (a + 1) n) ≡ true) → test (a + first test a (suc n)) ≡ true
+first_step true test a n m e le hit more = ap (λ k. test (a + k)) (first_here test a n e) ∙ ap test (add-zero a) ∙ e
+first_step false test a n zero e le hit more = absurd (true_false (sym (ap test (add-zero a) ∙ e) ∙ hit))
+first_step false test a n (suc m) e le hit more =
+    ap (λ k. test (a + k)) (first_later test a n e) ∙ ap test (add_one a (first test (a + 1) n)) ∙ more m (omega arith) (ap test (sym (add_suc a m)) ∙ hit)
+
+first_holds : (test : ℕ → Bool) (a n m : ℕ) → m ≤ n → test (a + m) ≡ true → test (a + first test a n) ≡ true
+first_holds test a zero zero le hit = hit
+first_holds test a zero (suc m) le hit = absurd (omega arith)
+first_holds test a (suc n) m le hit = first_step (test a) test a n m refl le hit (first_holds test (a + 1) n)
+
+least_step : (b : Bool) (test : ℕ → Bool) (a n k : ℕ) → test a ≡ b → test (a + k) ≡ true → ((j : ℕ) → test (a + 1 + j) ≡ true → first test (a + 1) n ≤ j) → first test a (suc n) ≤ k
+least_step true test a n k e hit more = omega (arith, first_here test a n e)
+least_step false test a n zero e hit more = absurd (true_false (sym (ap test (add-zero a) ∙ e) ∙ hit))
+least_step false test a n (suc k) e hit more = let f = more k (ap test (sym (add_suc a k)) ∙ hit) in omega (arith, first_later test a n e)
+
+first_least : (test : ℕ → Bool) (a n k : ℕ) → test (a + k) ≡ true → first test a n ≤ k
+first_least test a zero k hit = omega arith
+first_least test a (suc n) k hit = least_step (test a) test a n k refl hit (first_least test (a + 1) n)
+
+pub first_is : (test : ℕ → Bool) (a n m : ℕ) → m ≤ n → test (a + m) ≡ true → ((k : ℕ) → k < m → test (a + k) ≡ false) → first test a n ≡ m
+first_is test a zero m le hit miss = omega arith
+first_is test a (suc n) zero le hit miss = first_here test a n (ap test (sym (add-zero a)) ∙ hit)
+first_is test a (suc n) (suc m) le hit miss =
+    first_later test a n (ap test (sym (add-zero a)) ∙ miss zero (omega arith))
+    ∙ ap (λ k. 1 + k) (first_is test (a + 1) n m (omega arith) (ap test (sym (add_suc a m)) ∙ hit) (λ k lt. ap test (sym (add_suc a k)) ∙ miss (suc k) (omega arith)))
+    ∙ one_more m
 
 same_true : (x a : ℤ) → x ≡ a → int_eq x a ≡ true
 same_true x a e = grind (arith, ints, e)
@@ -51,8 +83,8 @@ found_law a f le =
     let p = f * 3 / 10 + 1 in
     let back = reads_from_close a (nat_abs a) f p refl (close_enough (nat_abs a) (10 ^ p) (2 ^ f) (one-le-pow f 2 (omega arith)) (enough f le)) in
     record {
-      holds = true_back a f (shortest a f) (first_holds (reads_back a f) 20 p (few f le) (back_true a f p back));
-      least = λ k h. first_least (reads_back a f) 20 k (back_true a f k h);
+      holds = true_back a f (shortest a f) (ap (reads_back a f) (sym (zero-add (shortest a f))) ∙ first_holds (reads_back a f) 0 20 p (few f le) (ap (reads_back a f) (zero-add p) ∙ back_true a f p back));
+      least = λ k h. first_least (reads_back a f) 0 20 k (ap (reads_back a f) (zero-add k) ∙ back_true a f k h);
     }
 
 -- the least of all is the first

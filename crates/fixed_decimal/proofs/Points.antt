@@ -15,7 +15,8 @@ use Rattle.std.proofs.lemmas.List.Sums.{passes_at_first, position_or_len_is, pre
 use lib.ListN.{get_or-eq_default}
 use Rattle.fixed_decimal.specs.inside.Reading.{IsPointAt, part_end}
 use Rattle.fixed_digits.proofs.Capping.{digit_value_is}
-use Rattle.fixed_decimal.specs.Decimal.{digits_in, fault_at, fault_of, is_point, lead}
+use Rattle.fixed_decimal.specs.Decimal.{digits_in, fault_of, is_point, lead}
+use Rattle.fixed_decimal.specs.declared.error.DecimalError.{DecimalError}
 use Rattle.fixed_decimal.specs.declared.error.DecimalError.TheVariants.{InvalidDigit, TooManyPoints}
 
 abbrev pub other : ℕ → Bool
@@ -23,6 +24,10 @@ other c = not (is_ascii_digit c)
 
 abbrev pub run : List ℕ → ℕ
 run bytes = prefix_len is_ascii_digit bytes
+
+-- why a byte at that place is no digit
+abbrev pub fault_at : ℕ → ℕ → DecimalError
+fault_at place c = if is_point c then TooManyPoints else InvalidDigit place
 
 pub digit_no_point : (c : ℕ) → is_ascii_digit c ≡ true → is_point c ≡ false
 digit_no_point c h = let d = digit_value_is c h in grind (arith, d.1)

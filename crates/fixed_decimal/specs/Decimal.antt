@@ -2,6 +2,7 @@
 use Rattle.std.specs.Prelude.{ℕ, ℤ, pos, ◌==◌, ◌+◌, ◌-◌, ◌*◌, ◌%◌, ◌^◌, ◌*ℤ◌, ◌++◌, ◌||◌, Bool, not, List, [], ◌∷◌, length, Option, Some, None, Result, Ok, Err, if◌then◌else◌, find}
 use Rattle.std.specs.Option.{option_map}
 use Rattle.std.specs.Char.{is_ascii_digit}
+use Rattle.std.specs.Result.{result_and}
 use Rattle.std.specs.List.{after_first, before_first, prefix_len}
 use Rattle.std.specs.Str.Parse.{digits_value, starts_with_minus, without_leading_sign}
 use Rattle.fixed_word.specs.Format.{with_sign}
@@ -26,12 +27,9 @@ abbrev pub lead : List ℕ → ℕ
 lead bytes = prefix_len (λ b. is_ascii_digit b || is_point b) bytes
 
 -- why the bytes are not digits alone, at least one: the first that is not a digit, or that there is none
-abbrev pub fault_at : ℕ → ℕ → DecimalError
-fault_at place b = if is_point b then TooManyPoints else InvalidDigit place
-
 abbrev pub fault_of : ℕ → List ℕ → Option DecimalError
 fault_of place [] = Some NoDigits
-fault_of place (b ∷ bs) = option_map (fault_at place) (find (λ c. not (is_ascii_digit c)) (b ∷ bs))
+fault_of place (b ∷ bs) = option_map (λ c. if is_point c then TooManyPoints else InvalidDigit place) (find (λ c. not (is_ascii_digit c)) (b ∷ bs))
 
 -- the index of the first byte after the sign that is neither a digit nor a point
 abbrev pub place_in : List ℕ → ℕ
@@ -45,19 +43,13 @@ abbrev pub unless : {A E : Type 0} → Option E → A → Result A E
 unless None x = Ok x
 unless (Some e) x = Err e
 
-abbrev pub unless_inexact : Bool → Result ℤ DecimalError → Result ℤ DecimalError
-unless_inexact is_exact (Ok x) = if is_exact then Ok x else Err Inexact
-unless_inexact is_exact (Err e) = Err e
-
 -- the number that a text's digits write, with its sign
 abbrev pub number_in : List ℕ → ℤ
 number_in text = with_sign (starts_with_minus text) (digits_value 10 (digits_in (without_leading_sign text)))
 
 -- a text's number in units of 2 ^ -f, rounded: its digits over a power of ten, times 2 ^ f
 abbrev pub decimal_row : List ℕ → ℕ → Rounding → Result ℤ DecimalError
-decimal_row text f r =
-    let bytes = without_leading_sign text in
-    unless (fault_in text) (rounded (number_in text *ℤ pos (2 ^ f)) (pos (10 ^ places_in bytes)) r)
+decimal_row text f r = unless (fault_in text) (rounded (number_in text *ℤ pos (2 ^ f)) (pos (10 ^ places_in (without_leading_sign text))) r)
 
 -- the number of the bytes after a sign is a whole number of units of 2 ^ -f
 abbrev pub is_exact_in : List ℕ → ℕ → Bool
@@ -65,4 +57,4 @@ is_exact_in bytes f = digits_value 10 (digits_in bytes) * 2 ^ f % 10 ^ places_in
 
 -- the row of a text, if its number is a whole number of units
 abbrev pub exact_row : List ℕ → ℕ → Result ℤ DecimalError
-exact_row text f = unless_inexact (is_exact_in (without_leading_sign text) f) (decimal_row text f Zero)
+exact_row text f = if is_exact_in (without_leading_sign text) f then decimal_row text f Zero else result_and (decimal_row text f Zero) (Err Inexact)

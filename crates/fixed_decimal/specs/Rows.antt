@@ -1,7 +1,7 @@
--- What each policy returns for the row of a text, which is a number of any size or an error.
-use Rattle.std.specs.Prelude.{◌≡◌, ℕ, ℤ, nat_le, Bool, not, List, Option, None, Result, Ok, Err, if◌then◌else◌}
+-- What calls return for the row of a text, which is a number of any size or an error.
+use Rattle.std.specs.Prelude.{◌≡◌, ℕ, ℤ, nat_le, Bool, List, Option, None, Result, Ok, Err, if◌then◌else◌}
 use Rattle.std.specs.Result.{result_ok}
-use Rattle.fixed_word.specs.Format.{clamp, fits, wrap}
+use Rattle.fixed_word.specs.Format.{fits}
 use Rattle.fixed_word.specs.Standing.{StandsFor}
 use Rattle.fixed_word.specs.declared.outcome.Outcome.{Outcome}
 use Rattle.fixed_word.specs.declared.rounding.Rounding.TheVariants.{Even}
@@ -20,18 +20,10 @@ IsOutcomeOf value signed n (Err e) (Err fault) = fault ≡ e
 IsOutcomeOf value signed n (Ok x) (Err fault) = ⊥
 IsOutcomeOf value signed n (Err e) (Ok outcome) = ⊥
 
+-- the row's number where it fits, and otherwise an error
 abbrev pub checked_decimal : Bool → ℕ → Result ℤ DecimalError → Result ℤ DecimalError
 checked_decimal signed n (Ok x) = if fits signed n x then Ok x else Err Overflow
 checked_decimal signed n (Err e) = Err e
-
-abbrev pub saturating_decimal : Bool → ℕ → Result ℤ DecimalError → Result ℤ DecimalError
-saturating_decimal signed n row = result_map (clamp signed n) row
-
-abbrev pub wrapping_decimal : Bool → ℕ → Result ℤ DecimalError → Result ℤ DecimalError
-wrapping_decimal signed n row = result_map (wrap signed n) row
-
-abbrev pub overflowing_decimal : Bool → ℕ → Result ℤ DecimalError → Result (ℤ × Bool) DecimalError
-overflowing_decimal signed n row = result_map (λ x. (wrap signed n x, not (fits signed n x))) row
 
 -- the number of a constant's text, to the nearest unit, if the fraction is at most the width and the number fits
 abbrev pub literal : Bool → ℕ → ℕ → List ℕ → Option ℤ

@@ -1,5 +1,6 @@
 -- The text of a number a / 2 ^ f.
-use Rattle.std.specs.Prelude.{◌≡◌, ◌≤◌, ◌+◌, ◌*◌, ◌/◌, ◌%◌, ◌^◌, ◌*ℤ◌, ◌++◌, ℕ, ℤ, zero, suc, pos, negsuc, nat_abs, Bool, List, [], ◌∷◌, if◌then◌else◌}
+use Rattle.std.specs.Prelude.{◌≡◌, ◌≤◌, ◌+◌, ◌*◌, ◌/◌, ◌%◌, ◌^◌, ◌*ℤ◌, ◌++◌, ℕ, ℤ, zero, suc, pos, negsuc, nat_abs, Bool, List, [], ◌∷◌}
+use Rattle.std.specs.List.{position_or_len, range_with_len}
 use Rattle.std.specs.Ordering.{int_eq}
 use Rattle.fixed_word.specs.Decimal.{natural_text}
 use Rattle.fixed_word.specs.declared.rounding.Rounding.{Rounding}
@@ -41,15 +42,10 @@ pub record IsLeast (P : ℕ → Type 0) (m : ℕ) : Type 0 where
   pub holds : P m
   pub least : (k : ℕ) → P k → m ≤ k
 
--- the first number from 0 on that passes the test, or n if none below n does
-abbrev pub first_of : (ℕ → Bool) → ℕ → ℕ
-first_of test zero = zero
-first_of test (suc n) = if test zero then zero else suc (first_of (λ k. test (suc k)) n)
-
 -- p digits after the point are read as a
 abbrev pub reads_back : ℤ → ℕ → ℕ → Bool
 reads_back a f p = int_eq (rounded (to_places a f p Even *ℤ pos (2 ^ f)) (pos (10 ^ p)) Even) a
 
--- how many digits after the point the shortest text has
+-- how many digits after the point the shortest text has, of which 20 are always enough
 unfoldable pub shortest : ℤ → ℕ → ℕ
-shortest a f = first_of (reads_back a f) 20
+shortest a f = position_or_len (reads_back a f) (range_with_len 0 20)

@@ -1,6 +1,7 @@
 -- What a number prints.
 use Rattle.std.proofs.Common.{◌≡◌, ◌+◌, ◌-◌, ◌≤◌, ◌<ℤ◌, ℕ, ℤ, pos, negsuc, nat_abs, Bool, true, false, nat_le, if◌then◌else◌, Option, Some, None, List, [], min, replicate, length, take, drop, length-drop, refl, sym, ap, ◌∙◌, drop-drop, append-nil, subst, cond, Result, ◌++◌, ◌/◌, arith}
 use Rattle.std.specs.Prelude.{int_lt, IsNone, IsTrue}
+use Rattle.std.specs.Option.{unwrap_or}
 use Rattle.std.specs.Fmt.{IsDefaultSpec, IsPlainFormatter, WritesInCalls, WritesOnOk, WritesStyledOnOk, char_count, formatter_spec, formatter_writer, padded_integral, padding_before, sign_text}
 use Rattle.std.specs.declared.fmt.Error.{Error}
 use Rattle.std.specs.declared.fmt.Formatter.{Formatter}
@@ -11,7 +12,7 @@ use Rattle.std.proofs.lemmas.List.{take_all}
 use Rattle.fixed_word.specs.declared.rounding.Rounding.TheVariants.{Even}
 use Rattle.fixed_decimal.proofs.Padded.{padded_text}
 use Rattle.fixed_decimal.specs.Text.{after_sign, magnitude_text, shortest, text_of, to_places}
-use Rattle.fixed_num.specs.Shown.{places_of, plain_text, styled_text}
+use Rattle.fixed_num.specs.Shown.{plain_text, styled_text}
 
 pub below_is : (b : Bool) (a : ℤ) → (IsTrue b → a <ℤ pos 0) → (a <ℤ pos 0 → IsTrue b) → b ≡ int_lt a (pos 0)
 below_is true (pos n) only back = absurd (omega (arith, ints, only refl))
@@ -40,11 +41,11 @@ all_shown a f p q start from b buffer digits le least long below e text is =
     ∙ ap (λ k. magnitude_text (nat_abs (to_places a f k Even)) k ++ replicate (q - k) 48) least
     ∙ padded_text a f q le
 
-pub styled_is : (layout : Bool → List ℕ → List ℕ → List ℕ) (precision : Option ℕ) (a : ℤ) (f n p : ℕ) (b : Bool) (digits : List ℕ) → f ≤ n → b ≡ int_lt a (pos 0) → p ≡ places_of precision a f → digits ≡ magnitude_text (nat_abs (to_places a f p Even)) p
+pub styled_is : (layout : Bool → List ℕ → List ℕ → List ℕ) (precision : Option ℕ) (a : ℤ) (f n p : ℕ) (b : Bool) (digits : List ℕ) → f ≤ n → b ≡ int_lt a (pos 0) → p ≡ unwrap_or precision (shortest a f) → digits ≡ magnitude_text (nat_abs (to_places a f p Even)) p
     → Some (layout b [] digits) ≡ styled_text layout precision a f n
 styled_is layout precision a f n p b digits le below places shown =
     let fits : nat_le f n ≡ true = grind (arith, nat_tests) in
-    let q = places_of precision a f in
+    let q = unwrap_or precision (shortest a f) in
     ap (λ c. Some (layout c [] digits)) below
     ∙ ap (λ ds. Some (layout (int_lt a (pos 0)) [] ds)) (shown ∙ ap (λ k. magnitude_text (nat_abs (to_places a f k Even)) k) places)
     ∙ sym (ap (λ c. if c then Some (layout (int_lt a (pos 0)) [] (magnitude_text (nat_abs (to_places a f q Even)) q)) else None) fits)
@@ -84,6 +85,6 @@ plain_is a f n le =
     let fits : nat_le f n ≡ true = grind (arith, nat_tests) in
     sym (ap (λ c. if c then Some (text_of a f (shortest a f) Even) else None) fits)
 
-pub no_precision : (o : Option ℕ) (a : ℤ) (f : ℕ) → IsNone o → places_of o a f ≡ shortest a f
+pub no_precision : (o : Option ℕ) (a : ℤ) (f : ℕ) → IsNone o → unwrap_or o (shortest a f) ≡ shortest a f
 no_precision None a f h = refl
 no_precision (Some p) a f h = cc

@@ -2,9 +2,10 @@
 
 ghost use Rattle.std.specs.Prelude.{◌≡◌, ◌≤◌, drop};
 ghost use Rattle.std.specs.Fmt.{padded_integral, spec_precision};
+ghost use Rattle.std.specs.Option.{unwrap_or};
 ghost use Rattle.fixed_word.specs.declared.rounding.Rounding.TheVariants.{Even};
 ghost use Rattle.fixed_decimal.specs.Text.{shortest, text_of};
-ghost use Rattle.fixed_num.specs.Shown.{places_of, plain_text, styled_text};
+ghost use Rattle.fixed_num.specs.Shown.{plain_text, styled_text};
 
 use crate::format::Fixed;
 use fixed_decimal::{pad_number, shortest_places, write_decimal};
@@ -80,7 +81,7 @@ impl<T: RawWord, const F: u32> Fixed<T, F> {
 /// Returns how many digits after the point a number has with that precision.
 fn places_for<T: RawWord>(bits: T, frac: u32, precision: Option<usize>) -> usize
     requires { frac ≤ T.BITS }
-    ensures { result ≡ places_of precision (T.value bits) frac }
+    ensures { result ≡ unwrap_or precision (shortest (T.value bits) frac) }
 {
     match precision {
         Some(places) => places,

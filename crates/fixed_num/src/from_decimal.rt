@@ -1,11 +1,11 @@
 //! Numbers from decimals, by each policy.
 
-ghost use Rattle.std.specs.Prelude.{◌≡◌, ◌≤◌, ℤ, IfOk, Ok};
-ghost use Rattle.fixed_word.specs.Format.{InRange};
+ghost use Rattle.std.specs.Prelude.{◌≡◌, ◌≤◌, ℤ, not, IfOk, Ok};
+ghost use Rattle.fixed_word.specs.Format.{InRange, clamp, fits, wrap};
 ghost use Rattle.fixed_word.specs.Standing.{StandsFor};
 ghost use Rattle.fixed_word.specs.declared.rounding.Rounding.TheVariants.{Even};
 ghost use Rattle.fixed_decimal.specs.Decimal.{decimal_row, exact_row};
-ghost use Rattle.fixed_decimal.specs.Rows.{checked_decimal, overflowing_decimal, result_map, saturating_decimal, wrapping_decimal};
+ghost use Rattle.fixed_decimal.specs.Rows.{checked_decimal, result_map};
 
 use crate::format::{Fixed, Held, Number};
 use fixed_decimal::{DecimalError, decimal_of, exact_decimal_of};
@@ -27,19 +27,20 @@ pub trait FromDecimal: Number {
     fn saturating_from_str(text: &str) -> Result<Self, DecimalError>
         requires { Self.FRACTION ≤ Self.BITS }
         ensures { result_map Self.number result
-            ≡ saturating_decimal Self.SIGNED Self.BITS (decimal_row text.now Self.FRACTION Even) };
+            ≡ result_map (clamp Self.SIGNED Self.BITS) (decimal_row text.now Self.FRACTION Even) };
 
     /// Returns the number, wrapped.
     fn wrapping_from_str(text: &str) -> Result<Self, DecimalError>
         requires { Self.FRACTION ≤ Self.BITS }
         ensures { result_map Self.number result
-            ≡ wrapping_decimal Self.SIGNED Self.BITS (decimal_row text.now Self.FRACTION Even) };
+            ≡ result_map (wrap Self.SIGNED Self.BITS) (decimal_row text.now Self.FRACTION Even) };
 
     /// Returns the number, wrapped, and whether it does not fit.
     fn overflowing_from_str(text: &str) -> Result<(Self, bool), DecimalError>
         requires { Self.FRACTION ≤ Self.BITS }
         ensures { result_map (λ r. (Self.number r.0, r.1)) result
-            ≡ overflowing_decimal Self.SIGNED Self.BITS (decimal_row text.now Self.FRACTION Even) };
+            ≡ result_map (λ x. (wrap Self.SIGNED Self.BITS x, not (fits Self.SIGNED Self.BITS x)))
+                (decimal_row text.now Self.FRACTION Even) };
 
     /// Returns the number. Precondition: it fits.
     fn strict_from_str(text: &str) -> Result<Self, DecimalError>
@@ -70,13 +71,13 @@ pub trait FromDecimal: Number {
     fn saturating_from_str_round(text: &str, rounding: Rounding) -> Result<Self, DecimalError>
         requires { Self.FRACTION ≤ Self.BITS }
         ensures { result_map Self.number result
-            ≡ saturating_decimal Self.SIGNED Self.BITS (decimal_row text.now Self.FRACTION rounding) };
+            ≡ result_map (clamp Self.SIGNED Self.BITS) (decimal_row text.now Self.FRACTION rounding) };
 
     /// Returns the number, rounded as named and wrapped.
     fn wrapping_from_str_round(text: &str, rounding: Rounding) -> Result<Self, DecimalError>
         requires { Self.FRACTION ≤ Self.BITS }
         ensures { result_map Self.number result
-            ≡ wrapping_decimal Self.SIGNED Self.BITS (decimal_row text.now Self.FRACTION rounding) };
+            ≡ result_map (wrap Self.SIGNED Self.BITS) (decimal_row text.now Self.FRACTION rounding) };
 
     /// Returns the number, rounded as named and wrapped, and whether it does not fit.
     fn overflowing_from_str_round(
@@ -85,7 +86,8 @@ pub trait FromDecimal: Number {
     ) -> Result<(Self, bool), DecimalError>
         requires { Self.FRACTION ≤ Self.BITS }
         ensures { result_map (λ r. (Self.number r.0, r.1)) result
-            ≡ overflowing_decimal Self.SIGNED Self.BITS (decimal_row text.now Self.FRACTION rounding) };
+            ≡ result_map (λ x. (wrap Self.SIGNED Self.BITS x, not (fits Self.SIGNED Self.BITS x)))
+                (decimal_row text.now Self.FRACTION rounding) };
 
     /// Returns the number, rounded as named. Precondition: it fits.
     fn strict_from_str_round(text: &str, rounding: Rounding) -> Result<Self, DecimalError>

@@ -15,7 +15,7 @@ use Rattle.fixed_word.specs.declared.rounding.Rounding.TheVariants.{Even}
 use Rattle.fixed_decimal.specs.Text.{after_sign}
 use Rattle.fixed_decimal.specs.inside.Stepped.{stepped}
 use Rattle.fixed_radix.specs.declared.bases.Base.{Base}
-use Rattle.fixed_radix.specs.Bases.{base_of, base_text, exact_places, in_base, is_upper, plain_in, shown_places, styled_in}
+use Rattle.fixed_radix.specs.Bases.{base_of, base_text, exact_places, in_base, is_upper, plain_in, styled_in}
 use Rattle.fixed_radix.proofs.Powers.{pow_pow}
 use Rattle.fixed_radix.proofs.Shown.{text_longer}
 use Rattle.fixed_radix.proofs.Units.{size_in, size_longer}
@@ -60,7 +60,7 @@ padded_in b u a f p q e h is left = elim (cases_lt (max e 1) q) [
     beyond zero left more e = let one : p ≡ 1 = omega (arith, e) in ap (λ k. base_text b u (in_base b a f k) k ++ replicate (q - k) 48) one ∙ longer b u a f 0 q h (exact_more (nat_abs a) b 0 1 (2 ^ f) (one-le-pow f 2 (omega arith)) left) (omega arith)
     beyond (suc k) left more e = let one : p ≡ suc k = omega (arith, e) in ap (λ k. base_text b u (in_base b a f k) k ++ replicate (q - k) 48) one ∙ longer b u a f k q h left (omega arith)
 
-pub shown_is : (o : Option ℕ) (q e b : ℕ) (a : ℤ) (f : ℕ) → q ≡ unwrap_or o e → e ≡ exact_places b (nat_abs a) f → q ≡ shown_places o b a f
+pub shown_is : (o : Option ℕ) (q e b : ℕ) (a : ℤ) (f : ℕ) → q ≡ unwrap_or o e → e ≡ exact_places b (nat_abs a) f → q ≡ unwrap_or o (exact_places b (nat_abs a) f)
 shown_is None q e b a f is exact = is ∙ exact
 shown_is (Some p) q e b a f is exact = is
 
@@ -89,11 +89,11 @@ all_in base a f bits m e p q start u buffer digits i =
 pub exact_is : (base : Base) (a : ℤ) (f bits m e : ℕ) → 2 ^ bits ≡ base_of base → m ≡ nat_abs a → e ≡ exact_places (2 ^ bits) m f → e ≡ exact_places (base_of base) (nat_abs a) f
 exact_is base a f bits m e b s is = is ∙ ap (λ k. exact_places k m f) b ∙ ap (λ k. exact_places (base_of base) k f) s
 
-pub styled_is : (layout : Bool → List ℕ → List ℕ → List ℕ) (precision : Option ℕ) (base : Base) (a : ℤ) (f n q : ℕ) (b : Bool) (prefix digits : List ℕ) → f ≤ n → b ≡ int_lt a (pos 0) → prefix ≡ radix_prefix (base_of base) → q ≡ shown_places precision (base_of base) a f → digits ≡ base_text (base_of base) (is_upper base) (in_base (base_of base) a f q) q
+pub styled_is : (layout : Bool → List ℕ → List ℕ → List ℕ) (precision : Option ℕ) (base : Base) (a : ℤ) (f n q : ℕ) (b : Bool) (prefix digits : List ℕ) → f ≤ n → b ≡ int_lt a (pos 0) → prefix ≡ radix_prefix (base_of base) → q ≡ unwrap_or precision (exact_places (base_of base) (nat_abs a) f) → digits ≡ base_text (base_of base) (is_upper base) (in_base (base_of base) a f q) q
     → Some (layout b prefix digits) ≡ styled_in layout precision base a f n
 styled_is layout precision base a f n q b prefix digits le below pre places shown =
     let fits : nat_le f n ≡ true = grind (arith, nat_tests) in
-    let p = shown_places precision (base_of base) a f in
+    let p = unwrap_or precision (exact_places (base_of base) (nat_abs a) f) in
     ap (λ c. Some (layout c prefix digits)) below ∙ ap (λ (l : List ℕ). Some (layout (int_lt a (pos 0)) l digits)) pre
     ∙ ap (λ (ds : List ℕ). Some (layout (int_lt a (pos 0)) (radix_prefix (base_of base)) ds)) (shown ∙ ap (λ k. base_text (base_of base) (is_upper base) (in_base (base_of base) a f k) k) places)
     ∙ sym (ap (λ c. if c then Some (layout (int_lt a (pos 0)) (radix_prefix (base_of base)) (base_text (base_of base) (is_upper base) (in_base (base_of base) a f p) p)) else None) fits)

@@ -1,5 +1,5 @@
 -- Numbers in units of a power of 2.
-use Rattle.std.proofs.Common.{◌≡◌, ◌==◌, ◌+◌, ◌-◌, ◌*◌, ◌/◌, ◌%◌, ◌^◌, ◌<◌, ◌≤◌, ◌*ℤ◌, ℕ, ℤ, zero, suc, pos, nat_abs, nat_le, Bool, true, false, if◌then◌else◌, refl, sym, subst, ap, ◌∙◌, inl, inr, add-zero, mul_assoc, mul_right_comm, pow-add, arith}
+use Rattle.std.proofs.Common.{◌≡◌, ◌==◌, ◌+◌, ◌-◌, ◌*◌, ◌/◌, ◌%◌, ◌^◌, ◌<◌, ◌≤◌, ◌*ℤ◌, ℕ, ℤ, zero, suc, pos, nat_abs, nat_le, Bool, true, false, if◌then◌else◌, refl, sym, subst, ap, ◌∙◌, inl, inr, add-zero, zero-add, mul_assoc, mul_right_comm, pow-add, arith}
 use Rattle.std.proofs.Math.Nat.{mul-mod_left, one-le-pow}
 use Rattle.std.proofs.lemmas.Bool.{cases_lt}
 use Rattle.std.proofs.lemmas.Bool.Decides.{nat_tests}
@@ -9,9 +9,9 @@ use Rattle.fixed_word.specs.Format.{with_sign}
 use Rattle.fixed_word.specs.declared.rounding.Rounding.TheVariants.{Even}
 use Rattle.fixed_kernel.specs.Rounded.{rounded}
 use Rattle.fixed_kernel.proofs.Alikes.{abs_signed, signed_times}
-use Rattle.fixed_decimal.specs.Text.{first_of}
 use Rattle.fixed_decimal.specs.inside.Stepped.{stepped}
 use Rattle.fixed_decimal.proofs.Decided.{rounded_by_step}
+use Rattle.fixed_decimal.proofs.Firsts.{first_is}
 use Rattle.fixed_decimal.proofs.Parts.{joined_quotient}
 use Rattle.fixed_decimal.proofs.Readings.{stepped_exact}
 use Rattle.fixed_decimal.proofs.Trips.{signed_is}
@@ -120,16 +120,13 @@ whole_small r m f s e =
     omega arith
 
 -- ---- the fewest places that are exact
-first_is : (test : ℕ → Bool) (n m : ℕ) → m ≤ n → test m ≡ true → ((k : ℕ) → k < m → test k ≡ false) → first_of test n ≡ m
-first_is test zero m le hit miss = omega arith
-first_is test (suc n) zero le hit miss = rw hit refl
-first_is test (suc n) (suc m) le hit miss = rw (miss zero (omega arith)) (ap suc (first_is (λ k. test (suc k)) n m (omega arith) hit (λ k lt. miss (suc k) (omega arith))))
-
 in_bits : (b m f p : ℕ) → (m * (2 ^ b) ^ p % 2 ^ f == 0) ≡ (m * 2 ^ (b * p) % 2 ^ f == 0)
 in_bits b m f p = ap (λ n. m * n % 2 ^ f == 0) (pow_pow 2 b p)
 
 pub fewest : (b m f p : ℕ) → p ≤ f → (m * 2 ^ (b * p) % 2 ^ f == 0) ≡ true → ((k : ℕ) → k < p → (m * 2 ^ (b * k) % 2 ^ f == 0) ≡ false) → exact_places (2 ^ b) m f ≡ p
-fewest b m f p le hit miss = first_is (λ k. m * (2 ^ b) ^ k % 2 ^ f == 0) f p le (in_bits b m f p ∙ hit) (λ k lt. in_bits b m f k ∙ miss k lt)
+fewest b m f p le hit miss =
+    let test : ℕ → Bool = λ k. m * (2 ^ b) ^ k % 2 ^ f == 0 in
+    first_is test 0 f p le (ap test (zero-add p) ∙ in_bits b m f p ∙ hit) (λ k lt. ap test (zero-add k) ∙ in_bits b m f k ∙ miss k lt)
 
 pub test_zero : (n : ℕ) → (n == 0) ≡ true → n ≡ 0
 test_zero n e = grind (arith, nat_tests, e)

@@ -1,9 +1,11 @@
 -- Numbers in a base, with a point.
 use Rattle.std.specs.Prelude.{◌==◌, ◌*◌, ◌/◌, ◌%◌, ◌^◌, ◌*ℤ◌, ◌++◌, ℕ, ℤ, zero, suc, pos, nat_abs, int_lt, nat_le, Bool, true, false, List, [], ◌∷◌, Option, Some, None, if◌then◌else◌}
+use Rattle.std.specs.List.{position_or_len, range_with_len}
+use Rattle.std.specs.Option.{unwrap_or}
 use Rattle.std.specs.Fmt.{digit_glyph, digits, radix_prefix}
 use Rattle.fixed_word.specs.declared.rounding.Rounding.TheVariants.{Even}
 use Rattle.fixed_kernel.specs.Rounded.{rounded}
-use Rattle.fixed_decimal.specs.Text.{after_sign, first_of}
+use Rattle.fixed_decimal.specs.Text.{after_sign}
 use Rattle.fixed_radix.specs.declared.bases.Base.{Base}
 use Rattle.fixed_radix.specs.declared.bases.Base.TheVariants.{Binary, Octal, LowerHex, UpperHex}
 
@@ -31,16 +33,11 @@ base_text b upper n (suc p) = digits b upper (n / b ^ suc p) ++ 46 ∷ last_digi
 
 -- the fewest digits after the point with which m / 2 ^ f is exact
 abbrev pub exact_places : ℕ → ℕ → ℕ → ℕ
-exact_places b m f = first_of (λ p. m * b ^ p % 2 ^ f == 0) f
+exact_places b m f = position_or_len (λ p. m * b ^ p % 2 ^ f == 0) (range_with_len 0 f)
 
 -- the magnitude of a / 2 ^ f in units of b ^ -p, to the nearest
 abbrev pub in_base : ℕ → ℤ → ℕ → ℕ → ℕ
 in_base b a f p = nat_abs (rounded (a *ℤ pos (b ^ p)) (pos (2 ^ f)) Even)
-
--- how many digits after the point are shown, with that precision
-abbrev pub shown_places : Option ℕ → ℕ → ℤ → ℕ → ℕ
-shown_places None b a f = exact_places b (nat_abs a) f
-shown_places (Some p) b a f = p
 
 -- `{}`: the exact text
 abbrev pub plain_in : Base → ℤ → ℕ → ℕ → Option (List ℕ)
@@ -49,5 +46,5 @@ plain_in base a f n = let p = exact_places (base_of base) (nat_abs a) f in
 
 -- `{:#8.3}` and the like: laid out as an integer is, with its sign, its prefix and its digits
 abbrev pub styled_in : (Bool → List ℕ → List ℕ → List ℕ) → Option ℕ → Base → ℤ → ℕ → ℕ → Option (List ℕ)
-styled_in layout precision base a f n = let p = shown_places precision (base_of base) a f in
+styled_in layout precision base a f n = let p = unwrap_or precision (exact_places (base_of base) (nat_abs a) f) in
     if nat_le f n then Some (layout (int_lt a (pos 0)) (radix_prefix (base_of base)) (base_text (base_of base) (is_upper base) (in_base (base_of base) a f p) p)) else None

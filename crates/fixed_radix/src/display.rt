@@ -2,7 +2,7 @@
 
 ghost use Rattle.std.specs.Prelude.{◌≡◌, ◌≤◌, nat_abs};
 ghost use Rattle.std.specs.Fmt.{padded_integral, spec_precision};
-ghost use Rattle.fixed_radix.specs.Bases.{plain_in, shown_places, styled_in};
+ghost use Rattle.fixed_radix.specs.Bases.{plain_in, styled_in};
 
 use crate::bases::{Base, digit_bits, is_upper, prefix_of};
 use crate::digits::put_number;

@@ -1,10 +1,10 @@
 use Rattle.std.proofs.Common.{◌+◌, ◌-◌, ◌++◌, List, [], ℕ, Option, Bool, nat_abs, replicate, subst, ap, ◌∙◌, arith}
+use Rattle.std.specs.Option.{unwrap_or}
 use Rattle.std.specs.Fmt.{DisplaysOnOk, DisplaysStyledOnOk, HasWritten, WritesStyledOnOk, formatter_spec, padded_integral, spec_precision}
 use Rattle.fixed_word.specs.declared.rounding.Rounding.TheVariants.{Even}
 use Rattle.fixed_kernel.proofs.Alikes.{width_at_most}
 use Rattle.fixed_decimal.proofs.Laid.{none_counted}
-use Rattle.fixed_decimal.specs.Text.{after_sign, magnitude_text, to_places}
-use Rattle.fixed_num.specs.Shown.{places_of}
+use Rattle.fixed_decimal.specs.Text.{after_sign, magnitude_text, shortest, to_places}
 use Rattle.fixed_num.proofs.Prints.{all_shown, below_is, no_precision, plain_is, plain_written, styled_is}
 use Rattle.fixed_num.proofs.display.FixedDisplay.fmt.Goals as goal
 
@@ -19,7 +19,7 @@ returns-in-Ok-clause-styled g c =
     let s = c.is_below_zero-below_zero.ensures.sign in
     let below = below_is c.is_below_zero-below_zero.result a s.0 s.1 in
     let all = all_shown a f c.min-places.result shown start (start + c.from.result) c.is_below_zero-below_zero.result c.write_decimal-start.new.buffer c.in-Ok.digits.now (omega (arith, c.if-BITS.false, c.BITS.ensures, width_at_most g.T.Valued.BITS g.met.T.RawWord.width_law)) c.min-places.ensures c.write_decimal-start.array_long below (ap (λ k. start + k) c.from.ensures) c.write_decimal-start.ensures.text c.in-Ok.ensures.cases.0 in
-    let places = c.places_for-shown.ensures ∙ ap (λ p. places_of p a f) c.precision.ensures.value in
+    let places = c.places_for-shown.ensures ∙ ap (λ p. unwrap_or p (shortest a f)) c.precision.ensures.value in
     subst (λ (o : Option (List ℕ)). DisplaysStyledOnOk g.W.Write.write_str_gives c.args.f.now c.pad_number.result o c.pad_number.new.f)
     (styled_is (padded_integral spec) (spec_precision spec) a f g.T.Valued.BITS shown c.is_below_zero-below_zero.result digits (omega (arith, c.if-BITS.false, c.BITS.ensures)) below places all)
     c.pad_number.ensures
