@@ -40,7 +40,7 @@ pub trait FromDecimal: Number {
         requires { Self.FRACTION ≤ Self.BITS }
         ensures { result_map (λ r. (Self.number r.0, r.1)) result
             ≡ result_map (λ x. (wrap Self.SIGNED Self.BITS x, not (fits Self.SIGNED Self.BITS x)))
-                (decimal_row text.now Self.FRACTION Even) };
+            (decimal_row text.now Self.FRACTION Even) };
 
     /// Returns the number. Precondition: it fits.
     fn strict_from_str(text: &str) -> Result<Self, DecimalError>
@@ -87,7 +87,7 @@ pub trait FromDecimal: Number {
         requires { Self.FRACTION ≤ Self.BITS }
         ensures { result_map (λ r. (Self.number r.0, r.1)) result
             ≡ result_map (λ x. (wrap Self.SIGNED Self.BITS x, not (fits Self.SIGNED Self.BITS x)))
-                (decimal_row text.now Self.FRACTION rounding) };
+            (decimal_row text.now Self.FRACTION rounding) };
 
     /// Returns the number, rounded as named. Precondition: it fits.
     fn strict_from_str_round(text: &str, rounding: Rounding) -> Result<Self, DecimalError>
