@@ -1,6 +1,6 @@
 //! Numbers from decimals, by each policy.
 
-ghost use Rattle.std.specs.Prelude.{◌≡◌, ◌≤◌, ℤ, not, IfOk, Ok};
+ghost use Rattle.std.specs.Prelude.{◌≡◌, ◌≤◌, ℤ, Bool, not, IfOk, Ok};
 ghost use Rattle.fixed_word.specs.Format.{InRange, clamp, fits, wrap};
 ghost use Rattle.fixed_word.specs.Standing.{StandsFor};
 ghost use Rattle.fixed_word.specs.declared.rounding.Rounding.TheVariants.{Even};
@@ -39,7 +39,7 @@ pub trait FromDecimal: Number {
     fn overflowing_from_str(text: &str) -> Result<(Self, bool), DecimalError>
         requires { Self.FRACTION ≤ Self.BITS }
         ensures { result_map (λ r. (Self.number r.0, r.1)) result
-            ≡ result_map (λ x. (wrap Self.SIGNED Self.BITS x, not (fits Self.SIGNED Self.BITS x)))
+            ≡ result_map {B = ℤ × Bool} (λ x. (wrap Self.SIGNED Self.BITS x, not (fits Self.SIGNED Self.BITS x)))
             (decimal_row text.now Self.FRACTION Even) };
 
     /// Returns the number. Precondition: it fits.
@@ -86,7 +86,7 @@ pub trait FromDecimal: Number {
     ) -> Result<(Self, bool), DecimalError>
         requires { Self.FRACTION ≤ Self.BITS }
         ensures { result_map (λ r. (Self.number r.0, r.1)) result
-            ≡ result_map (λ x. (wrap Self.SIGNED Self.BITS x, not (fits Self.SIGNED Self.BITS x)))
+            ≡ result_map {B = ℤ × Bool} (λ x. (wrap Self.SIGNED Self.BITS x, not (fits Self.SIGNED Self.BITS x)))
             (decimal_row text.now Self.FRACTION rounding) };
 
     /// Returns the number, rounded as named. Precondition: it fits.
