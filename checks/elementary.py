@@ -96,11 +96,14 @@ ONE_OPERAND = {
     "log10": (lambda a, one, frac: mp.log10(mpf(a) / one) * one, above_0, LOG),
     "exp2": (exact_exponential(mp.log(2)), any_operand, EXP2),
     "exp": (exact_exponential(mpf(1)), any_operand, EXP),
+    "sin": (lambda a, one, frac: mp.sin(mpf(a) / one) * one, any_operand, Nearest(41, 61)),
+    "cos": (lambda a, one, frac: mp.cos(mpf(a) / one) * one, any_operand, Nearest(41, 61)),
     "sin_turns": (lambda a, one, frac: mp.sinpi(2 * mpf(a % one) / one) * one, any_operand, Nearest(41, 61)),
     "cos_turns": (lambda a, one, frac: mp.cospi(2 * mpf(a % one) / one) * one, any_operand, Nearest(41, 61)),
 }
 TWO_OPERANDS = {
     "hypot": (lambda a, b, one, frac: mp.sqrt(mpf(a) ** 2 + mpf(b) ** 2), any_operand, EXACT),
+    "atan2": (lambda y, x, one, frac: mp.atan2(y, x) * one, off_origin, Nearest(40, 60)),
     "atan2_turns": (lambda y, x, one, frac: mp.atan2(y, x) / (2 * mp.pi) * one, off_origin, Nearest(40, 60)),
     "pow": (lambda a, b, one, frac: power(mp.log(mpf(a) / one), mpf(b) / one, one), above_0, POW),
 }

@@ -2,9 +2,9 @@
  * computation in 64 bits, with each rounding; bad fractions, zero divisors and negative roots by their codes. Numbers of
  * other formats and doubles into 8 bits, and numbers of every word as doubles. Texts that are drawn, read; and each number
  * of 8 bits at each fraction as text, as printf prints it. Elementary functions of numbers of every word that are drawn,
- * beside those of long doubles. Intervals over samples of ends, and polynomials and filters
- * and sums of products over arrays that are drawn, against plain loops; each code. By every word, blocks beside single calls, and null pointers
- * to arrays whose count is 0.
+ * beside those of long doubles; and sines and cosines of some radians and angles of some points, beside computed ones.
+ * Intervals over samples of ends, and polynomials and filters and sums of products over arrays that are drawn, against
+ * plain loops; each code. By every word, blocks beside single calls, and null pointers to arrays whose count is 0.
  * From the top:
  *
  *     cc -O2 -Wall -Wextra -Iinclude -o /tmp/face checks/face.c LIBRARY -lm && /tmp/face
@@ -565,15 +565,15 @@ static void compare_near(const char *call, int32_t want, long double exact, long
   }
 
 /* The sine and the cosine by one call, beside two calls. */
-#define BOTH(name, a, f)                                                                                           \
+#define BOTH(name, of_sine, of_cosine, of_both, a, f)                                                              \
   {                                                                                                                \
     word_of_##name sine = 77, cosine = 78, left_sine = 77, left_cosine = 78;                                       \
-    const int32_t got = name##_sin_cos_turns(a, f, &sine, &cosine);                                                \
-    const int32_t of_sine = name##_sin_turns(a, f, &left_sine), of_cosine = name##_cos_turns(a, f, &left_cosine);  \
-    if (of_sine != FIXED_OK || of_cosine != FIXED_OK) left_sine = 77, left_cosine = 78;                            \
+    const int32_t got = name##_##of_both(a, f, &sine, &cosine);                                                    \
+    const int32_t one = name##_##of_sine(a, f, &left_sine), other = name##_##of_cosine(a, f, &left_cosine);        \
+    if (one != FIXED_OK || other != FIXED_OK) left_sine = 77, left_cosine = 78;                                    \
     compared++;                                                                                                    \
-    if (got != (of_sine != FIXED_OK ? of_sine : of_cosine) || sine != left_sine || cosine != left_cosine) {        \
-      printf(#name "_sin_cos_turns: code %d, %lld, %lld\n", (int)got, (long long)sine, (long long)cosine);         \
+    if (got != (one != FIXED_OK ? one : other) || sine != left_sine || cosine != left_cosine) {                    \
+      printf(#name "_" #of_both ": code %d, %lld, %lld\n", (int)got, (long long)sine, (long long)cosine);          \
       exit(1);                                                                                                     \
     }                                                                                                              \
   }
@@ -589,6 +589,7 @@ static void compare_near(const char *call, int32_t want, long double exact, long
       const word b = (word)((draw(INT64_MIN / 4, INT64_MAX / 4) * 7) >> draw(0, 63));                              \
       const uint32_t f = (uint32_t)draw(0, width + 1);                                                             \
       const int32_t above = a > 0 ? FIXED_OK : FIXED_NOT_POSITIVE;                                                 \
+      const int32_t no_angle = a == 0 && b == 0 ? FIXED_NO_ANGLE : FIXED_OK;                                       \
       const long double unit = ldexpl(1, -(int)f), of_a = (long double)a * unit, of_b = (long double)b * unit;     \
       const long double angle = 2 * acosl(-1) * fmodl(of_a, 1), logs = 64 * unit + 64 / unit;                      \
       const long double power = powl(of_a, of_b) / unit;                                                           \
@@ -603,11 +604,15 @@ static void compare_near(const char *call, int32_t want, long double exact, long
       NEAR(name, exp2, FIXED_OK, exp2l(of_a) / unit, exp2l(of_a) / unit, a, f)                                     \
       NEAR(name, exp, FIXED_OK, expl(of_a) / unit, expl(of_a) / unit, a, f)                                        \
       NEAR(name, pow, above, power, power, a, b, f)                                                                \
+      NEAR(name, sin, FIXED_OK, sinl(of_a) / unit + 0.5L, 1 / unit, a, f)                                          \
+      NEAR(name, cos, FIXED_OK, cosl(of_a) / unit + 0.5L, 1 / unit, a, f)                                          \
       NEAR(name, sin_turns, FIXED_OK, sinl(angle) / unit + 0.5L, 1 / unit, a, f)                                   \
       NEAR(name, cos_turns, FIXED_OK, cosl(angle) / unit + 0.5L, 1 / unit, a, f)                                   \
-      NEAR(name, atan2_turns, a == 0 && b == 0 ? FIXED_NO_ANGLE : FIXED_OK,                                        \
+      NEAR(name, atan2, no_angle, atan2l(of_a, of_b) / unit + 0.5L, (bits < 64 ? 16384 : 1) / unit, a, b, f)       \
+      NEAR(name, atan2_turns, no_angle,                                                                            \
            atan2l(of_a, of_b) / (2 * acosl(-1)) / unit + 0.5L, (bits < 64 ? 4096 : 1) / unit, a, b, f)             \
-      BOTH(name, a, f)                                                                                             \
+      BOTH(name, sin, cos, sin_cos, a, f)                                                                          \
+      BOTH(name, sin_turns, cos_turns, sin_cos_turns, a, f)                                                        \
     }                                                                                                              \
   }
 
@@ -619,6 +624,88 @@ CHECK_ELEMENTARY(fixed_u8, uint8_t, 8, 0, UINT8_MAX)
 CHECK_ELEMENTARY(fixed_u16, uint16_t, 16, 0, UINT16_MAX)
 CHECK_ELEMENTARY(fixed_u32, uint32_t, 32, 0, UINT32_MAX)
 CHECK_ELEMENTARY(fixed_u64, uint64_t, 64, 0, UINT64_MAX)
+
+/* A sine or a cosine of radians, or an angle in radians, beside the nearest one, which was computed by integers of 400
+ * bits. */
+static void compare_radians(const char *call, int32_t got, int64_t left, int64_t nearest) {
+  compared++;
+  if (got != FIXED_OK || left != nearest) {
+    printf("%s: code %d, %lld, but %lld is nearest\n", call, (int)got, (long long)left, (long long)nearest);
+    exit(1);
+  }
+}
+
+#define RADIANS(name, a, f, nearest_sine, nearest_cosine)                                                          \
+  {                                                                                                                \
+    word_of_##name sine = 77, cosine = 78;                                                                         \
+    const int32_t of_sine = name##_sin(a, f, &sine), of_cosine = name##_cos(a, f, &cosine);                        \
+    compare_radians(#name "_sin", of_sine, (int64_t)sine, nearest_sine);                                           \
+    compare_radians(#name "_cos", of_cosine, (int64_t)cosine, nearest_cosine);                                     \
+  }
+
+/* Among these are 355 radians, which are almost 113 half turns, and the ends of words. */
+static void check_radians(void) {
+  RADIANS(fixed_i8, 16, 4, 13, 9)
+  RADIANS(fixed_i8, -128, 3, 2, -8)
+  RADIANS(fixed_u8, 255, 8, 215, 139)
+  RADIANS(fixed_i16, -32768, 12, -4052, -596)
+  RADIANS(fixed_u16, 40000, 15, 30780, 11239)
+  RADIANS(fixed_i32, 65536, 16, 55147, 35409)
+  RADIANS(fixed_i32, -23265280, 16, 2, -65536)
+  RADIANS(fixed_i32, INT32_MAX, 16, 60808, 24442)
+  RADIANS(fixed_i32, INT32_MIN, 28, -265578832, -39057368)
+  RADIANS(fixed_u32, 2147483648, 32, 2059117009, 3769188403)
+  RADIANS(fixed_i64, -1524713390080, 32, 129469, -4294967294)
+  RADIANS(fixed_i64, INT64_MIN, 0, -1, 0)
+  RADIANS(fixed_i64, INT64_MAX, 16, -4251, -65398)
+  RADIANS(fixed_i64, 2774851117601566901, 32, 4294967296, 0)
+  RADIANS(fixed_i64, INT64_MAX, 48, 261168339838519, 104972666824542)
+  RADIANS(fixed_i64, 72057594037927936, 56, 60634374617982832, 38932884214002781)
+}
+
+#define ANGLE(name, y, x, f, nearest)                                                                              \
+  {                                                                                                                \
+    word_of_##name number = 77;                                                                                    \
+    const int32_t got = name##_atan2(y, x, f, &number);                                                            \
+    compare_radians(#name "_atan2", got, (int64_t)number, nearest);                                                \
+  }
+
+/* Among these are points on each axis and beside it, and the ends of words. */
+static void check_angles(void) {
+  ANGLE(fixed_i8, 0, 127, 5, 0)
+  ANGLE(fixed_i8, 0, -128, 5, 101)
+  ANGLE(fixed_i8, 1, 0, 5, 50)
+  ANGLE(fixed_i8, -128, 0, 5, -50)
+  ANGLE(fixed_i8, -1, -128, 5, -100)
+  ANGLE(fixed_i8, 127, -128, 4, 38)
+  ANGLE(fixed_u8, 255, 1, 7, 201)
+  ANGLE(fixed_u8, 255, 255, 8, 201)
+  ANGLE(fixed_i16, 1, -32768, 13, 25736)
+  ANGLE(fixed_i16, -32768, -32768, 13, -19302)
+  ANGLE(fixed_i16, 32767, 0, 14, 25736)
+  ANGLE(fixed_u16, 1, 65535, 16, 1)
+  ANGLE(fixed_u16, 65535, 1, 15, 51471)
+  ANGLE(fixed_i32, 65536, 65536, 16, 51472)
+  ANGLE(fixed_i32, 0, -1, 16, 205887)
+  ANGLE(fixed_i32, 3, 4, 28, 172738514)
+  ANGLE(fixed_i32, -1, INT32_MIN, 29, -1686629713)
+  ANGLE(fixed_i32, 1, INT32_MIN, 29, 1686629713)
+  ANGLE(fixed_i32, INT32_MIN, INT32_MAX, 31, -1686629714)
+  ANGLE(fixed_i32, 1, INT32_MAX, 31, 1)
+  ANGLE(fixed_u32, 1, UINT32_MAX, 32, 1)
+  ANGLE(fixed_u32, UINT32_MAX, 0, 31, 3373259426)
+  ANGLE(fixed_i64, 0, -1, 56, 226375608064910089)
+  ANGLE(fixed_i64, 1, INT64_MIN, 56, 226375608064910089)
+  ANGLE(fixed_i64, -1, INT64_MIN, 56, -226375608064910089)
+  ANGLE(fixed_i64, INT64_MIN, 0, 56, -113187804032455044)
+  ANGLE(fixed_i64, 3, 4, 32, 2763816217)
+  ANGLE(fixed_i64, -3, -4, 48, -703150259392684)
+  ANGLE(fixed_i64, 1, 1, 56, 56593902016227522)
+  ANGLE(fixed_i64, 1, INT64_MAX, 56, 0)
+  ANGLE(fixed_u64, 1, 4294967296, 32, 1)
+  ANGLE(fixed_u64, 5, 12, 56, 28447698233104430)
+  ANGLE(fixed_u64, UINT64_MAX, 1, 56, 113187804032455044)
+}
 
 /* Blocks that are drawn, by each policy, beside the single calls. */
 #define BLOCK_CALL(name, operation, single, of_block)                                                              \
@@ -854,6 +941,8 @@ int main(void) {
   check_ends_fixed_i8(), check_ends_fixed_u8();
   check_elementary_fixed_i8(), check_elementary_fixed_i16(), check_elementary_fixed_i32(), check_elementary_fixed_i64();
   check_elementary_fixed_u8(), check_elementary_fixed_u16(), check_elementary_fixed_u32(), check_elementary_fixed_u64();
+  check_radians();
+  check_angles();
   check_blocks_fixed_i8(), check_blocks_fixed_i16(), check_blocks_fixed_i32(), check_blocks_fixed_i64();
   check_blocks_fixed_u8(), check_blocks_fixed_u16(), check_blocks_fixed_u32(), check_blocks_fixed_u64();
   check_dots_fixed_i8(), check_dots_fixed_i16(), check_dots_fixed_i32(), check_dots_fixed_i64();

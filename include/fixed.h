@@ -188,10 +188,11 @@ enum {
  * exact.
  *
  * Sines and cosines are rounded to the nearest unit. They differ from the exact value by at most half a unit plus 2^-k;
- * k is 41, or 61 in words of 64 bits. The sines and cosines of 0, 1/4, 1/2 and 3/4 are exact.
+ * k is 41, or 61 in words of 64 bits. Those of 0 are exact, and in turns those of 1/4, 1/2 and 3/4, too.
  *
  * Angles of points are rounded to the nearest unit. They differ from the exact value by at most half a unit plus 2^-k
- * radians; k is 40, or 60 in words of 64 bits. Multiples of 1/8 are exact if they are whole numbers of units. */
+ * radians; k is 40, or 60 in words of 64 bits. The angle 0 is exact, and in turns multiples of 1/8, too, if they are whole
+ * numbers of units. */
 #define FIXED_ELEMENTARY(name, word)                                                                               \
   /* Writes the root of a^2 + b^2. */                                                                              \
   int32_t name##_hypot(word a, word b, word *number);                                                              \
@@ -205,11 +206,17 @@ enum {
   int32_t name##_exp2(word a, uint32_t frac, word *number);                                                        \
   int32_t name##_exp(word a, uint32_t frac, word *number);                                                         \
   int32_t name##_pow(word a, word b, uint32_t frac, word *number);                                                 \
-  /* These write the sine and the cosine of an angle of a turns: 1/4 is a right angle. */                          \
+  /* These write the sine and the cosine of an angle of a radians. */                                              \
+  int32_t name##_sin(word a, uint32_t frac, word *number);                                                         \
+  int32_t name##_cos(word a, uint32_t frac, word *number);                                                         \
+  /* Writes both. Fails with FIXED_OUT_OF_RANGE if one of both does not fit: both are then unchanged. */           \
+  int32_t name##_sin_cos(word angle, uint32_t frac, word *sine, word *cosine);                                     \
+  /* These do the same with an angle of a turns: 1/4 is a right angle. */                                          \
   int32_t name##_sin_turns(word a, uint32_t frac, word *number);                                                   \
   int32_t name##_cos_turns(word a, uint32_t frac, word *number);                                                   \
-  /* Writes both. Fails with FIXED_OUT_OF_RANGE if one of both does not fit: both are then unchanged. */           \
   int32_t name##_sin_cos_turns(word angle, uint32_t frac, word *sine, word *cosine);                               \
+  /* Writes the angle of the point (x, y) in radians, from -pi to pi. Fails with FIXED_NO_ANGLE if both are 0. */   \
+  int32_t name##_atan2(word y, word x, uint32_t frac, word *number);                                               \
   /* Writes the angle of the point (x, y) in turns, from -1/2 to 1/2. Fails with FIXED_NO_ANGLE if both are 0. */  \
   int32_t name##_atan2_turns(word y, word x, uint32_t frac, word *number);
 

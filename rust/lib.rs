@@ -231,7 +231,9 @@ pub use strict::{
     UnwrappedUnsigned,
 };
 pub use turns::{
-    CheckedTurns, OverflowingTurns, SaturatingTurns, StrictTurns, UnwrappedTurns, WrappingTurns,
+    CheckedRadians, CheckedTurns, OverflowingRadians, OverflowingTurns, SaturatingRadians,
+    SaturatingTurns, StrictRadians, StrictTurns, UnwrappedRadians, UnwrappedTurns, WrappingRadians,
+    WrappingTurns,
 };
 pub use word::{RawWord, SignedWord, UnsignedWord, Word};
 
@@ -248,6 +250,10 @@ pub mod prelude {
     pub use crate::{
         CheckedNatural, OverflowingNatural, SaturatingNatural, StrictNatural, UnwrappedNatural,
         WrappingNatural,
+    };
+    pub use crate::{
+        CheckedRadians, OverflowingRadians, SaturatingRadians, StrictRadians, UnwrappedRadians,
+        WrappingRadians,
     };
     pub use crate::{
         CheckedTurns, OverflowingTurns, SaturatingTurns, StrictTurns, UnwrappedTurns, WrappingTurns,

@@ -163,10 +163,22 @@ macro_rules! rows {
             |a, b| a.saturating_pow(b),
         );
         row::<$format>(
+            "sin",
+            [-8.0, 8.0],
+            |a, _| a.sin(),
+            |a, _| a.saturating_sin(),
+        );
+        row::<$format>(
             "sin_turns",
             [-8.0, 8.0],
             |a, _| (a * TAU).sin(),
             |a, _| a.saturating_sin_turns(),
+        );
+        row::<$format>(
+            "atan2",
+            [-100.0, 100.0],
+            |a, b| a.atan2(b),
+            |a, b| a.saturating_atan2(b),
         );
         row::<$format>(
             "atan2_turns",

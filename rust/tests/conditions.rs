@@ -216,6 +216,13 @@ stops! {
     turns_origin, "the coordinates are not both 0", turns::atan2_turns_of(0_u8, 0, 8);
     turns_zeros, "the coordinates are not both 0", byte(0).wrapping_atan2_turns(byte(0));
     turns_angle, "the number fits", FixedI8::<8>::from_bits(0).strict_atan2_turns(FixedI8::from_bits(-1));
+    radians_fraction, "the fraction frac is at most the width", turns::cos_of(1_u8, 9);
+    radians_sine, "the number fits", FixedU8::<4>::from_bits(64).strict_sin();
+    radians_cosine, "the number fits", FixedI8::<7>::from_bits(0).unwrapped_cos();
+    radians_both, "the number fits", FixedI8::<7>::from_bits(0).strict_sin_cos();
+    radians_origin, "the coordinates are not both 0", turns::atan2_of(0_u8, 0, 8);
+    radians_zeros, "the coordinates are not both 0", byte(0).saturating_atan2(byte(0));
+    radians_angle, "the number fits", FixedI8::<7>::from_bits(1).strict_atan2(FixedI8::from_bits(0));
     ops_divisor, "the divisor is not 0", byte(0).recip();
     ops_root, "the number is not below 0", byte(-1).sqrt();
     ops_product_of_none, "the number 1 fits", ops::product::<i8, 7>(&[]);

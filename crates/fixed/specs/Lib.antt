@@ -20,6 +20,8 @@ pub use Rattle.fixed_natural.specs.Bases
 pub use Rattle.fixed_natural.specs.Logs
 pub use Rattle.fixed_natural.specs.Exps
 pub use Rattle.fixed_natural.specs.Pows
+pub use Rattle.fixed_turns.specs.RadianAngles
+pub use Rattle.fixed_turns.specs.Radians
 pub use Rattle.fixed_turns.specs.Series
 pub use Rattle.fixed_turns.specs.Sines
 pub use Rattle.fixed_convert.specs.Convert

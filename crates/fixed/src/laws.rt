@@ -12,5 +12,7 @@ pub use fixed_num::laws::{cast_law, mean_law, order_law};
 pub use fixed_ops::laws::fold_law;
 pub use fixed_policy::laws::{loss_law, order_law as sum_order_law};
 pub use fixed_root::laws::root_law;
-pub use fixed_turns::laws::{angle_law, cosine_law, pi_law, sine_law};
+pub use fixed_turns::laws::{
+    angle_law, cosine_law, pi_law, radian_angle_law, radian_law, sine_law,
+};
 pub use fixed_word::laws::{clamp_law, fits_law, quotient_law, return_law, wrap_law};

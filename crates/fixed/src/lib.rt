@@ -10,7 +10,6 @@ pub mod example;
 pub mod kernel;
 pub mod laws;
 pub mod logarithms;
-pub mod roots;
 
 pub use fixed_bits::BitWord;
 pub use fixed_cast::{
@@ -43,7 +42,13 @@ pub use fixed_strict::{
     StrictUnsigned, Unwrapped, UnwrappedMulAdd, UnwrappedProducts, UnwrappedRounded,
     UnwrappedSigned, UnwrappedUnsigned,
 };
+
+// Between the two lists, since `rt fmt` splits a list of more than 100 names.
+pub mod roots;
+
 pub use fixed_turns::{
-    CheckedTurns, OverflowingTurns, SaturatingTurns, StrictTurns, UnwrappedTurns, WrappingTurns,
+    CheckedRadians, CheckedTurns, OverflowingRadians, OverflowingTurns, SaturatingRadians,
+    SaturatingTurns, StrictRadians, StrictTurns, UnwrappedRadians, UnwrappedTurns, WrappingRadians,
+    WrappingTurns,
 };
 pub use fixed_word::{Narrow, RawWord, SignedWord, UnsignedWord, Valued, Word};

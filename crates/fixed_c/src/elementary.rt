@@ -15,6 +15,8 @@ ghost use Rattle.fixed_natural.specs.Exps.{IsExp};
 ghost use Rattle.fixed_natural.specs.Logs.{IsLn, IsLog10, log_room};
 ghost use Rattle.fixed_natural.specs.Pows.{IsPow};
 ghost use Rattle.fixed_turns.specs.Angles.{IsAngleOf, turn_room};
+ghost use Rattle.fixed_turns.specs.RadianAngles.{IsRadianAngle};
+ghost use Rattle.fixed_turns.specs.Radians.{IsRadianCosine, IsRadianSine};
 ghost use Rattle.fixed_turns.specs.Sines.{IsCosine, IsSine, both, sine_room};
 ghost use Rattle.fixed_c.specs.declared.answer.Code.TheVariants.{OutOfRange};
 ghost use Rattle.fixed_c.specs.Answers.{at_fraction, row_or};
@@ -23,7 +25,10 @@ ghost use Rattle.fixed_c.specs.Near.{NearAnswers, NearPairAnswers, NumberAnswers
 use crate::answer::Code;
 use fixed_elementary::{exp2_of, hypot_of, log2_of, recip_sqrt_of};
 use fixed_natural::{exp_of, ln_of, log10_of, pow_of};
-use fixed_turns::{atan2_turns_of, cos_turns_of, sin_cos_turns_of, sin_turns_of};
+use fixed_turns::{
+    atan2_of, atan2_turns_of, cos_of, cos_turns_of, sin_cos_of, sin_cos_turns_of, sin_of,
+    sin_turns_of,
+};
 use fixed_word::{Outcome, RawWord, Word, checked_of};
 
 /// Returns whether `a` is positive.
@@ -206,6 +211,50 @@ pub(crate) fn pow<T: Word>(a: T, b: T, frac: u32, number: &mut T) -> i32
     leave(pow_of(a, b, frac), number)
 }
 
+/// Writes the sine of `a / 2^frac` radians, rounded to the nearest. It differs from the exact sine by at most half a
+/// unit plus `2^-k`, where k is 41 on words of up to 32 bits and 61 on words of 64 bits. The sine of 0 is exact. Fails
+/// with `FractionPastWidth` if `frac` is greater than the width, and with `OutOfRange` if the number does not fit.
+#[inline]
+pub(crate) fn sin<T: Word>(a: T, frac: u32, number: &mut T) -> i32
+    ensures { NearAnswers T.value T.SIGNED T.BITS (at_fraction T.BITS frac allowed)
+        (IsRadianSine (sine_room T.BITS) (T.value a) frac) number.old number.new result }
+{
+    if frac > T::BITS {
+        return Code::FractionPastWidth.number();
+    }
+    leave(sin_of(a, frac), number)
+}
+
+/// Writes the cosine of `a / 2^frac` radians, rounded to the nearest. It differs from the exact cosine by at most half
+/// a unit plus `2^-k`, where k is 41 on words of up to 32 bits and 61 on words of 64 bits. The cosine of 0 is exact.
+/// Fails with `FractionPastWidth` if `frac` is greater than the width, and with `OutOfRange` if the number does not
+/// fit.
+#[inline]
+pub(crate) fn cos<T: Word>(a: T, frac: u32, number: &mut T) -> i32
+    ensures { NearAnswers T.value T.SIGNED T.BITS (at_fraction T.BITS frac allowed)
+        (IsRadianCosine (sine_room T.BITS) (T.value a) frac) number.old number.new result }
+{
+    if frac > T::BITS {
+        return Code::FractionPastWidth.number();
+    }
+    leave(cos_of(a, frac), number)
+}
+
+/// Writes the sine and the cosine of `a / 2^frac` radians, as `sin` and `cos` do. Fails with `FractionPastWidth` if
+/// `frac` is greater than the width, and with `OutOfRange` if one of both does not fit: both numbers are then
+/// unchanged.
+#[inline]
+pub(crate) fn sin_cos<T: Word>(a: T, frac: u32, sine: &mut T, cosine: &mut T) -> i32
+    ensures { NearPairAnswers T.value T.SIGNED T.BITS (at_fraction T.BITS frac allowed)
+        (IsRadianSine (sine_room T.BITS) (T.value a) frac) (IsRadianCosine (sine_room T.BITS) (T.value a) frac)
+        (sine.old, cosine.old) (sine.new, cosine.new) result }
+{
+    if frac > T::BITS {
+        return Code::FractionPastWidth.number();
+    }
+    leave_both(sin_cos_of(a, frac), sine, cosine)
+}
+
 /// Writes the sine of `a / 2^frac` turns, rounded to the nearest. It differs from the exact sine by at most half a unit
 /// plus `2^-k`, where k is 41 on words of up to 32 bits and 61 on words of 64 bits. Sines of whole quarter turns are
 /// exact. Fails with `FractionPastWidth` if `frac` is greater than the width, and with `OutOfRange` if the number does
@@ -249,6 +298,24 @@ pub(crate) fn sin_cos_turns<T: Word>(a: T, frac: u32, sine: &mut T, cosine: &mut
         return Code::FractionPastWidth.number();
     }
     leave_both(sin_cos_turns_of(a, frac), sine, cosine)
+}
+
+/// Writes the angle of the point `(x, y)` in units of `2^-frac` radians, from -pi to pi, rounded to the nearest. It
+/// differs from the exact angle by at most half a unit plus `2^-k` radians, where k is 40 on words of up to 32 bits and
+/// 60 on words of 64 bits. The angle 0 is exact. Fails with `FractionPastWidth` if `frac` is greater than the width,
+/// with `NoAngle` if both coordinates are 0, and with `OutOfRange` if the number does not fit.
+#[inline]
+pub(crate) fn atan2<T: Word>(y: T, x: T, frac: u32, number: &mut T) -> i32
+    ensures { NearAnswers T.value T.SIGNED T.BITS (at_fraction T.BITS frac (off_origin (T.value y) (T.value x)))
+        (IsRadianAngle (sine_room T.BITS) (T.value x) (T.value y) frac) number.old number.new result }
+{
+    if frac > T::BITS {
+        return Code::FractionPastWidth.number();
+    }
+    if is_origin(y, x) {
+        return Code::NoAngle.number();
+    }
+    leave(atan2_of(y, x, frac), number)
 }
 
 /// Writes the angle of the point `(x, y)` in units of `2^-frac` turns, from -1/2 to 1/2 turns, rounded to the nearest.

@@ -29,10 +29,16 @@ pub(crate) enum NearCall<T> {
     Exp(T, u32),
     /// The number `a` to the power of `b`.
     Pow(T, T, u32),
+    /// The sine of `a` radians.
+    Sin(T, u32),
+    /// The cosine of `a` radians.
+    Cos(T, u32),
     /// The sine of `a` turns.
     SinTurns(T, u32),
     /// The cosine of `a` turns.
     CosTurns(T, u32),
+    /// The angle of the point `(x, y)` in radians, of which `y` is first.
+    Atan2(T, T, u32),
     /// The angle of the point `(x, y)` in turns, of which `y` is first.
     Atan2Turns(T, T, u32),
 }
@@ -52,8 +58,11 @@ pub(crate) fn near_of<T: Word>(call: NearCall<T>, number: &mut T) -> i32
         NearCall::Exp2(a, frac) => elementary::exp2(a, frac, number),
         NearCall::Exp(a, frac) => elementary::exp(a, frac, number),
         NearCall::Pow(a, b, frac) => elementary::pow(a, b, frac, number),
+        NearCall::Sin(a, frac) => elementary::sin(a, frac, number),
+        NearCall::Cos(a, frac) => elementary::cos(a, frac, number),
         NearCall::SinTurns(a, frac) => elementary::sin_turns(a, frac, number),
         NearCall::CosTurns(a, frac) => elementary::cos_turns(a, frac, number),
+        NearCall::Atan2(y, x, frac) => elementary::atan2(y, x, frac, number),
         NearCall::Atan2Turns(y, x, frac) => elementary::atan2_turns(y, x, frac, number),
     }
 }

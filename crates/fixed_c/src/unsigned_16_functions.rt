@@ -12,6 +12,8 @@ ghost use Rattle.fixed_natural.specs.Exps.{IsExp};
 ghost use Rattle.fixed_natural.specs.Logs.{IsLn, IsLog10, log_room};
 ghost use Rattle.fixed_natural.specs.Pows.{IsPow};
 ghost use Rattle.fixed_turns.specs.Angles.{IsAngleOf, turn_room};
+ghost use Rattle.fixed_turns.specs.RadianAngles.{IsRadianAngle};
+ghost use Rattle.fixed_turns.specs.Radians.{IsRadianCosine, IsRadianSine};
 ghost use Rattle.fixed_turns.specs.Sines.{IsCosine, IsSine, sine_room};
 ghost use Rattle.fixed_c.specs.Answers.{at_fraction};
 ghost use Rattle.fixed_c.specs.FilterBlocks.{FilterBlockAnswers, left_of};
@@ -122,6 +124,40 @@ pub extern "C" fn fixed_u16_pow(a: u16, b: u16, frac: u32, number: &mut u16) -> 
     near(NearCall::Pow(a, b, frac), number)
 }
 
+/// Writes the sine of `a / 2^frac` radians, rounded to the nearest within the bound of `IsRadianSine`. Fails with
+/// `FractionPastWidth` or `OutOfRange`.
+#[unsafe(no_mangle)]
+pub extern "C" fn fixed_u16_sin(a: u16, frac: u32, number: &mut u16) -> i32
+    ensures { NearAnswers pos false 16
+        (at_fraction 16 frac allowed) (IsRadianSine (sine_room 16) (pos a) frac)
+        number.old number.new result }
+{
+    near(NearCall::Sin(a, frac), number)
+}
+
+/// Writes the cosine of `a / 2^frac` radians, rounded to the nearest within the bound of `IsRadianCosine`. Fails with
+/// `FractionPastWidth` or `OutOfRange`.
+#[unsafe(no_mangle)]
+pub extern "C" fn fixed_u16_cos(a: u16, frac: u32, number: &mut u16) -> i32
+    ensures { NearAnswers pos false 16
+        (at_fraction 16 frac allowed) (IsRadianCosine (sine_room 16) (pos a) frac)
+        number.old number.new result }
+{
+    near(NearCall::Cos(a, frac), number)
+}
+
+/// Writes the sine and the cosine of `angle / 2^frac` radians, as `fixed_u16_sin` and `fixed_u16_cos` do. Fails with
+/// `FractionPastWidth`, or with `OutOfRange` if one of both does not fit: both numbers are then unchanged.
+#[unsafe(no_mangle)]
+pub extern "C" fn fixed_u16_sin_cos(angle: u16, frac: u32, sine: &mut u16, cosine: &mut u16) -> i32
+    ensures { NearPairAnswers pos false 16
+        (at_fraction 16 frac allowed) (IsRadianSine (sine_room 16) (pos angle) frac)
+        (IsRadianCosine (sine_room 16) (pos angle) frac)
+        (sine.old, cosine.old) (sine.new, cosine.new) result }
+{
+    elementary::sin_cos(angle, frac, sine, cosine)
+}
+
 /// Writes the sine of `a / 2^frac` turns, rounded to the nearest within the bound of `IsSine`. Fails with
 /// `FractionPastWidth` or `OutOfRange`.
 #[unsafe(no_mangle)]
@@ -158,6 +194,17 @@ pub extern "C" fn fixed_u16_sin_cos_turns(
         (sine.old, cosine.old) (sine.new, cosine.new) result }
 {
     elementary::sin_cos_turns(angle, frac, sine, cosine)
+}
+
+/// Writes the angle of the point `(x, y)` in units of `2^-frac` radians, from -pi to pi, rounded to the nearest within
+/// the bound of `IsRadianAngle`. Fails with `FractionPastWidth`, `NoAngle` or `OutOfRange`.
+#[unsafe(no_mangle)]
+pub extern "C" fn fixed_u16_atan2(y: u16, x: u16, frac: u32, number: &mut u16) -> i32
+    ensures { NearAnswers pos false 16
+        (at_fraction 16 frac (off_origin (pos y) (pos x))) (IsRadianAngle (sine_room 16) (pos x) (pos y) frac)
+        number.old number.new result }
+{
+    near(NearCall::Atan2(y, x, frac), number)
 }
 
 /// Writes the angle of the point `(x, y)` in units of `2^-frac` turns, from -1/2 to 1/2 turns, rounded to the nearest

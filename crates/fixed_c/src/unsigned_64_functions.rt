@@ -12,6 +12,8 @@ ghost use Rattle.fixed_natural.specs.Exps.{IsExp};
 ghost use Rattle.fixed_natural.specs.Logs.{IsLn, IsLog10, log_room};
 ghost use Rattle.fixed_natural.specs.Pows.{IsPow};
 ghost use Rattle.fixed_turns.specs.Angles.{IsAngleOf, turn_room};
+ghost use Rattle.fixed_turns.specs.RadianAngles.{IsRadianAngle};
+ghost use Rattle.fixed_turns.specs.Radians.{IsRadianCosine, IsRadianSine};
 ghost use Rattle.fixed_turns.specs.Sines.{IsCosine, IsSine, sine_room};
 ghost use Rattle.fixed_c.specs.Answers.{at_fraction};
 ghost use Rattle.fixed_c.specs.FilterBlocks.{FilterBlockAnswers, left_of};
@@ -122,6 +124,40 @@ pub extern "C" fn fixed_u64_pow(a: u64, b: u64, frac: u32, number: &mut u64) -> 
     near(NearCall::Pow(a, b, frac), number)
 }
 
+/// Writes the sine of `a / 2^frac` radians, rounded to the nearest within the bound of `IsRadianSine`. Fails with
+/// `FractionPastWidth` or `OutOfRange`.
+#[unsafe(no_mangle)]
+pub extern "C" fn fixed_u64_sin(a: u64, frac: u32, number: &mut u64) -> i32
+    ensures { NearAnswers pos false 64
+        (at_fraction 64 frac allowed) (IsRadianSine (sine_room 64) (pos a) frac)
+        number.old number.new result }
+{
+    near(NearCall::Sin(a, frac), number)
+}
+
+/// Writes the cosine of `a / 2^frac` radians, rounded to the nearest within the bound of `IsRadianCosine`. Fails with
+/// `FractionPastWidth` or `OutOfRange`.
+#[unsafe(no_mangle)]
+pub extern "C" fn fixed_u64_cos(a: u64, frac: u32, number: &mut u64) -> i32
+    ensures { NearAnswers pos false 64
+        (at_fraction 64 frac allowed) (IsRadianCosine (sine_room 64) (pos a) frac)
+        number.old number.new result }
+{
+    near(NearCall::Cos(a, frac), number)
+}
+
+/// Writes the sine and the cosine of `angle / 2^frac` radians, as `fixed_u64_sin` and `fixed_u64_cos` do. Fails with
+/// `FractionPastWidth`, or with `OutOfRange` if one of both does not fit: both numbers are then unchanged.
+#[unsafe(no_mangle)]
+pub extern "C" fn fixed_u64_sin_cos(angle: u64, frac: u32, sine: &mut u64, cosine: &mut u64) -> i32
+    ensures { NearPairAnswers pos false 64
+        (at_fraction 64 frac allowed) (IsRadianSine (sine_room 64) (pos angle) frac)
+        (IsRadianCosine (sine_room 64) (pos angle) frac)
+        (sine.old, cosine.old) (sine.new, cosine.new) result }
+{
+    elementary::sin_cos(angle, frac, sine, cosine)
+}
+
 /// Writes the sine of `a / 2^frac` turns, rounded to the nearest within the bound of `IsSine`. Fails with
 /// `FractionPastWidth` or `OutOfRange`.
 #[unsafe(no_mangle)]
@@ -158,6 +194,17 @@ pub extern "C" fn fixed_u64_sin_cos_turns(
         (sine.old, cosine.old) (sine.new, cosine.new) result }
 {
     elementary::sin_cos_turns(angle, frac, sine, cosine)
+}
+
+/// Writes the angle of the point `(x, y)` in units of `2^-frac` radians, from -pi to pi, rounded to the nearest within
+/// the bound of `IsRadianAngle`. Fails with `FractionPastWidth`, `NoAngle` or `OutOfRange`.
+#[unsafe(no_mangle)]
+pub extern "C" fn fixed_u64_atan2(y: u64, x: u64, frac: u32, number: &mut u64) -> i32
+    ensures { NearAnswers pos false 64
+        (at_fraction 64 frac (off_origin (pos y) (pos x))) (IsRadianAngle (sine_room 64) (pos x) (pos y) frac)
+        number.old number.new result }
+{
+    near(NearCall::Atan2(y, x, frac), number)
 }
 
 /// Writes the angle of the point `(x, y)` in units of `2^-frac` turns, from -1/2 to 1/2 turns, rounded to the nearest

@@ -1,8 +1,12 @@
 pub mod AngleLaws
+pub mod Beside
+pub mod Bisected
 pub mod Coordinates
 pub mod Nesting
 pub mod Pi
 pub mod Quarters
+pub mod RadianSines
+pub mod Splits
 pub mod Sides
 pub mod Sums
 pub mod TurnLaws

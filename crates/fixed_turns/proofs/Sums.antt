@@ -4,7 +4,7 @@ use Rattle.std.specs.Prelude.{nat_le, if◌then◌else◌}
 use Rattle.std.proofs.lemmas.Nat.{mul-le, pow-add, pow_pos}
 use Rattle.std.proofs.Math.Nat.{le_of_mul-le-mul_right, mul-le-mul_right, mul-le-mul_left}
 use Rattle.fixed_turns.specs.Series.{Fraction, cosine_series, nested, sine_series, squared}
-use Rattle.fixed_turns.specs.Sines.{IsNear, IsSumOf, pi, radians, sine_room}
+use Rattle.fixed_turns.specs.Sines.{IsNear, IsSumAt, radians, sine_room}
 use Rattle.fixed_turns.specs.inside.Rests.{IsClose, IsLessened, IsNestedTo, IsRounded, IsUnder, quotients, reach, slack}
 use Rattle.fixed_turns.proofs.Nesting.{lessened_close, nested_part, quotient_high, quotient_low, square_part, square_under}
 
@@ -18,9 +18,9 @@ by_bits : (n : ℕ) → (quotients n ≤ 10) × ((slack 2 (quotients n) (quotien
 by_bits n = far (nat_le n 32)
 
 -- ---- the square
-pub square_small : (q t : ℕ) → q ≤ 0xc90fdaa22168c234 → t * 2 ^ 64 ≤ q * q → 8 * t ≤ 5 * 2 ^ 64
+pub square_small : (q t : ℕ) → q ≤ 0xc910000000000000 → t * 2 ^ 64 ≤ q * q → 8 * t ≤ 5 * 2 ^ 64
 square_small q t l h =
-    let a = mul-le q q 0xc90fdaa22168c234 0xc90fdaa22168c234 l l in
+    let a = mul-le q q 0xc910000000000000 0xc910000000000000 l l in
     omega arith
 
 close_at : (square first count w n : ℕ) (y : Fraction) → count ≤ 10 → IsUnder 5 square y → IsNestedTo square first count count w → IsClose (slack first count count) w (nested y first (n + 10))
@@ -30,7 +30,7 @@ close_at square first count w n y few u h =
     let a = subst (λ (j : ℕ). IsClose (slack first count count) w (nested y j (n + (10 - count) + count))) e (h y (n + (10 - count)) u) in
     subst (λ (j : ℕ). IsClose (slack first count count) w (nested y first j)) d a
 
-pub sine_close : (x : Fraction) (q t w s bits n : ℕ) → IsUnder 2 q x → q ≤ 0xc90fdaa22168c234 → t * 2 ^ 64 ≤ q * q → q * q < (t + 1) * 2 ^ 64
+pub sine_close : (x : Fraction) (q t w s bits n : ℕ) → IsUnder 2 q x → q ≤ 0xc910000000000000 → t * 2 ^ 64 ≤ q * q → q * q < (t + 1) * 2 ^ 64
     → IsNestedTo t 2 (quotients bits) (quotients bits) w → IsLessened q w s → IsClose (reach bits) s (sine_series x (n + 10))
 sine_close x q t w s bits n u l low high h less =
     let b = by_bits bits in
@@ -44,7 +44,7 @@ sine_close x q t w s bits n u l low high h less =
     let e : (2 + c) * 2 ^ 64 ≤ reach bits * 2 ^ 64 = mul-le-mul_right (2 ^ 64) (omega (arith, b.1.0)) in
     lessened_close x (nested y 2 (n + 10)) q w s c 2 (reach bits) u (omega arith) part.1 close less (omega arith)
 
-pub cosine_close : (x : Fraction) (q t w bits n : ℕ) → IsUnder 2 q x → q ≤ 0xc90fdaa22168c234 → t * 2 ^ 64 ≤ q * q → q * q < (t + 1) * 2 ^ 64 → w < 2 ^ 64
+pub cosine_close : (x : Fraction) (q t w bits n : ℕ) → IsUnder 2 q x → q ≤ 0xc910000000000000 → t * 2 ^ 64 ≤ q * q → q * q < (t + 1) * 2 ^ 64 → w < 2 ^ 64
     → IsNestedTo t 1 (quotients bits) (quotients bits) w → IsClose (reach bits) (2 ^ 64 - w) (cosine_series x (n + 10))
 cosine_close x q t w bits n u l low high less h =
     let b = by_bits bits in
@@ -159,16 +159,21 @@ one_rounded f v r l e round =
     let d = le_of_mul-le-mul_right a (pow_pos (64 - f)) in
     omega arith
 
-pub sum_of : (series : Fraction → ℕ → Fraction) (bits rest f e r v : ℕ) → f ≤ 64 → ((p n : ℕ) → 0xc90fdaa22168c234 * 10 ^ 39 ≤ p * 2 ^ 62 → p * 2 ^ 62 ≤ 0xc90fdaa22168c235 * 10 ^ 39 → IsClose (reach bits) v (series (radians p rest f) (n + 10)))
-    → v ≤ 2 ^ 64 → IsRounded v (64 - f) r → (rest ≡ 0 → r ≡ e) → IsSumOf series (sine_room bits) rest f e r
-sum_of series bits rest f e r v l close few round exact =
+pub sum_at : (series : Fraction → ℕ → Fraction) (bits f e r v : ℕ) (y : Fraction) → f ≤ 64 → ((n : ℕ) → IsClose (reach bits) v (series y (n + 10))) → v ≤ 2 ^ 64 → IsRounded v (64 - f) r → (y.num ≡ 0 → r ≡ e)
+    → IsSumAt series (sine_room bits) y f e r
+sum_at series bits f e r v y l close few round exact =
     let s = room (nat_le bits 32) in
     record {
-      low = λ n. near_by (sine_room bits) (reach bits) s (series (radians pi rest f) (n + 10)) f v r l (close pi n (omega arith) (omega arith)) round;
-      high = λ n. near_by (sine_room bits) (reach bits) s (series (radians (pi + 1) rest f) (n + 10)) f v r l (close (pi + 1) n (omega arith) (omega arith)) round;
+      near = λ n. near_by (sine_room bits) (reach bits) s (series y (n + 10)) f v r l (close n) round;
       most = most f v r l few round;
       exact = exact;
     }
+
+pub no_units : (x : ℕ) (y : Fraction) → IsUnder 2 x y → y.num ≡ 0 → x ≡ 0
+no_units x y u none =
+    let a : x * y.den ≤ 0 * 2 ^ 64 = subst (λ (j : ℕ). x * y.den ≤ j * 2 ^ 64) none u.below in
+    let d = le_of_mul-le-mul_right {m = x} {n = 0} (omega arith) u.some in
+    omega arith
 
 pub radians_of_under : (f p k x rest a b : ℕ) → k * 2 ^ f ≡ 2 ^ 64 → 0xc90fdaa22168c234 * 10 ^ 39 ≤ p * 2 ^ 62 → p * 2 ^ 62 ≤ 0xc90fdaa22168c235 * 10 ^ 39 → rest ≡ x * k → rest ≤ 2 ^ 63
     → a ≡ rest → b ≡ 0xc90fdaa22168c234 → IsUnder 2 (a * b / 2 ^ 63) (radians p x f)

@@ -20,18 +20,23 @@ pub record IsNear (k : ℕ) (y : Fraction) (f r : ℕ) : Type 0 where
 abbrev pub sine_room : ℕ → ℕ
 sine_room n = if nat_le n 32 then 41 else 61
 
--- so for each sum of more than 10 terms, with both numbers beside pi: r is at most 1, and exactly e at the angle 0
-pub record IsSumOf (series : Fraction → ℕ → Fraction) (k rest f e r : ℕ) : Type 0 where
-  pub low : (n : ℕ) → IsNear k (series (radians pi rest f) (n + 10)) f r
-  pub high : (n : ℕ) → IsNear k (series (radians (pi + 1) rest f) (n + 10)) f r
+-- so for each sum of more than 10 terms: r is at most 1, and exactly e at the angle 0
+pub record IsSumAt (series : Fraction → ℕ → Fraction) (k : ℕ) (y : Fraction) (f e r : ℕ) : Type 0 where
+  pub near : (n : ℕ) → IsNear k (series y (n + 10)) f r
   pub most : r ≤ 2 ^ f
-  pub exact : rest ≡ 0 → r ≡ e
+  pub exact : y.num ≡ 0 → r ≡ e
 
--- r is the sine of q quarter turns and a rest: by the sine or the cosine of the rest; a half turn changes the sign
-unfoldable pub IsSineAt : ℕ → ℕ → Bool → ℕ → ℕ → ℤ → Type 0
-IsSineAt k zero below rest f r = (m : ℕ) × (r ≡ with_sign below m) × IsSumOf sine_series k rest f 0 m
-IsSineAt k (suc zero) below rest f r = (m : ℕ) × (r ≡ pos m) × IsSumOf cosine_series k rest f (2 ^ f) m
-IsSineAt k (suc (suc q)) below rest f r = IsSineAt k q below rest f (neg_ℤ r)
+-- r is the sine of q quarter turns and y radians, which may lie below 0: by the sine or the cosine of y; a half turn
+-- changes the sign
+unfoldable pub IsSineBy : ℕ → ℕ → Bool → Fraction → ℕ → ℤ → Type 0
+IsSineBy k zero below y f r = (m : ℕ) × (r ≡ with_sign below m) × IsSumAt sine_series k y f 0 m
+IsSineBy k (suc zero) below y f r = (m : ℕ) × (r ≡ pos m) × IsSumAt cosine_series k y f (2 ^ f) m
+IsSineBy k (suc (suc q)) below y f r = IsSineBy k q below y f (neg_ℤ r)
+
+-- so with both numbers beside pi, where the rest is in units of 2^-f quarter turns
+pub record IsSineAt (k q : ℕ) (below : Bool) (rest f : ℕ) (r : ℤ) : Type 0 where
+  pub low : IsSineBy k q below (radians pi rest f) f r
+  pub high : IsSineBy k q below (radians (pi + 1) rest f) f r
 
 -- a units of 2^-f turns are whole turns, q quarters and a rest of an eighth of a turn at most, which may lie below 0
 pub record IsAngle (a : ℤ) (f q : ℕ) (below : Bool) (rest : ℕ) : Type 0 where

@@ -6,7 +6,8 @@ ghost use Rattle.fixed_turns.specs.inside.Rests.{IsParted};
 
 use fixed_word::RawWord;
 
-/// A number of quarter turns, and a rest in units of `2^-64` quarter turns, which is subtracted if `below`.
+/// A number of quarter turns, and a rest, which is subtracted if `below`. The unit of the rest is `2^-64` of a quarter
+/// turn or of a radian, as the function says that returns it.
 #[derive(Clone, Copy)]
 pub(crate) struct Angle {
     pub(crate) quarter: u64,

@@ -1,12 +1,15 @@
 //! A guess at the angle of a point. No contract states how near the guess is: the search returns a correct result from
 //! any start.
 
-ghost use Rattle.std.specs.Prelude.{◌≤◌, ◌<◌, ◌*◌, ◌^◌};
+ghost use Rattle.std.specs.Prelude.{◌≤◌, ◌<◌, ◌+◌, ◌*◌, ◌^◌};
 
 use crate::series::{cosine, high, radians_of, sine};
 
 /// 2 over pi, in units of `2^-64`: how many quarter turns a radian is.
 const QUARTERS: u64 = 0xa2f9_836e_4e44_1529;
+
+/// A quarter turn in radians, in units of `2^-64`.
+const QUARTER: u128 = 0x1921f_b544_42d1_8469;
 
 /// The largest rest, which is an eighth of a turn, in units of `2^-64` quarter turns.
 const EIGHTH: u64 = 1 << 63;
@@ -94,4 +97,22 @@ pub(crate) fn guess(a: u64, b: u64, bits: u32, frac: u32) -> u64
     requires most { frac ≤ 64 }
 {
     ((rest_near(a, b, bits, frac) >> (65 - frac)) + 1) / 2
+}
+
+/// Returns about the angle of a point in units of `2^-frac` radians, from 0 to pi. The point is `y` above the origin, and
+/// `x` to its right or, if `left`, to its left.
+#[inline(always)]
+pub(crate) fn radians_near(left: bool, x: u64, y: u64, bits: u32, frac: u32) -> u128
+    requires some { 0 < x + y }
+    requires most { frac ≤ 64 }
+{
+    let rest = rest_near(x.max(y), x.min(y), bits, (frac + 2).min(64));
+    let beside = u128::from(radians_of(rest));
+    let angle = match (y <= x, left) {
+        (true, false) => beside,
+        (true, true) => 2 * QUARTER - beside,
+        (false, true) => QUARTER + beside,
+        (false, false) => QUARTER - beside,
+    };
+    (angle + ((1 << (64 - frac)) >> 1)) >> (64 - frac)
 }

@@ -1,8 +1,10 @@
 //! Laws of sines, cosines and angles of points. These functions do nothing: the contract of each is the law.
 
-ghost use Rattle.std.specs.Prelude.{◌≡◌, ◌≢◌, ◌+◌, ◌*◌, ◌^◌, ◌<◌, ◌+ℤ◌, ◌*ℤ◌, ◌≤ℤ◌, ℕ, ℤ, true, pos, neg_ℤ};
+ghost use Rattle.std.specs.Prelude.{◌≡◌, ◌≢◌, ◌+◌, ◌*◌, ◌^◌, ◌<◌, ◌+ℤ◌, ◌*ℤ◌, ◌<ℤ◌, ◌≤ℤ◌, ℕ, ℤ, true, pos, neg_ℤ};
 ghost use Rattle.fixed_word.specs.Format.{InRange};
 ghost use Rattle.fixed_turns.specs.Angles.{IsAngleOf};
+ghost use Rattle.fixed_turns.specs.RadianAngles.{IsRadianAngle};
+ghost use Rattle.fixed_turns.specs.Radians.{IsRadianCosine, IsRadianSine};
 ghost use Rattle.fixed_turns.specs.Series.{sine_series};
 ghost use Rattle.fixed_turns.specs.Sines.{IsCosine, IsSine, pi, radians};
 
@@ -29,6 +31,22 @@ pub fn cosine_law()
     ensures fits { (k n f : ℕ) (a r : ℤ) → f + 1 < n → IsCosine k a f r → InRange true n r }
 {}
 
+/// In radians, the sine of 0 is 0 and its cosine is 1. A number that meets the bound for the cosine of an angle also
+/// meets it for minus the angle, and the negative of one that meets it for the sine does so for minus the angle. No sine
+/// or cosine is above 1 or below -1. On signed words whose largest number is at least 1, each one fits.
+pub fn radian_law()
+    ensures sine_of_zero { (k f : ℕ) (r : ℤ) → IsRadianSine k (pos 0) f r → r ≡ pos 0 }
+    ensures cosine_of_zero { (k f : ℕ) (r : ℤ) → IsRadianCosine k (pos 0) f r → r ≡ pos (2 ^ f) }
+    ensures sine_of_minus { (k f : ℕ) (a r : ℤ) → IsRadianSine k a f r → IsRadianSine k (neg_ℤ a) f (neg_ℤ r) }
+    ensures cosine_of_minus { (k f : ℕ) (a r : ℤ) → IsRadianCosine k a f r → IsRadianCosine k (neg_ℤ a) f r }
+    ensures sine_least { (k f : ℕ) (a r : ℤ) → IsRadianSine k a f r → neg_ℤ (pos (2 ^ f)) ≤ℤ r }
+    ensures sine_most { (k f : ℕ) (a r : ℤ) → IsRadianSine k a f r → r ≤ℤ pos (2 ^ f) }
+    ensures cosine_least { (k f : ℕ) (a r : ℤ) → IsRadianCosine k a f r → neg_ℤ (pos (2 ^ f)) ≤ℤ r }
+    ensures cosine_most { (k f : ℕ) (a r : ℤ) → IsRadianCosine k a f r → r ≤ℤ pos (2 ^ f) }
+    ensures sine_fits { (k n f : ℕ) (a r : ℤ) → f + 1 < n → IsRadianSine k a f r → InRange true n r }
+    ensures cosine_fits { (k n f : ℕ) (a r : ℤ) → f + 1 < n → IsRadianCosine k a f r → InRange true n r }
+{}
+
 /// Angles of points are from -1/2 to 1/2. If y is not 0, the negative of the angle of `(x, y)` is that of `(x, -y)`. On
 /// signed words, each angle fits if F is below the width.
 pub fn angle_law()
@@ -36,6 +54,14 @@ pub fn angle_law()
     ensures most { (k f : ℕ) (x y r : ℤ) → IsAngleOf k x y f r → (pos 2 *ℤ r) ≤ℤ pos (2 ^ f) }
     ensures minus { (k f : ℕ) (x y r : ℤ) → y ≢ pos 0 → IsAngleOf k x y f r → IsAngleOf k x (neg_ℤ y) f (neg_ℤ r) }
     ensures fits { (k n f : ℕ) (x y r : ℤ) → f < n → IsAngleOf k x y f r → InRange true n r }
+{}
+
+/// In radians, the angle of a point on the axis to the right of the origin is 0. If y is not 0, the negative of a number
+/// that meets the bound for the angle of `(x, y)` meets it for that of `(x, -y)`.
+pub fn radian_angle_law()
+    ensures axis { (k f : ℕ) (x r : ℤ) → pos 0 <ℤ x → IsRadianAngle k x (pos 0) f r → r ≡ pos 0 }
+    ensures minus { (k f : ℕ) (x y r : ℤ) → y ≢ pos 0 → IsRadianAngle k x y f r
+        → IsRadianAngle k x (neg_ℤ y) f (neg_ℤ r) }
 {}
 
 /// The decimals of pi are those of the angle of half a turn, at which the series of the sine comes to 0: by `pi`, each

@@ -1,4 +1,4 @@
-//! Sines and cosines of angles in turns, and angles of points, each rounded to the nearest within a proved bound.
+//! Sines, cosines and angles of points, in turns or in radians, each rounded to the nearest within a proved bound.
 //!
 //! Each function `.._of` computes on bits, in units of `2^-frac`. It returns an [`Outcome`](fixed_word::Outcome) for
 //! each result: the wrapped result, and whether the result fits or is above or below the range. The methods of
@@ -7,12 +7,14 @@
 
 mod angles;
 mod checked;
+mod directions;
 mod guesses;
 pub mod laws;
 mod numbers;
 mod octants;
 mod overflowing;
 mod points;
+mod radians;
 mod saturating;
 mod series;
 mod sines;
@@ -20,11 +22,13 @@ mod strict;
 mod unwrapped;
 mod wrapping;
 
-pub use checked::CheckedTurns;
-pub use overflowing::OverflowingTurns;
+pub use checked::{CheckedRadians, CheckedTurns};
+pub use directions::atan2_of;
+pub use overflowing::{OverflowingRadians, OverflowingTurns};
 pub use points::atan2_turns_of;
-pub use saturating::SaturatingTurns;
+pub use radians::{cos_of, sin_cos_of, sin_of};
+pub use saturating::{SaturatingRadians, SaturatingTurns};
 pub use sines::{cos_turns_of, sin_cos_turns_of, sin_turns_of};
-pub use strict::StrictTurns;
-pub use unwrapped::UnwrappedTurns;
-pub use wrapping::WrappingTurns;
+pub use strict::{StrictRadians, StrictTurns};
+pub use unwrapped::{UnwrappedRadians, UnwrappedTurns};
+pub use wrapping::{WrappingRadians, WrappingTurns};

@@ -67,21 +67,22 @@ pub(crate) fn radians_of(rest: u64) -> u64
 }
 
 /// Returns the sine of `x` radians. If an exact angle is from `x` to `x + 2` units, the result differs from its sine by
-/// at most `2^23` units, or 8 units on words of 64 bits. Precondition: `x` is at most an eighth of a turn.
+/// at most `2^23` units, or 8 units on words of 64 bits. Precondition: `x` is
+/// hardly more than an eighth of a turn.
 #[inline(always)]
 pub(crate) fn sine(x: u64, bits: u32) -> u64
-    requires { x ≤ 0xc90fdaa22168c234 }
+    requires { x ≤ 0xc910000000000000 }
     ensures value { (y : Fraction) (n : ℕ) → IsUnder 2 x y → IsClose (reach bits) result (sine_series y (n + 10)) }
     ensures none { x ≡ 0 → result ≡ 0 }
 {
     lessened(x, nested(high(x, x), 2, quotients(bits)))
 }
 
-/// Returns the cosine of `x` radians, with the same bound. It is at most 1. Precondition: `x` is at most an eighth of a
-/// turn.
+/// Returns the cosine of `x` radians, with the same bound. It is at most 1. Precondition: `x` is hardly more
+/// than an eighth of a turn.
 #[inline(always)]
 pub(crate) fn cosine(x: u64, bits: u32) -> u128
-    requires { x ≤ 0xc90fdaa22168c234 }
+    requires { x ≤ 0xc910000000000000 }
     ensures value { (y : Fraction) (n : ℕ) → IsUnder 2 x y → IsClose (reach bits) result (cosine_series y (n + 10)) }
     ensures most { result ≤ 2 ^ 64 }
     ensures none { x ≡ 0 → result ≡ 2 ^ 64 }

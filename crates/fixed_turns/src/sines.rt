@@ -1,32 +1,34 @@
 //! Sines and cosines of angles in turns.
 
-ghost use Rattle.std.specs.Prelude.{◌≡◌, ◌≤◌, ◌+◌, ◌-◌, ◌*◌, ◌/◌, ◌^◌, ℕ, ℤ, not};
+ghost use Rattle.std.specs.Prelude.{◌≡◌, ◌≤◌, ◌+◌, ◌/◌, ◌^◌, ℤ, not};
 ghost use Rattle.fixed_word.specs.Standing.{StandsFor};
-ghost use Rattle.fixed_turns.specs.Series.{cosine_series, sine_series};
-ghost use Rattle.fixed_turns.specs.Sines.{IsCosine, IsSine, IsSineAt, IsSumOf, sine_room};
+ghost use Rattle.fixed_turns.specs.Series.{Fraction, cosine_series, sine_series};
+ghost use Rattle.fixed_turns.specs.Sines.{IsCosine, IsSine, IsSumAt, sine_room};
+ghost use Rattle.fixed_turns.specs.inside.Rests.{IsSineNear, IsUnder};
 
-use crate::angles::{Angle, part_of_turn, parted};
+use crate::angles::{part_of_turn, parted};
 use crate::series::{cosine, radians_of, rounded, sine};
 use fixed_word::{Outcome, RawWord, outcome_of_magnitude};
 
-/// Returns the sine of a rest, in units of `2^-frac`, rounded to the nearest.
+/// Returns the sine of `x 2^-64` radians, in units of `2^-frac`, rounded to the nearest.
 #[inline(always)]
-fn sine_of_rest(rest: u64, bits: u32, frac: u32) -> u128
-    requires rest { rest ≤ 2 ^ 63 }
+fn sine_of(x: u64, bits: u32, frac: u32) -> u128
+    requires small { x ≤ 0xc910000000000000 }
     requires frac { frac ≤ 64 }
-    ensures { (x : ℕ) → rest ≡ x * 2 ^ (64 - frac) → IsSumOf sine_series (sine_room bits) x frac 0 result }
+    ensures value { (y : Fraction) → IsUnder 2 x y → IsSumAt sine_series (sine_room bits) y frac 0 result }
+    ensures none { x ≡ 0 → result ≡ 0 }
 {
-    rounded(u128::from(sine(radians_of(rest), bits)), 64 - frac)
+    rounded(u128::from(sine(x, bits)), 64 - frac)
 }
 
-/// Returns the cosine of a rest, in units of `2^-frac`, rounded to the nearest.
+/// Returns the cosine of `x 2^-64` radians, in units of `2^-frac`, rounded to the nearest.
 #[inline(always)]
-fn cosine_of_rest(rest: u64, bits: u32, frac: u32) -> u128
-    requires rest { rest ≤ 2 ^ 63 }
+fn cosine_of(x: u64, bits: u32, frac: u32) -> u128
+    requires small { x ≤ 0xc910000000000000 }
     requires frac { frac ≤ 64 }
-    ensures { (x : ℕ) → rest ≡ x * 2 ^ (64 - frac) → IsSumOf cosine_series (sine_room bits) x frac (2 ^ frac) result }
+    ensures { (y : Fraction) → IsUnder 2 x y → IsSumAt cosine_series (sine_room bits) y frac (2 ^ frac) result }
 {
-    rounded(cosine(radians_of(rest), bits), 64 - frac)
+    rounded(cosine(x, bits), 64 - frac)
 }
 
 /// Returns whether a number is below 0 after quarter turns, where `below` is whether it is so before them. A half turn
@@ -39,20 +41,19 @@ fn turned(quarter: u64, below: bool) -> bool
     (quarter / 2 == 1) != below
 }
 
-/// Returns the sine of quarter turns and a rest, which is subtracted if `below`.
+/// Returns the sine of quarter turns and `x 2^-64` radians, which are subtracted if `below`. If x is 0, it may stand for
+/// a small angle of either sign.
 #[inline(always)]
-fn outcome_at<T: RawWord>(quarter: u64, below: bool, rest: u64, frac: u32) -> Outcome<T>
+pub(crate) fn outcome_at<T: RawWord>(quarter: u64, below: bool, x: u64, frac: u32) -> Outcome<T>
     requires quarter { quarter ≤ 4 }
-    requires rest { rest ≤ 2 ^ 63 }
+    requires small { x ≤ 0xc910000000000000 }
     requires frac { frac ≤ 64 }
-    ensures { (x : ℕ) → rest ≡ x * 2 ^ (64 - frac)
-        → (r : ℤ) × IsSineAt (sine_room T.BITS) quarter below x frac r
-        × StandsFor T.value T.SIGNED T.BITS r result }
+    ensures { (r : ℤ) × IsSineNear (sine_room T.BITS) quarter below x frac r × StandsFor T.value T.SIGNED T.BITS r result }
 {
     if quarter % 2 == 0 {
-        outcome_of_magnitude(turned(quarter, below), sine_of_rest(rest, T::BITS, frac))
+        outcome_of_magnitude(turned(quarter, below), sine_of(x, T::BITS, frac))
     } else {
-        outcome_of_magnitude(turned(quarter, false), cosine_of_rest(rest, T::BITS, frac))
+        outcome_of_magnitude(turned(quarter, false), cosine_of(x, T::BITS, frac))
     }
 }
 
@@ -65,7 +66,7 @@ pub fn sin_turns_of<T: RawWord>(a: T, frac: u32) -> Outcome<T>
     ensures { (r : ℤ) × IsSine (sine_room T.BITS) (T.value a) frac r × StandsFor T.value T.SIGNED T.BITS r result }
 {
     let angle = parted(part_of_turn(a, frac));
-    outcome_at(angle.quarter, angle.below, angle.rest, frac)
+    outcome_at(angle.quarter, angle.below, radians_of(angle.rest), frac)
 }
 
 /// Returns the cosine of `a 2^-frac` turns, in units of `2^-frac`, rounded to the nearest. The result differs from the
@@ -78,32 +79,35 @@ pub fn cos_turns_of<T: RawWord>(a: T, frac: u32) -> Outcome<T>
     ensures { (r : ℤ) × IsCosine (sine_room T.BITS) (T.value a) frac r × StandsFor T.value T.SIGNED T.BITS r result }
 {
     let angle = parted(part_of_turn(a, frac));
-    outcome_at(angle.quarter + 1, angle.below, angle.rest, frac)
+    outcome_at(angle.quarter + 1, angle.below, radians_of(angle.rest), frac)
 }
 
-/// Returns the sine and the cosine of an angle. Preconditions: its quarter turns are at most 3, and its rest is at most
-/// an eighth of a turn.
+/// Returns the sine and the cosine of quarter turns and `x 2^-64` radians, which are subtracted if `below`. If x is 0,
+/// it may stand for a small angle of either sign.
 #[inline(always)]
-fn outcomes_at<T: RawWord>(angle: Angle, frac: u32) -> (Outcome<T>, Outcome<T>)
-    requires quarter { angle.quarter ≤ 3 }
-    requires rest { angle.rest ≤ 2 ^ 63 }
+pub(crate) fn outcomes_at<T: RawWord>(
+    quarter: u64,
+    below: bool,
+    x: u64,
+    frac: u32,
+) -> (Outcome<T>, Outcome<T>)
+    requires quarter { quarter ≤ 3 }
+    requires small { x ≤ 0xc910000000000000 }
     requires frac { frac ≤ 64 }
-    ensures sine { (x : ℕ) → angle.rest ≡ x * 2 ^ (64 - frac)
-        → (r : ℤ) × IsSineAt (sine_room T.BITS) angle.quarter angle.below x frac r
+    ensures sine { (r : ℤ) × IsSineNear (sine_room T.BITS) quarter below x frac r
         × StandsFor T.value T.SIGNED T.BITS r result.0 }
-    ensures cosine { (x : ℕ) → angle.rest ≡ x * 2 ^ (64 - frac)
-        → (r : ℤ) × IsSineAt (sine_room T.BITS) (angle.quarter + 1) angle.below x frac r
+    ensures cosine { (r : ℤ) × IsSineNear (sine_room T.BITS) (quarter + 1) below x frac r
         × StandsFor T.value T.SIGNED T.BITS r result.1 }
 {
-    let sine = sine_of_rest(angle.rest, T::BITS, frac);
-    let cosine = cosine_of_rest(angle.rest, T::BITS, frac);
-    let next = angle.quarter + 1;
-    if angle.quarter % 2 == 0 {
-        let first = outcome_of_magnitude(turned(angle.quarter, angle.below), sine);
+    let sine = sine_of(x, T::BITS, frac);
+    let cosine = cosine_of(x, T::BITS, frac);
+    let next = quarter + 1;
+    if quarter % 2 == 0 {
+        let first = outcome_of_magnitude(turned(quarter, below), sine);
         (first, outcome_of_magnitude(turned(next, false), cosine))
     } else {
-        let first = outcome_of_magnitude(turned(angle.quarter, false), cosine);
-        (first, outcome_of_magnitude(turned(next, angle.below), sine))
+        let first = outcome_of_magnitude(turned(quarter, false), cosine);
+        (first, outcome_of_magnitude(turned(next, below), sine))
     }
 }
 
@@ -119,5 +123,6 @@ pub fn sin_cos_turns_of<T: RawWord>(a: T, frac: u32) -> (Outcome<T>, Outcome<T>)
     ensures cosine { (r : ℤ) × IsCosine (sine_room T.BITS) (T.value a) frac r
         × StandsFor T.value T.SIGNED T.BITS r result.1 }
 {
-    outcomes_at(parted(part_of_turn(a, frac)), frac)
+    let angle = parted(part_of_turn(a, frac));
+    outcomes_at(angle.quarter, angle.below, radians_of(angle.rest), frac)
 }

@@ -3,9 +3,13 @@
 ghost use Rattle.std.specs.Prelude.{◌≤◌, ◌≡◌, ◌≢◌, ℤ, pos};
 ghost use Rattle.fixed_word.specs.Format.{InRange};
 ghost use Rattle.fixed_turns.specs.Angles.{IsAngleOf, turn_room};
+ghost use Rattle.fixed_turns.specs.RadianAngles.{IsRadianAngle};
+ghost use Rattle.fixed_turns.specs.Radians.{IsRadianCosine, IsRadianSine};
 ghost use Rattle.fixed_turns.specs.Sines.{IsCosine, IsSine, sine_room};
 
+use crate::directions::atan2_of;
 use crate::points::atan2_turns_of;
+use crate::radians::{cos_of, sin_cos_of, sin_of};
 use crate::sines::{cos_turns_of, sin_cos_turns_of, sin_turns_of};
 use fixed_num::{Fixed, Held, Number, exact_number};
 use fixed_word::{RawWord, Word};
@@ -63,6 +67,59 @@ pub trait StrictTurns: Number {
         ensures { IsAngleOf (turn_room Self.BITS) (Self.number x) (Self.number self) Self.FRACTION (Self.number result) };
 }
 
+/// The `strict_` calls of sines, cosines and angles of points in radians. Preconditions of each call: its results fit,
+/// and F is at most the width. Operands and results are in units of `2^-F`.
+pub trait StrictRadians: Number {
+    /// Returns the sine of an angle in radians, rounded to the nearest.
+    ///
+    /// The result differs from the exact sine by at most half a unit plus `2^-k`, where k is 41 on words of up to 32
+    /// bits and 61 on words of 64 bits. The sine of 0 is exact, and none is above 1 or below -1. Precondition: every
+    /// result that these statements allow fits.
+    fn strict_sin(self) -> Self
+        requires fraction { Self.FRACTION ≤ Self.BITS }
+        requires fits { (r : ℤ) → IsRadianSine (sine_room Self.BITS) (Self.number self) Self.FRACTION r
+            → InRange Self.SIGNED Self.BITS r }
+        ensures { IsRadianSine (sine_room Self.BITS) (Self.number self) Self.FRACTION (Self.number result) };
+
+    /// Returns the cosine of an angle in radians, rounded to the nearest.
+    ///
+    /// The result differs from the exact cosine by at most half a unit plus `2^-k`, where k is 41 on words of up to 32
+    /// bits and 61 on words of 64 bits. The cosine of 0 is exact, and none is above 1 or below -1. Precondition: every
+    /// result that these statements allow fits.
+    fn strict_cos(self) -> Self
+        requires fraction { Self.FRACTION ≤ Self.BITS }
+        requires fits { (r : ℤ) → IsRadianCosine (sine_room Self.BITS) (Self.number self) Self.FRACTION r
+            → InRange Self.SIGNED Self.BITS r }
+        ensures { IsRadianCosine (sine_room Self.BITS) (Self.number self) Self.FRACTION (Self.number result) };
+
+    /// Returns the sine and the cosine of an angle in radians, both rounded to the nearest.
+    ///
+    /// Each result differs from its exact value by at most half a unit plus `2^-k`, where k is 41 on words of up to 32
+    /// bits and 61 on words of 64 bits. The results at 0 are exact, and none is above 1 or below -1. Precondition:
+    /// every sine and every cosine that these statements allow fits.
+    fn strict_sin_cos(self) -> (Self, Self)
+        requires fraction { Self.FRACTION ≤ Self.BITS }
+        requires sine { (r : ℤ) → IsRadianSine (sine_room Self.BITS) (Self.number self) Self.FRACTION r
+            → InRange Self.SIGNED Self.BITS r }
+        requires cosine { (r : ℤ) → IsRadianCosine (sine_room Self.BITS) (Self.number self) Self.FRACTION r
+            → InRange Self.SIGNED Self.BITS r }
+        ensures sine { IsRadianSine (sine_room Self.BITS) (Self.number self) Self.FRACTION (Self.number result.0) }
+        ensures cosine { IsRadianCosine (sine_room Self.BITS) (Self.number self) Self.FRACTION (Self.number result.1) };
+
+    /// Returns the angle of the point `(x, self)` in radians, from -pi to pi, rounded to the nearest. Precondition: the
+    /// coordinates are not both 0.
+    ///
+    /// The result differs from the exact angle by at most half a unit plus `2^-k` radians, where k is 40 on words of up
+    /// to 32 bits and 60 on words of 64 bits. The angle 0 is exact. If `self` is 0 and x is below 0, the exact angle is
+    /// pi. Precondition: every result that these statements allow fits.
+    fn strict_atan2(self, x: Self) -> Self
+        requires fraction { Self.FRACTION ≤ Self.BITS }
+        requires some { Self.number x ≡ pos 0 → Self.number self ≢ pos 0 }
+        requires fits { (r : ℤ) → IsRadianAngle (sine_room Self.BITS) (Self.number x) (Self.number self) Self.FRACTION r
+            → InRange Self.SIGNED Self.BITS r }
+        ensures { IsRadianAngle (sine_room Self.BITS) (Self.number x) (Self.number self) Self.FRACTION (Self.number result) };
+}
+
 impl<T: Word, const F: u32> StrictTurns for Fixed<T, F> {
     fn strict_sin_turns(self) -> Self {
         exact_number(sin_turns_of(self.bits, F))
@@ -79,5 +136,24 @@ impl<T: Word, const F: u32> StrictTurns for Fixed<T, F> {
 
     fn strict_atan2_turns(self, x: Self) -> Self {
         exact_number(atan2_turns_of(self.bits, x.bits, F))
+    }
+}
+
+impl<T: Word, const F: u32> StrictRadians for Fixed<T, F> {
+    fn strict_sin(self) -> Self {
+        exact_number(sin_of(self.bits, F))
+    }
+
+    fn strict_cos(self) -> Self {
+        exact_number(cos_of(self.bits, F))
+    }
+
+    fn strict_sin_cos(self) -> (Self, Self) {
+        let (sine, cosine) = sin_cos_of(self.bits, F);
+        (exact_number(sine), exact_number(cosine))
+    }
+
+    fn strict_atan2(self, x: Self) -> Self {
+        exact_number(atan2_of(self.bits, x.bits, F))
     }
 }

@@ -9,5 +9,7 @@ mod found;
 #[cfg(test)]
 mod natural;
 #[cfg(test)]
+mod radians;
+#[cfg(test)]
 mod turns;
 pub mod turns_fitting;

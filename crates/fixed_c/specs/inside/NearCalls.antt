@@ -7,9 +7,11 @@ use Rattle.fixed_natural.specs.Exps.{IsExp}
 use Rattle.fixed_natural.specs.Logs.{IsLn, IsLog10, log_room}
 use Rattle.fixed_natural.specs.Pows.{IsPow}
 use Rattle.fixed_turns.specs.Angles.{IsAngleOf, turn_room}
+use Rattle.fixed_turns.specs.RadianAngles.{IsRadianAngle}
+use Rattle.fixed_turns.specs.Radians.{IsRadianCosine, IsRadianSine}
 use Rattle.fixed_turns.specs.Sines.{IsCosine, IsSine, sine_room}
 use Rattle.fixed_c.specs.declared.near_calls.NearCall.{NearCall}
-use Rattle.fixed_c.specs.declared.near_calls.NearCall.TheVariants.{Hypot, RecipSqrt, Log2, Ln, Log10, Exp2, Exp, Pow, SinTurns, CosTurns, Atan2Turns}
+use Rattle.fixed_c.specs.declared.near_calls.NearCall.TheVariants.{Hypot, RecipSqrt, Log2, Ln, Log10, Exp2, Exp, Pow, Sin, Cos, SinTurns, CosTurns, Atan2, Atan2Turns}
 use Rattle.fixed_c.specs.Answers.{at_fraction}
 use Rattle.fixed_c.specs.Near.{Allowed, allowed, off_origin, positive}
 
@@ -23,8 +25,11 @@ operands value n (Log10 a frac) = at_fraction n frac (positive (value a))
 operands value n (Exp2 a frac) = at_fraction n frac allowed
 operands value n (Exp a frac) = at_fraction n frac allowed
 operands value n (Pow a b frac) = at_fraction n frac (positive (value a))
+operands value n (Sin a frac) = at_fraction n frac allowed
+operands value n (Cos a frac) = at_fraction n frac allowed
 operands value n (SinTurns a frac) = at_fraction n frac allowed
 operands value n (CosTurns a frac) = at_fraction n frac allowed
+operands value n (Atan2 y x frac) = at_fraction n frac (off_origin (value y) (value x))
 operands value n (Atan2Turns y x frac) = at_fraction n frac (off_origin (value y) (value x))
 
 -- the number is within the bound of the function
@@ -37,6 +42,9 @@ IsNear value n (Log10 a frac) = IsLog10 (log_room n) (value a) frac
 IsNear value n (Exp2 a frac) = IsExp2Of (exp2_room n) (value a) frac
 IsNear value n (Exp a frac) = IsExp (value a) frac
 IsNear value n (Pow a b frac) = IsPow (value a) (value b) frac
+IsNear value n (Sin a frac) = IsRadianSine (sine_room n) (value a) frac
+IsNear value n (Cos a frac) = IsRadianCosine (sine_room n) (value a) frac
 IsNear value n (SinTurns a frac) = IsSine (sine_room n) (value a) frac
 IsNear value n (CosTurns a frac) = IsCosine (sine_room n) (value a) frac
+IsNear value n (Atan2 y x frac) = IsRadianAngle (sine_room n) (value x) (value y) frac
 IsNear value n (Atan2Turns y x frac) = IsAngleOf (turn_room n) (value x) (value y) frac

@@ -1,7 +1,10 @@
 -- The rest of an angle, and the series at it, in units of 2^-64.
-use Rattle.std.specs.Prelude.{◌≡◌, ◌+◌, ◌-◌, ◌*◌, ◌/◌, ◌^◌, ◌≤◌, ◌<◌, ◌+ℤ◌, ◌*ℤ◌, ℕ, zero, suc, ℤ, Bool, pos, nat_le, if◌then◌else◌}
+use Rattle.std.specs.Prelude.{◌≡◌, ◌⊎◌, ◌+◌, ◌-◌, ◌*◌, ◌/◌, ◌^◌, ◌≤◌, ◌<◌, ◌+ℤ◌, ◌*ℤ◌, ℕ, zero, suc, ℤ, Bool, pos, nat_le, if◌then◌else◌}
 use Rattle.fixed_word.specs.Format.{with_sign}
 use Rattle.fixed_turns.specs.Series.{Fraction, nested}
+use Rattle.fixed_turns.specs.RadianAngles.{IsLeftBy, IsRightBy, IsSide}
+use Rattle.fixed_turns.specs.Sines.{IsSineBy, pi}
+use Rattle.fixed_turns.specs.Radians.{IsReduced, parts}
 
 -- s is the product of x and 2^64 - y, over 2^64, rounded up
 pub record IsLessened (x y s : ℕ) : Type 0 where
@@ -19,6 +22,11 @@ pub record IsUnder (c t : ℕ) (y : Fraction) : Type 0 where
   pub some : 0 < y.den
   pub below : t * y.den ≤ y.num * 2 ^ 64
   pub above : y.num * 2 ^ 64 ≤ (t + c) * y.den
+
+-- r is the sine of q quarter turns and x units, which stand for each angle that is so much or 2 units more, and, if x is
+-- 0, for one of either sign
+abbrev pub IsSineNear : ℕ → ℕ → Bool → ℕ → ℕ → ℤ → Type 0
+IsSineNear k q below x f r = (b : Bool) (y : Fraction) → IsUnder 2 x y → (b ≡ below) ⊎ (x ≡ 0) → IsSineBy k q b y f r
 
 -- how many quotients are read on words of n bits, and how far off the sum may be
 abbrev pub quotients : ℕ → ℕ
@@ -51,3 +59,32 @@ pub record IsParted (p q : ℕ) (below : Bool) (rest : ℕ) : Type 0 where
 pub record IsRounded (v s r : ℕ) : Type 0 where
   pub below : 2 * (r * 2 ^ s) ≤ 2 * v + 2 ^ s
   pub above : 2 * v ≤ 2 * (r * 2 ^ s) + 2 ^ s
+
+-- p is pi or the next number: half of p 10^-39 is at least the literal, in units of 2^-127, and at most 1/4 of a unit more
+pub record IsBesidePi (p : ℕ) : Type 0 where
+  pub below : 0xc90fdaa22168c234c4c6628b80dc1cd1 * 10 ^ 39 ≤ p * 2 ^ 126
+  pub above : 4 * (p * 2 ^ 126) ≤ (4 * 0xc90fdaa22168c234c4c6628b80dc1cd1 + 1) * 10 ^ 39
+
+-- m 2^-f radians are n quarters and a rest, whose magnitude is x units of 2^-64 or up to 2 more; it is below 0 if `below`
+-- is true, and its sign is not known if x is 0
+pub record IsSplit (p m f n : ℕ) (below : Bool) (x : ℕ) : Type 0 where
+  pub sign : Bool
+  pub rest : ℕ
+  pub is : pos (2 * 10 ^ 39 * m) ≡ pos (n * (p * 2 ^ f)) +ℤ with_sign sign rest
+  pub small : rest ≤ 2 * 10 ^ 39 * 2 ^ f
+  pub under : IsUnder 2 x (parts rest f)
+  pub sure : (sign ≡ below) ⊎ (x ≡ 0)
+
+-- the same of a number with its sign, and of quarters besides whole turns
+pub record IsReducedTo (p : ℕ) (a : ℤ) (f q : ℕ) (below : Bool) (x : ℕ) : Type 0 where
+  pub turns : ℤ
+  pub sign : Bool
+  pub rest : ℕ
+  pub angle : IsReduced p a f turns q sign rest
+  pub under : IsUnder 2 x (parts rest f)
+  pub sure : (sign ≡ below) ⊎ (x ≡ 0)
+
+-- the angle of (x, y) lies between m - 1/2 and m + 1/2 units of 2^-f radians, of which the latter may be past pi
+pub record IsBetween (k : ℕ) (x y : ℤ) (f m : ℕ) : Type 0 where
+  pub least : (i : ℕ) → m ≡ i + 1 → IsSide (IsLeftBy k) x y (2 * i + 1) (f + 1)
+  pub most : (2 * m + 1) * 10 ^ 39 < pi * 2 ^ (f + 1) → IsSide (IsRightBy k) x y (2 * m + 1) (f + 1)

@@ -1,0 +1,8 @@
+use Rattle.fixed_turns.proofs.Bisected.{minus_angle, on_the_axis}
+use Rattle.fixed_turns.proofs.laws.radian_angle_law.Goals as goal
+
+pub returns-clause-axis : goal.returns-clause-axis
+returns-clause-axis c = on_the_axis
+
+pub returns-clause-minus : goal.returns-clause-minus
+returns-clause-minus c = minus_angle

@@ -1,0 +1,167 @@
+//! Sines and cosines of angles in radians.
+
+ghost use Rattle.std.specs.Prelude.{◌≡◌, ◌≤◌, ◌<◌, ◌+◌, ◌*◌, ◌^◌, ℕ, ℤ};
+ghost use Rattle.fixed_word.specs.Standing.{StandsFor};
+ghost use Rattle.fixed_turns.specs.Radians.{IsRadianCosine, IsRadianSine};
+ghost use Rattle.fixed_turns.specs.Sines.{sine_room};
+ghost use Rattle.fixed_turns.specs.inside.Rests.{IsBesidePi, IsReducedTo, IsSplit};
+
+use crate::angles::Angle;
+use crate::series::high;
+use crate::sines::{outcome_at, outcomes_at};
+use fixed_word::{Outcome, RawWord};
+
+/// Two over pi, in units of `2^-64`, and the next 64 digits: how many quarter turns a radian is.
+const QUARTERS: u64 = 0xa2f9_836e_4e44_1529;
+
+const QUARTERS_MORE: u64 = 0xfc27_57d1_f534_ddc0;
+
+/// Half of pi, in units of `2^-63`, and the next 64 digits: how many radians a quarter turn is.
+const RADIANS: u64 = 0xc90f_daa2_2168_c234;
+
+const RADIANS_MORE: u64 = 0xc4c6_628b_80dc_1cd1;
+
+/// Returns the product of words of 64 bits.
+#[inline(always)]
+pub(crate) fn product(a: u64, b: u64) -> u128
+    ensures { result ≡ a * b }
+{
+    u128::from(a) * u128::from(b)
+}
+
+/// Returns how many quarter turns `x 2^-64` radians are, to the nearest or hardly further: what is left is at most
+/// `0xc90fffff00000000` units of `2^-64` radians, where an eighth of a turn is some `0xc90fdaa22168c234`.
+#[inline(always)]
+fn quarters_in(x: u128) -> u64
+    requires { x + 2 ^ 64 ≤ 2 ^ 128 }
+    ensures most { result * 0xc90fdaa22168c234c4c6628b80dc1cd1 ≤ (x + 0xc90fffff00000000) * 2 ^ 63 }
+    ensures least { x * 2 ^ 63 ≤ result * 0xc90fdaa22168c234c4c6628b80dc1cd1 + 0xc90fffff00000000 * 2 ^ 63 }
+{
+    let whole = (x >> 64) as u64;
+    let part = (x % (1 << 64)) as u64;
+    let finer = u128::from(high(whole, QUARTERS_MORE)) + u128::from(high(part, QUARTERS));
+    ((product(whole, QUARTERS) + finer + (1 << 63)) >> 64) as u64
+}
+
+/// Returns how many units of `2^-64` radians quarter turns are, rounded down.
+#[inline(always)]
+fn radians_in(quarters: u64) -> u128
+    requires { quarters * 0xc90fdaa22168c234c4c6628b80dc1cd1 < 2 ^ 191 }
+    ensures below { result * 2 ^ 63 ≤ quarters * 0xc90fdaa22168c234c4c6628b80dc1cd1 }
+    ensures above { quarters * 0xc90fdaa22168c234c4c6628b80dc1cd1 < (result + 1) * 2 ^ 63 }
+{
+    2 * product(quarters, RADIANS) + (product(quarters, RADIANS_MORE) >> 63)
+}
+
+/// Splits `x 2^-64` radians into quarter turns and a rest in units of `2^-64` radians. The rest is at most 2 units too
+/// small, and never too large. If it is 0, the exact rest may have either sign. x may be half a unit too large.
+#[inline(always)]
+pub(crate) fn split_units(x: u128) -> Angle
+    requires { x + 2 ^ 64 ≤ 2 ^ 128 }
+    ensures value { (p m f k : ℕ) → IsBesidePi p → k * 2 ^ f ≡ 2 ^ 65 → 2 * x ≤ m * k + 1 → m * k ≤ 2 * x
+        → IsSplit p m f result.quarter result.below result.rest }
+    ensures quarter { result.quarter * 0xc90fdaa22168c234c4c6628b80dc1cd1 ≤ (x + 0xc90fffff00000000) * 2 ^ 63 }
+    ensures near { x * 2 ^ 63 ≤ result.quarter * 0xc90fdaa22168c234c4c6628b80dc1cd1 + 0xc90fffff00000000 * 2 ^ 63 }
+    ensures small { result.rest ≤ 0xc910000000000000 }
+{
+    let quarter = quarters_in(x);
+    let whole = radians_in(quarter);
+    if whole < x {
+        Angle {
+            quarter,
+            below: false,
+            rest: ((x - whole) as u64).saturating_sub(2),
+        }
+    } else {
+        Angle {
+            quarter,
+            below: true,
+            rest: (whole - x) as u64,
+        }
+    }
+}
+
+/// Splits `magnitude 2^-frac` radians. The rest is exact if there are no quarter turns.
+#[inline(always)]
+fn split(magnitude: u64, frac: u32) -> Angle
+    requires { frac ≤ 64 }
+    ensures value { (p : ℕ) → IsBesidePi p → IsSplit p magnitude frac result.quarter result.below result.rest }
+    ensures small { result.rest ≤ 0xc910000000000000 }
+{
+    let x = u128::from(magnitude) << (64 - frac);
+    let angle = split_units(x);
+    if angle.quarter == 0 {
+        Angle {
+            quarter: 0,
+            below: false,
+            rest: x as u64,
+        }
+    } else {
+        angle
+    }
+}
+
+/// Splits `a 2^-frac` radians, as `split` does. Whole turns are left out: at most 3 quarter turns remain.
+#[inline(always)]
+fn reduced<T: RawWord>(a: T, frac: u32) -> Angle
+    requires { frac ≤ T.BITS }
+    ensures value { (p : ℕ) → IsBesidePi p
+        → IsReducedTo p (T.value a) frac result.quarter result.below result.rest }
+    ensures quarter { result.quarter ≤ 3 }
+    ensures small { result.rest ≤ 0xc910000000000000 }
+{
+    let angle = split(a.magnitude(), frac);
+    if a.is_below_zero() {
+        Angle {
+            quarter: angle.quarter.wrapping_neg() % 4,
+            below: !angle.below,
+            rest: angle.rest,
+        }
+    } else {
+        Angle {
+            quarter: angle.quarter % 4,
+            below: angle.below,
+            rest: angle.rest,
+        }
+    }
+}
+
+/// Returns the sine of `a 2^-frac` radians, in units of `2^-frac`, rounded to the nearest. The result differs from the
+/// exact sine by at most half a unit plus `2^-k`, where k is 41 on words of up to 32 bits and 61 on words of 64 bits.
+/// The sine of 0 is exact, and none is above 1 or below -1. Precondition: `frac` is at most the width.
+#[inline(always)]
+pub fn sin_of<T: RawWord>(a: T, frac: u32) -> Outcome<T>
+    requires { frac ≤ T.BITS }
+    ensures { (r : ℤ) × IsRadianSine (sine_room T.BITS) (T.value a) frac r
+        × StandsFor T.value T.SIGNED T.BITS r result }
+{
+    let angle = reduced(a, frac);
+    outcome_at(angle.quarter, angle.below, angle.rest, frac)
+}
+
+/// Returns the cosine of `a 2^-frac` radians, in units of `2^-frac`, rounded to the nearest. The result differs from
+/// the exact cosine by at most half a unit plus `2^-k`, where k is 41 on words of up to 32 bits and 61 on words of 64
+/// bits. The cosine of 0 is exact, and none is above 1 or below -1. Precondition: `frac` is at most the width.
+#[inline(always)]
+pub fn cos_of<T: RawWord>(a: T, frac: u32) -> Outcome<T>
+    requires { frac ≤ T.BITS }
+    ensures { (r : ℤ) × IsRadianCosine (sine_room T.BITS) (T.value a) frac r
+        × StandsFor T.value T.SIGNED T.BITS r result }
+{
+    let angle = reduced(a, frac);
+    outcome_at(angle.quarter + 1, angle.below, angle.rest, frac)
+}
+
+/// Returns the sine and the cosine of `a 2^-frac` radians, in units of `2^-frac`, both rounded to the nearest, as
+/// `sin_of` and `cos_of` do. Precondition: `frac` is at most the width.
+#[inline(always)]
+pub fn sin_cos_of<T: RawWord>(a: T, frac: u32) -> (Outcome<T>, Outcome<T>)
+    requires { frac ≤ T.BITS }
+    ensures sine { (r : ℤ) × IsRadianSine (sine_room T.BITS) (T.value a) frac r
+        × StandsFor T.value T.SIGNED T.BITS r result.0 }
+    ensures cosine { (r : ℤ) × IsRadianCosine (sine_room T.BITS) (T.value a) frac r
+        × StandsFor T.value T.SIGNED T.BITS r result.1 }
+{
+    let angle = reduced(a, frac);
+    outcomes_at(angle.quarter, angle.below, angle.rest, frac)
+}

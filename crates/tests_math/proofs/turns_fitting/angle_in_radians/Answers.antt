@@ -1,0 +1,8 @@
+use Rattle.std.proofs.Common.{arith}
+use Rattle.tests_math.proofs.turns_fitting.angle_in_radians.Goals as goal
+
+pub strict_atan2-requires : goal.strict_atan2-requires
+strict_atan2-requires c = (omega arith, (omega arith, (c.requires.some, λ r h. c.requires.fits r h)))
+
+pub unwrapped_atan2-requires : goal.unwrapped_atan2-requires
+unwrapped_atan2-requires c = (omega arith, (omega arith, (c.requires.some, λ r h. c.requires.fits r h)))

@@ -1,0 +1,574 @@
+//! Known sines and cosines of angles in radians, and angles of points, computed apart with whole numbers of 90 digits,
+//! and each call at a concrete type.
+
+ghost use Rattle.std.specs.Prelude.{◌≡◌, ◌≢◌, ◌≤◌, pos};
+
+use crate::found::{Found, check, check_fit, found_of};
+use crate::turns_fitting::sine_and_cosine_in_radians;
+use fixed_num::{Fixed, FixedI32};
+use fixed_turns::{
+    CheckedRadians, OverflowingRadians, SaturatingRadians, WrappingRadians, atan2_of, cos_of,
+    sin_cos_of, sin_of,
+};
+use fixed_word::Side;
+
+fn of_8_bits(a: i8, frac: u32) -> [Found; 2] {
+    if frac <= 8 {
+        let (sine, cosine) = (sin_of(a, frac), cos_of(a, frac));
+        [
+            Some((sine.wrapped as i128, sine.side)),
+            Some((cosine.wrapped as i128, cosine.side)),
+        ]
+    } else {
+        [None, None]
+    }
+}
+
+fn of_unsigned_8_bits(a: u8, frac: u32) -> [Found; 2] {
+    if frac <= 8 {
+        let (sine, cosine) = sin_cos_of(a, frac);
+        [
+            Some((sine.wrapped as i128, sine.side)),
+            Some((cosine.wrapped as i128, cosine.side)),
+        ]
+    } else {
+        [None, None]
+    }
+}
+
+fn of_16_bits(a: i16, frac: u32) -> [Found; 2] {
+    if frac <= 16 {
+        let (sine, cosine) = sin_cos_of(a, frac);
+        [
+            Some((sine.wrapped as i128, sine.side)),
+            Some((cosine.wrapped as i128, cosine.side)),
+        ]
+    } else {
+        [None, None]
+    }
+}
+
+fn of_32_bits(a: i32, frac: u32) -> [Found; 2] {
+    if frac <= 32 {
+        let (sine, cosine) = (sin_of(a, frac), cos_of(a, frac));
+        [
+            Some((sine.wrapped as i128, sine.side)),
+            Some((cosine.wrapped as i128, cosine.side)),
+        ]
+    } else {
+        [None, None]
+    }
+}
+
+fn of_64_bits(a: i64, frac: u32) -> [Found; 2] {
+    if frac <= 64 {
+        [found_of(sin_of(a, frac)), found_of(cos_of(a, frac))]
+    } else {
+        [None, None]
+    }
+}
+
+#[test]
+fn sines_and_cosines_of_radians(rt: HostRuntime) {
+    for (a, frac, wanted_sine, wanted_cosine) in [
+        (0_i32, 16, 0, 65536),
+        (1, 16, 1, 65536),
+        (65536, 16, 55147, 35409),
+        (102944, 16, 65536, 0),
+        (205887, 16, 0, -65536),
+        (411775, 16, 0, 65536),
+        (12345, 16, 12272, 64377),
+        (-12345, 16, -12272, 64377),
+        (i32::MAX, 16, 60808, 24442),
+        (i32::MIN, 16, -60808, 24441),
+        (i32::MAX, 0, -1, -1),
+        (i32::MIN, 0, 1, 0),
+        (355, 0, 0, -1),
+        (1000000, 30, 1000000, 1073741358),
+        (123456789, 28, 119150336, 240542702),
+        (i32::MAX, 24, 12097006, -11624862),
+        (i32::MIN, 30, -976350678, -446834263),
+    ] {
+        let operands = [a as i128, frac as i128, 0];
+        let [sine, cosine] = of_32_bits(a, frac);
+        check_fit(&rt, "sine of radians", operands, sine, wanted_sine);
+        check_fit(&rt, "cosine of radians", operands, cosine, wanted_cosine);
+    }
+}
+
+#[test]
+fn long_sines_and_cosines_of_radians(rt: HostRuntime) {
+    for (a, frac, wanted_sine, wanted_cosine) in [
+        (6746518852_i64, 32, 4294967296_i128, 0_i128),
+        (-6746518852, 32, -4294967296, 0),
+        (13493037705, 32, 0, -4294967296),
+        (i64::MAX, 0, 1, 1),
+        (i64::MIN, 0, -1, 0),
+        (i64::MAX, 16, -4251, -65398),
+        (i64::MAX, 32, -4171745440, 1021412777),
+        (i64::MIN, 32, 4171745439, 1021412778),
+        (i64::MAX, 48, 261168339838519, 104972666824542),
+        (i64::MIN, 48, -261168339838519, 104972666824541),
+        (6134899525417045, 0, 0, -1),
+        (1234567890123456789, 32, 4292020601, -159069917),
+        (-1234567890123456789, 40, -559327683074, -946614157174),
+        (442136281288205, 48, 281474976687912, 3578213572),
+        (
+            -987654321098765432,
+            56,
+            -65476545644434992,
+            30085192853080545,
+        ),
+    ] {
+        let operands = [a as i128, frac as i128, 0];
+        let [sine, cosine] = of_64_bits(a, frac);
+        check_fit(&rt, "sine of 64 bits", operands, sine, wanted_sine);
+        check_fit(&rt, "cosine of 64 bits", operands, cosine, wanted_cosine);
+    }
+}
+
+#[test]
+fn middle_sines_and_cosines_of_radians(rt: HostRuntime) {
+    for (a, frac, wanted_sine, wanted_cosine) in [
+        (402_i16, 8, 256, 0),
+        (-402, 8, -256, 0),
+        (i16::MAX, 8, 185, -177),
+        (i16::MIN, 8, -185, -177),
+        (i16::MAX, 0, 0, 1),
+        (i16::MIN, 0, -1, 0),
+        (-12345, 12, -522, -4063),
+        (30000, 14, 15832, -4216),
+        (i16::MIN, 15, -27573, 17705),
+    ] {
+        let operands = [a as i128, frac as i128, 0];
+        let [sine, cosine] = of_16_bits(a, frac);
+        check_fit(&rt, "sine of 16 bits", operands, sine, wanted_sine);
+        check_fit(&rt, "cosine of 16 bits", operands, cosine, wanted_cosine);
+    }
+}
+
+#[test]
+fn short_sines_and_cosines_of_radians(rt: HostRuntime) {
+    for (a, frac, wanted_sine, wanted_cosine) in [
+        (0_i8, 4, (0, Side::Fits), (16, Side::Fits)),
+        (25, 4, (16, Side::Fits), (0, Side::Fits)),
+        (-25, 4, (-16, Side::Fits), (0, Side::Fits)),
+        (i8::MAX, 4, (16, Side::Fits), (-1, Side::Fits)),
+        (i8::MIN, 4, (-16, Side::Fits), (-2, Side::Fits)),
+        (i8::MIN, 0, (-1, Side::Fits), (-1, Side::Fits)),
+        (i8::MAX, 7, (107, Side::Fits), (70, Side::Fits)),
+        (0, 7, (0, Side::Fits), (-128, Side::Above)),
+        (i8::MIN, 8, (-123, Side::Fits), (-31, Side::Above)),
+    ] {
+        let operands = [a as i128, frac as i128, 0];
+        let [sine, cosine] = of_8_bits(a, frac);
+        check(&rt, "sine of 8 bits", operands, sine, wanted_sine);
+        check(&rt, "cosine of 8 bits", operands, cosine, wanted_cosine);
+    }
+}
+
+#[test]
+fn unsigned_sines_and_cosines_of_radians(rt: HostRuntime) {
+    for (a, frac, wanted_sine, wanted_cosine) in [
+        (0_u8, 8, (0, Side::Fits), (0, Side::Above)),
+        (64, 4, (244, Side::Below), (246, Side::Below)),
+        (50, 4, (0, Side::Fits), (240, Side::Below)),
+        (u8::MAX, 0, (255, Side::Below), (255, Side::Below)),
+        (u8::MAX, 7, (117, Side::Fits), (204, Side::Below)),
+        (u8::MAX, 8, (215, Side::Fits), (139, Side::Fits)),
+    ] {
+        let operands = [a as i128, frac as i128, 0];
+        let [sine, cosine] = of_unsigned_8_bits(a, frac);
+        check(&rt, "unsigned sine", operands, sine, wanted_sine);
+        check(&rt, "unsigned cosine", operands, cosine, wanted_cosine);
+    }
+}
+
+/// The calls of each policy at one number.
+fn calls<N: CheckedRadians + OverflowingRadians + SaturatingRadians + WrappingRadians>(
+    number: N,
+) -> (Option<N>, Option<N>, (N, bool), (N, bool), N, N, N, N)
+    requires { N.FRACTION ≤ N.BITS }
+{
+    (
+        number.checked_sin(),
+        number.checked_cos(),
+        number.overflowing_sin(),
+        number.overflowing_cos(),
+        number.saturating_sin(),
+        number.saturating_cos(),
+        number.wrapping_sin(),
+        number.wrapping_cos(),
+    )
+}
+
+/// The calls of both at one number.
+fn calls_of_both<N: CheckedRadians + OverflowingRadians + SaturatingRadians + WrappingRadians>(
+    number: N,
+) -> (Option<(N, N)>, ((N, bool), (N, bool)), (N, N), (N, N))
+    requires { N.FRACTION ≤ N.BITS }
+{
+    (
+        number.checked_sin_cos(),
+        number.overflowing_sin_cos(),
+        number.saturating_sin_cos(),
+        number.wrapping_sin_cos(),
+    )
+}
+
+/// The sines that those calls leave of a number of 8 bits, by their bits: checked, overflowing, saturating, wrapping.
+fn sines_of(bits: i8) -> (Option<i8>, (i8, bool), i8, i8) {
+    let (checked, _, (left, past), _, saturating, _, wrapping, _) = calls(Fixed::<i8, 4> { bits });
+    let checked = match checked {
+        Some(sine) => Some(sine.bits),
+        None => None,
+    };
+    (checked, (left.bits, past), saturating.bits, wrapping.bits)
+}
+
+/// The cosines, in the same order.
+fn cosines_of(bits: i8) -> (Option<i8>, (i8, bool), i8, i8) {
+    let (_, checked, _, (left, past), _, saturating, _, wrapping) = calls(Fixed::<i8, 4> { bits });
+    let checked = match checked {
+        Some(cosine) => Some(cosine.bits),
+        None => None,
+    };
+    (checked, (left.bits, past), saturating.bits, wrapping.bits)
+}
+
+/// Both without integer bits, of which the cosine of 0 does not fit: whether checked is none, overflowing with the
+/// verdict on the cosine, saturating, wrapping.
+fn both_of_small(bits: i8) -> (bool, (i8, i8, bool), (i8, i8), (i8, i8)) {
+    let (checked, (sine, (cosine, past)), saturating, wrapping) = calls_of_both(Fixed::<i8, 7> {
+        bits,
+    });
+    (
+        checked.is_none(),
+        (sine.0.bits, cosine.bits, past),
+        (saturating.0.bits, saturating.1.bits),
+        (wrapping.0.bits, wrapping.1.bits),
+    )
+}
+
+#[test]
+fn radian_calls(rt: HostRuntime) {
+    assert!(rt; sines_of(-20) == (Some(-15), (-15, false), -15, -15));
+    assert!(rt; cosines_of(-20) == (Some(5), (5, false), 5, 5));
+    assert!(rt; both_of_small(0) == (true, (0, -128, true), (0, 127), (0, -128)));
+    assert!(rt; both_of_small(127) == (false, (107, 70, false), (107, 70), (107, 70)));
+    let (sine, cosine) = sine_and_cosine_in_radians(FixedI32::<16> { bits: 12345 });
+    assert!(rt; sine.bits == 12272 && cosine.bits == 64377);
+}
+
+/// The angle of a point other than the origin.
+fn angle_of_8_bits(y: i8, x: i8, frac: u32) -> Found {
+    if 8 < frac {
+        return None;
+    }
+    let outcome = if x != 0 {
+        atan2_of(y, x, frac)
+    } else if y != 0 {
+        atan2_of(y, 0, frac)
+    } else {
+        return None;
+    };
+    Some((outcome.wrapped as i128, outcome.side))
+}
+
+fn angle_of_unsigned_8_bits(y: u8, x: u8, frac: u32) -> Found {
+    if 8 < frac {
+        return None;
+    }
+    let outcome = if x != 0 {
+        atan2_of(y, x, frac)
+    } else if y != 0 {
+        atan2_of(y, 0, frac)
+    } else {
+        return None;
+    };
+    Some((outcome.wrapped as i128, outcome.side))
+}
+
+fn angle_of_16_bits(y: i16, x: i16, frac: u32) -> Found {
+    if 16 < frac {
+        return None;
+    }
+    let outcome = if x != 0 {
+        atan2_of(y, x, frac)
+    } else if y != 0 {
+        atan2_of(y, 0, frac)
+    } else {
+        return None;
+    };
+    Some((outcome.wrapped as i128, outcome.side))
+}
+
+fn angle_of_32_bits(y: i32, x: i32, frac: u32) -> Found {
+    if 32 < frac {
+        return None;
+    }
+    let outcome = if x != 0 {
+        atan2_of(y, x, frac)
+    } else if y != 0 {
+        atan2_of(y, 0, frac)
+    } else {
+        return None;
+    };
+    Some((outcome.wrapped as i128, outcome.side))
+}
+
+fn angle_of_64_bits(y: i64, x: i64, frac: u32) -> Found {
+    if 64 < frac {
+        return None;
+    }
+    let outcome = if x != 0 {
+        atan2_of(y, x, frac)
+    } else if y != 0 {
+        atan2_of(y, 0, frac)
+    } else {
+        return None;
+    };
+    found_of(outcome)
+}
+
+fn angle_of_unsigned_64_bits(y: u64, x: u64, frac: u32) -> Found {
+    if 64 < frac {
+        return None;
+    }
+    let outcome = if x != 0 {
+        atan2_of(y, x, frac)
+    } else if y != 0 {
+        atan2_of(y, 0, frac)
+    } else {
+        return None;
+    };
+    Some((outcome.wrapped as i128, outcome.side))
+}
+
+#[test]
+fn angles_in_radians(rt: HostRuntime) {
+    for (y, x, frac, wanted) in [
+        (0_i32, 65536, 16, 0),
+        (65536, 0, 16, 102944),
+        (-65536, 0, 16, -102944),
+        (0, -65536, 16, 205887),
+        (1, 1, 16, 51472),
+        (-2, -1, 16, -133329),
+        (3, 4, 28, 172738514),
+        (12345, -67890, 24, 49689411),
+        (1, i32::MIN, 29, 1686629713),
+        (-1, i32::MIN, 29, -1686629713),
+        (i32::MAX, i32::MAX, 31, 1686629713),
+        (i32::MIN, i32::MIN, 29, -1264972285),
+        (i32::MIN, 1, 30, -1686629713),
+        (0, i32::MIN, 29, 1686629713),
+        (-7, 3, 0, -1),
+        (1, 1000000007, 32, 4),
+    ] {
+        let operands = [y as i128, x as i128, frac as i128];
+        check_fit(
+            &rt,
+            "angle in radians",
+            operands,
+            angle_of_32_bits(y, x, frac),
+            wanted,
+        );
+    }
+}
+
+#[test]
+fn long_angles_in_radians(rt: HostRuntime) {
+    for (y, x, frac, wanted) in [
+        (0_i64, 1, 64, 0_i128),
+        (0, -1, 32, 13493037705),
+        (0, i64::MIN, 57, 452751216129820178),
+        (1, 0, 48, 442139859501778),
+        (-1, 0, 48, -442139859501778),
+        (1, 1, 56, 56593902016227522),
+        (i64::MAX, i64::MIN, 56, 169781706048682567),
+        (i64::MIN, i64::MIN, 57, -339563412097365133),
+        (1, -9223372036854775807, 56, 226375608064910089),
+        (-1, -9223372036854775807, 56, -226375608064910089),
+        (1, 1099511627776, 56, 65536),
+        (1234567890123456789, -987654321, 40, 1727108827058),
+        (-5, i64::MAX, 32, 0),
+        (123456789, 987654321987, 57, 18014398233498),
+        (-3, 2, 0, -1),
+        (1, i64::MIN, 0, 3),
+    ] {
+        let operands = [y as i128, x as i128, frac as i128];
+        check_fit(
+            &rt,
+            "angle of 64 bits",
+            operands,
+            angle_of_64_bits(y, x, frac),
+            wanted,
+        );
+    }
+}
+
+#[test]
+fn middle_angles_in_radians(rt: HostRuntime) {
+    for (y, x, frac, wanted) in [
+        (0_i16, -1, 13, (25736, Side::Fits)),
+        (0, -1, 14, (-14064, Side::Above)),
+        (1, i16::MAX, 16, (2, Side::Fits)),
+        (-1, i16::MIN, 12, (-12868, Side::Fits)),
+        (i16::MAX, i16::MIN, 12, (9651, Side::Fits)),
+        (i16::MIN, i16::MAX, 14, (-12868, Side::Fits)),
+        (12345, 6789, 14, (17498, Side::Fits)),
+        (-3, -2, 0, (-2, Side::Fits)),
+        (1, 1, 16, (-14064, Side::Above)),
+        (1, 0, 16, (-28128, Side::Above)),
+    ] {
+        let operands = [y as i128, x as i128, frac as i128];
+        check(
+            &rt,
+            "angle of 16 bits",
+            operands,
+            angle_of_16_bits(y, x, frac),
+            wanted,
+        );
+    }
+}
+
+#[test]
+fn short_angles_in_radians(rt: HostRuntime) {
+    for (y, x, frac, wanted) in [
+        (0_i8, 1, 8, (0, Side::Fits)),
+        (1, 0, 4, (25, Side::Fits)),
+        (0, -1, 4, (50, Side::Fits)),
+        (-1, 0, 4, (-25, Side::Fits)),
+        (0, i8::MIN, 0, (3, Side::Fits)),
+        (48, -64, 4, (40, Side::Fits)),
+        (-48, -64, 4, (-40, Side::Fits)),
+        (3, 7, 5, (13, Side::Fits)),
+        (-1, i8::MAX, 8, (-2, Side::Fits)),
+        (1, i8::MIN, 5, (100, Side::Fits)),
+        (1, 0, 7, (-55, Side::Above)),
+        (0, -1, 7, (-110, Side::Above)),
+        (-1, -1, 6, (105, Side::Below)),
+        (-1, 1, 8, (55, Side::Below)),
+        (i8::MAX, i8::MAX, 0, (1, Side::Fits)),
+        (i8::MIN, i8::MIN, 4, (-38, Side::Fits)),
+    ] {
+        let operands = [y as i128, x as i128, frac as i128];
+        check(
+            &rt,
+            "angle of 8 bits",
+            operands,
+            angle_of_8_bits(y, x, frac),
+            wanted,
+        );
+    }
+}
+
+#[test]
+fn unsigned_angles_in_radians(rt: HostRuntime) {
+    for (y, x, frac, wanted) in [
+        (0_u8, 1, 8, (0, Side::Fits)),
+        (1, 0, 7, (201, Side::Fits)),
+        (1, 0, 8, (146, Side::Above)),
+        (u8::MAX, u8::MAX, 8, (201, Side::Fits)),
+        (1, u8::MAX, 8, (1, Side::Fits)),
+        (u8::MAX, 1, 0, (2, Side::Fits)),
+        (200, 100, 6, (71, Side::Fits)),
+    ] {
+        let operands = [y as i128, x as i128, frac as i128];
+        check(
+            &rt,
+            "unsigned angle",
+            operands,
+            angle_of_unsigned_8_bits(y, x, frac),
+            wanted,
+        );
+    }
+}
+
+#[test]
+fn long_unsigned_angles_in_radians(rt: HostRuntime) {
+    for (y, x, frac, wanted) in [
+        (u64::MAX, 1, 32, 6746518852_i128),
+        (u64::MAX, u64::MAX, 56, 56593902016227522),
+        (1, 3, 57, 46369141660382985),
+        (0, 1, 64, 0),
+    ] {
+        let operands = [y as i128, x as i128, frac as i128];
+        check_fit(
+            &rt,
+            "unsigned angle of 64 bits",
+            operands,
+            angle_of_unsigned_64_bits(y, x, frac),
+            wanted,
+        );
+    }
+}
+
+/// Whether an angle with 64 fraction bits lies within `1/2 + 2^4` units beside the exact one, of which this is the
+/// nearest unit.
+fn is_near(y: u64, x: u64, nearest: i128) -> bool {
+    match angle_of_unsigned_64_bits(y, x, 64) {
+        Some((units, Side::Fits)) => units.abs_diff(nearest) <= 17,
+        _ => false,
+    }
+}
+
+#[test]
+fn fine_angles_in_radians(rt: HostRuntime) {
+    for (y, x, nearest) in [
+        (1_u64, u64::MAX, 1_i128),
+        (1, 4294967296, 4294967296),
+        (1, 1048576, 17592186044411),
+        (1, 1, 14488038916154245685),
+        (3, 4, 11870500265058044196),
+    ] {
+        assert!(rt; is_near(y, x, nearest), "fine angle of {y} and {x}");
+    }
+}
+
+/// The calls of each policy at one point.
+fn calls_at<N: CheckedRadians + OverflowingRadians + SaturatingRadians + WrappingRadians>(
+    y: N,
+    x: N,
+) -> (Option<N>, (N, bool), N, N)
+    requires fraction { N.FRACTION ≤ N.BITS }
+    requires some { N.number x ≡ pos 0 → N.number y ≢ pos 0 }
+{
+    (
+        y.checked_atan2(x),
+        y.overflowing_atan2(x),
+        y.saturating_atan2(x),
+        y.wrapping_atan2(x),
+    )
+}
+
+/// The angle that those calls leave of the point of 3 up and 4 to the left, by its bits.
+fn left_by_calls() -> (Option<i8>, (i8, bool), i8, i8) {
+    let (y, x) = (Fixed::<i8, 4> { bits: 48 }, Fixed::<i8, 4> { bits: -64 });
+    let (checked, (left, past), saturating, wrapping) = calls_at(y, x);
+    let checked = match checked {
+        Some(angle) => Some(angle.bits),
+        None => None,
+    };
+    (checked, (left.bits, past), saturating.bits, wrapping.bits)
+}
+
+/// The angle on the axis above the origin without integer bits, which does not fit.
+fn above_by_calls() -> (bool, (i8, bool), i8, i8) {
+    let (y, x) = (Fixed::<i8, 7> { bits: 32 }, Fixed::<i8, 7> { bits: 0 });
+    let (checked, (left, past), saturating, wrapping) = calls_at(y, x);
+    (
+        checked.is_none(),
+        (left.bits, past),
+        saturating.bits,
+        wrapping.bits,
+    )
+}
+
+#[test]
+fn radian_angle_calls(rt: HostRuntime) {
+    assert!(rt; left_by_calls() == (Some(40), (40, false), 40, 40));
+    assert!(rt; above_by_calls() == (true, (-55, true), 127, -55));
+    let none = Fixed::<i8, 4> { bits: 0 };
+    assert!(rt; none.checked_atan2(none).is_none());
+}
