@@ -20,6 +20,7 @@ pub use Rattle.fixed_natural.specs.Bases
 pub use Rattle.fixed_natural.specs.Logs
 pub use Rattle.fixed_natural.specs.Exps
 pub use Rattle.fixed_natural.specs.Pows
+pub use Rattle.fixed_turns.specs.Angles
 pub use Rattle.fixed_turns.specs.RadianAngles
 pub use Rattle.fixed_turns.specs.Radians
 pub use Rattle.fixed_turns.specs.Series

@@ -2,8 +2,8 @@
 use Rattle.std.proofs.Common.{◌≡◌, ◌≢◌, ◌⊎◌, ◌+◌, ◌-◌, ◌*◌, ◌/◌, ◌%◌, ◌^◌, ◌<◌, ◌≤◌, ◌<ℤ◌, ◌≤ℤ◌, ◌+ℤ◌, ◌*ℤ◌, unsigned_abs, ℕ, ℤ, Bool, true, false, pos, negsuc, neg_ℤ, zero, suc, inl, inr, refl, subst, sym, ap, ◌∙◌, mul_assoc, pow-add, arith}
 use Rattle.std.proofs.lemmas.Int.{ints}
 use Rattle.std.proofs.lemmas.Nat.{div-add-mod', mod_below, pow_pos}
-use Rattle.std.proofs.Math.Nat.{le_of_mul-le-mul_right, mod-eq_of_lt, mul-le-mul_left, mul-le-mul_right}
-use Rattle.fixed_word.specs.Format.{with_sign}
+use Rattle.std.proofs.Math.Nat.{le_of_mul-le-mul_right, mod-eq_of_lt, mul-le-mul_left, mul-le-mul_right, pow-le-pow_right}
+use Rattle.fixed_word.specs.Format.{InRange, with_sign}
 use Rattle.fixed_turns.specs.Angles.{is_below}
 use Rattle.fixed_turns.specs.RadianAngles.{IsLeftBy, IsRadianAngle, IsRight, IsRightBy, IsSide, IsSideWith, IsUpperRadians}
 use Rattle.fixed_turns.specs.Radians.{IsReduced, parts}
@@ -168,3 +168,46 @@ pub minus_angle : (k f : ℕ) (x y r : ℤ) → y ≢ pos 0 → IsRadianAngle k 
 minus_angle k f x (pos zero) r some h = absurd (some refl)
 minus_angle k f x (pos (suc n)) r some h = record { magnitude = h.magnitude; angle = h.angle; is = ap neg_ℤ h.is }
 minus_angle k f x (negsuc n) r some h = record { magnitude = h.magnitude; angle = h.angle; is = ap neg_ℤ h.is ∙ twice_negated (pos h.magnitude) }
+
+-- ---- a direction of at most 2 quarters and a rest
+few_quarters : (k q : ℕ) (below : Bool) (x y : ℤ) (s c : Fraction) → IsLeftBy k q below x y s c → q ≤ 2
+unfolding IsLeftBy
+few_quarters k zero below x y s c h = omega arith
+few_quarters k (suc zero) below x y s c h = omega arith
+few_quarters k (suc (suc zero)) below x y s c h = omega arith
+few_quarters k (suc (suc (suc q))) below x y s c h = absurd h
+
+at_most : (b : Bool) (h g rest : ℕ) → pos h ≡ pos g +ℤ with_sign b rest → h ≤ g + rest
+at_most true h g rest e = omega (arith, ints, e)
+at_most false h g rest e = omega (arith, ints, e)
+
+reduced_most : (h f q rest : ℕ) (b : Bool) → q ≤ 2 → IsReduced pi (pos h) (f + 1) (pos 0) q b rest → h ≤ 9 * 2 ^ f
+reduced_most h f q rest b few i =
+    let p = pi * 2 ^ (f + 1) in
+    let e : pos 4 *ℤ pos 0 +ℤ pos q ≡ pos q = omega (arith, ints) in
+    let a = at_most b (2 * 10 ^ 39 * h) (q * p) rest (i.is ∙ ap (λ (z : ℤ). z *ℤ pos p +ℤ with_sign b rest) e) in
+    let m = mul-le-mul_right {m = q} {n = 2} p few in
+    let w = pow-add 2 f 1 in
+    let small = i.small in
+    omega arith
+
+upper_most : (k f m : ℕ) (x y : ℤ) → IsUpperRadians k x y f m → m ≤ 5 * 2 ^ f
+upper_most k f zero x y h = omega arith
+upper_most k f (suc i) x y h =
+    let s = (h.least i (omega arith)).low in
+    let few = few_quarters k s.q s.below x y (sine_series (parts s.rest (f + 1)) 10) (cosine_series (parts s.rest (f + 1)) 10) (s.holds 0 0) in
+    let most = reduced_most (2 * i + 1) f s.q s.rest s.below few s.angle in
+    let o = pow_pos f in
+    omega arith
+
+pub angle_fits : (k n f : ℕ) (x y r : ℤ) → f + 3 < n → IsRadianAngle k x y f r → InRange true n r
+angle_fits k n f x y r l h =
+    let m = upper_most k f h.magnitude x (pos (unsigned_abs y)) h.angle in
+    let p : 2 ^ (f + 3) ≤ 2 ^ (n - 1) = pow-le-pow_right {n = 2} (omega arith) {i = f + 3} {j = n - 1} (omega arith) in
+    let e = pow-add 2 f 3 in
+    let o = pow_pos f in
+    subst (InRange true n) (sym h.is) (signed_range (is_below y) n h.magnitude (omega arith))
+  where
+    signed_range : (b : Bool) (n m : ℕ) → m < 2 ^ (n - 1) → InRange true n (with_sign b m)
+    signed_range true n m lt = (omega (arith, ints), omega (arith, ints))
+    signed_range false n m lt = (omega (arith, ints), omega (arith, ints))

@@ -9,7 +9,7 @@ use crate::series::{cosine, high, radians_of, sine};
 const QUARTERS: u64 = 0xa2f9_836e_4e44_1529;
 
 /// A quarter turn in radians, in units of `2^-64`.
-const QUARTER: u128 = 0x1921f_b544_42d1_8469;
+const QUARTER: u128 = 0x0001_921f_b544_42d1_8469;
 
 /// The largest rest, which is an eighth of a turn, in units of `2^-64` quarter turns.
 const EIGHTH: u64 = 1 << 63;

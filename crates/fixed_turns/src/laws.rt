@@ -57,11 +57,13 @@ pub fn angle_law()
 {}
 
 /// In radians, the angle of a point on the axis to the right of the origin is 0. If y is not 0, the negative of a number
-/// that meets the bound for the angle of `(x, y)` meets it for that of `(x, -y)`.
+/// that meets the bound for the angle of `(x, y)` meets it for that of `(x, -y)`. On signed words with at least three bits
+/// before the point, besides the sign, each angle fits.
 pub fn radian_angle_law()
     ensures axis { (k f : ℕ) (x r : ℤ) → pos 0 <ℤ x → IsRadianAngle k x (pos 0) f r → r ≡ pos 0 }
     ensures minus { (k f : ℕ) (x y r : ℤ) → y ≢ pos 0 → IsRadianAngle k x y f r
         → IsRadianAngle k x (neg_ℤ y) f (neg_ℤ r) }
+    ensures fits { (k n f : ℕ) (x y r : ℤ) → f + 3 < n → IsRadianAngle k x y f r → InRange true n r }
 {}
 
 /// The decimals of pi are those of the angle of half a turn, at which the series of the sine comes to 0: by `pi`, each
