@@ -10,13 +10,11 @@ ghost use Rattle.fixed_turns.specs.Sines.{pi, sine_room};
 ghost use Rattle.fixed_turns.specs.inside.Rests.{IsBetween, IsUnder};
 
 use crate::angles::Angle;
+use crate::constants::PI;
 use crate::guesses::radians_near;
 use crate::radians::{product, split_units};
 use crate::series::{cosine, sine};
 use fixed_word::{Outcome, RawWord, outcome_of_magnitude};
-
-/// Pi in units of `2^-126`.
-const PI: u128 = 0xc90f_daa2_2168_c234_c4c6_628b_80dc_1cd1;
 
 /// A point that is `y` above the origin, and `x` to its right or, if `left`, to its left.
 #[derive(Clone, Copy)]

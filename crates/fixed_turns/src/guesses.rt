@@ -3,13 +3,11 @@
 
 ghost use Rattle.std.specs.Prelude.{◌≤◌, ◌<◌, ◌+◌, ◌*◌, ◌^◌};
 
+use crate::constants::{PI, QUARTERS};
 use crate::series::{cosine, high, radians_of, sine};
 
-/// 2 over pi, in units of `2^-64`: how many quarter turns a radian is.
-const QUARTERS: u64 = 0xa2f9_836e_4e44_1529;
-
-/// A quarter turn in radians, in units of `2^-64`.
-const QUARTER: u128 = 0x0001_921f_b544_42d1_8469;
+/// A quarter turn in radians, in units of `2^-64`, rounded down.
+const QUARTER: u128 = PI >> 63;
 
 /// The largest rest, which is an eighth of a turn, in units of `2^-64` quarter turns.
 const EIGHTH: u64 = 1 << 63;

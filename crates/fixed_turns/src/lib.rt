@@ -7,6 +7,7 @@
 
 mod angles;
 mod checked;
+mod constants;
 mod directions;
 mod guesses;
 pub mod laws;

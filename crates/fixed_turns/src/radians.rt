@@ -7,19 +7,10 @@ ghost use Rattle.fixed_turns.specs.Sines.{sine_room};
 ghost use Rattle.fixed_turns.specs.inside.Rests.{IsBesidePi, IsReducedTo, IsSplit};
 
 use crate::angles::Angle;
+use crate::constants::{QUARTERS, QUARTERS_MORE, RADIANS, RADIANS_MORE};
 use crate::series::high;
 use crate::sines::{outcome_at, outcomes_at};
 use fixed_word::{Outcome, RawWord};
-
-/// Two over pi, in units of `2^-64`, and the next 64 digits: how many quarter turns a radian is.
-const QUARTERS: u64 = 0xa2f9_836e_4e44_1529;
-
-const QUARTERS_MORE: u64 = 0xfc27_57d1_f534_ddc0;
-
-/// Half of pi, in units of `2^-63`, and the next 64 digits: how many radians a quarter turn is.
-const RADIANS: u64 = 0xc90f_daa2_2168_c234;
-
-const RADIANS_MORE: u64 = 0xc4c6_628b_80dc_1cd1;
 
 /// Returns the product of words of 64 bits.
 #[inline(always)]

@@ -5,8 +5,7 @@ ghost use Rattle.fixed_turns.specs.Series.{Fraction, cosine_series, sine_series}
 ghost use Rattle.fixed_turns.specs.Sines.{radians};
 ghost use Rattle.fixed_turns.specs.inside.Rests.{IsClose, IsLessened, IsNestedTo, IsRounded, IsUnder, quotients, reach};
 
-/// A quarter turn in radians, in units of `2^-63`.
-const QUARTER: u64 = 0xc90f_daa2_2168_c234;
+use crate::constants::RADIANS;
 
 /// Returns the higher half of a product.
 #[inline(always)]
@@ -63,7 +62,7 @@ pub(crate) fn radians_of(rest: u64) -> u64
     ensures most { result ≤ 0xc90fdaa22168c234 }
     ensures none { rest ≡ 0 → result ≡ 0 }
 {
-    ((u128::from(rest) * u128::from(QUARTER)) >> 63) as u64
+    ((u128::from(rest) * u128::from(RADIANS)) >> 63) as u64
 }
 
 /// Returns the sine of `x` radians. If an exact angle is from `x` to `x + 2` units, the result differs from its sine by
