@@ -1,6 +1,5 @@
 -- On which side of a direction in radians a point lies.
 use Rattle.std.proofs.Common.{◌≡◌, ◌≢◌, ◌⊎◌, ◌+◌, ◌-◌, ◌*◌, ◌/◌, ◌^◌, ◌<◌, ◌≤◌, ◌<ℤ◌, ◌≤ℤ◌, ◌+ℤ◌, ◌*ℤ◌, unsigned_abs, ℕ, ℤ, Bool, true, false, not, pos, negsuc, neg_ℤ, zero, suc, inl, inr, refl, subst, sym, ap, ◌∙◌, arith}
-use Rattle.std.specs.Prelude.{nat_le, if◌then◌else◌}
 use Rattle.std.proofs.lemmas.Int.{ints}
 use Rattle.std.proofs.Math.IntN.{*ℤ_comm}
 use Rattle.std.proofs.Math.Nat.{le_of_mul-le-mul_left, mul-le-mul_right, mul-le-mul_left}
@@ -13,6 +12,7 @@ use Rattle.fixed_turns.specs.Series.{Fraction, cosine_series, sine_series}
 use Rattle.fixed_turns.specs.Sines.{pi, sine_room}
 use Rattle.fixed_turns.specs.inside.Rests.{IsBesidePi, IsClose, IsSplit, IsUnder, reach}
 use Rattle.fixed_turns.proofs.RadianSines.{pi_high, pi_low}
+use Rattle.fixed_turns.proofs.Reach.{room}
 use Rattle.fixed_turns.proofs.TurnLaws.{negative_times, other_way}
 use Rattle.fixed_turns.proofs.Turning.{no_sign}
 
@@ -73,10 +73,6 @@ close_high a u n d g e k w is l =
     let x = ap (λ (j : ℕ). j * (a * n * g)) is in
     omega arith
 
-room : (b : Bool) → (0 < (if b then 2 ^ 23 else 2 ^ 3)) × ((if b then 2 ^ 23 else 2 ^ 3) * 2 ^ (if b then 41 else 61) ≡ 2 ^ 64)
-room true = (omega arith, refl)
-room false = (omega arith, refl)
-
 -- ---- (a, b) or (a, -b), and a direction by its sums
 turn_den : (a d g : ℕ) → a * (g * d) ≡ a * (d * g)
 turn_den a d g = omega arith
@@ -101,28 +97,28 @@ not_under a = omega (arith, ints)
 
 pub left_of : (bits a b v w : ℕ) (t u : Bool) (s c : Fraction) → with_sign t (a * v) ≤ℤ with_sign u (b * w) → IsClose (reach bits) v s → IsClose (reach bits) w c → IsLeft (sine_room bits) t (pos a) (with_sign u b) s c
 left_of bits a b v w t u s c le x y =
-    let r = room (nat_le bits 32) in
+    let r = room bits in
     let e = reach bits in
     let k = 2 ^ sine_room bits in
     let d = s.den * c.den in
-    let yl = close_low b w c.num c.den s.den e k (2 ^ 64) r.1 y.below in
-    let yh = close_high b w c.num c.den s.den e k (2 ^ 64) r.1 y.above in
+    let yl = close_low b w c.num c.den s.den e k (2 ^ 64) r.1.0 y.below in
+    let yh = close_high b w c.num c.den s.den e k (2 ^ 64) r.1.0 y.above in
     let o = ordered t u (a * v) (b * w) d (a * v * d) (b * w * d) (a * (s.num * c.den)) (b * (c.num * s.den)) k e (a * d) (b * d) r.0 refl refl le
-    (close_low a v s.num s.den c.den e k (2 ^ 64) r.1 x.below) (close_high a v s.num s.den c.den e k (2 ^ 64) r.1 x.above)
+    (close_low a v s.num s.den c.den e k (2 ^ 64) r.1.0 x.below) (close_high a v s.num s.den c.den e k (2 ^ 64) r.1.0 x.above)
     (rw (turn_den (b * w) s.den c.den, turn_den b s.den c.den) at yl) (rw (turn_den (b * w) s.den c.den, turn_den b s.den c.den) at yh) in
     (not_under a, rw (across_is k a t s c, along_is k b u s c, slack_is a b u s c) o)
 
 pub right_of : (bits a b v w : ℕ) (t u : Bool) (s c : Fraction) → with_sign u (b * w) ≤ℤ with_sign t (a * v) → IsClose (reach bits) v s → IsClose (reach bits) w c → IsRight (sine_room bits) t (pos a) (with_sign u b) s c
 right_of bits a b v w t u s c le x y =
-    let r = room (nat_le bits 32) in
+    let r = room bits in
     let e = reach bits in
     let k = 2 ^ sine_room bits in
     let d = s.den * c.den in
-    let yl = close_low b w c.num c.den s.den e k (2 ^ 64) r.1 y.below in
-    let yh = close_high b w c.num c.den s.den e k (2 ^ 64) r.1 y.above in
+    let yl = close_low b w c.num c.den s.den e k (2 ^ 64) r.1.0 y.below in
+    let yh = close_high b w c.num c.den s.den e k (2 ^ 64) r.1.0 y.above in
     let o = ordered u t (b * w) (a * v) d (b * w * d) (a * v * d) (b * (c.num * s.den)) (a * (s.num * c.den)) k e (b * d) (a * d) r.0 refl refl le
     (rw (turn_den (b * w) s.den c.den, turn_den b s.den c.den) at yl) (rw (turn_den (b * w) s.den c.den, turn_den b s.den c.den) at yh)
-    (close_low a v s.num s.den c.den e k (2 ^ 64) r.1 x.below) (close_high a v s.num s.den c.den e k (2 ^ 64) r.1 x.above) in
+    (close_low a v s.num s.den c.den e k (2 ^ 64) r.1.0 x.below) (close_high a v s.num s.den c.den e k (2 ^ 64) r.1.0 x.above) in
     let more : slack a (with_sign u b) s c ≡ b * d + a * d = slack_is a b u s c ∙ other_sum (a * d) (b * d) in
     (not_under a, rw (across_is k a t s c, along_is k b u s c, more) o)
   where

@@ -9,7 +9,7 @@ use Rattle.fixed_turns.specs.RadianAngles.{IsLeftBy, IsRadianAngle, IsRight, IsR
 use Rattle.fixed_turns.specs.Radians.{IsReduced, parts}
 use Rattle.fixed_turns.specs.Series.{Fraction, cosine_series, sine_series}
 use Rattle.fixed_turns.specs.Sines.{pi}
-use Rattle.fixed_turns.specs.inside.Rests.{IsBetween}
+use Rattle.fixed_turns.specs.inside.Rests.{IsBetween, rounded_pi}
 use Rattle.fixed_turns.proofs.TurnLaws.{twice_negated}
 
 -- ---- a direction between two units
@@ -26,20 +26,17 @@ shifted h f l most =
     omega (arith, d, m)
 
 -- ---- past pi
-abbrev half : ℕ
-half = 0xc90fdaa22168c234c4c6628b80dc1cd1
-
-pub past : (f : ℕ) → f ≤ 64 → pi * 2 ^ (f + 1) ≤ (2 * (half / 2 ^ (126 - f) + 1) + 1) * 10 ^ 39
+pub past : (f : ℕ) → f ≤ 64 → pi * 2 ^ (f + 1) ≤ (2 * (rounded_pi / 2 ^ (126 - f) + 1) + 1) * 10 ^ 39
 past f l =
     let d = 2 ^ (126 - f) in
     let o = pow_pos (126 - f) in
-    let q = half / d in
-    let s = div-add-mod' half d in
-    let b = mod_below half d o in
+    let q = rounded_pi / d in
+    let s = div-add-mod' rounded_pi d in
+    let b = mod_below rounded_pi d o in
     let e : 126 - f + f ≡ 126 = omega arith in
     let t : d * 2 ^ f ≡ 2 ^ 126 = sym (pow-add 2 (126 - f) f) ∙ ap (λ (j : ℕ). 2 ^ j) e in
-    let n : pi * 2 ^ 126 ≤ (half + 1) * 10 ^ 39 = omega arith in
-    let m : (half + 1) * 10 ^ 39 ≤ (q + 1) * d * 10 ^ 39 = mul-le-mul_right {m = half + 1} {n = (q + 1) * d} (10 ^ 39) (omega arith) in
+    let n : pi * 2 ^ 126 ≤ (rounded_pi + 1) * 10 ^ 39 = omega arith in
+    let m : (rounded_pi + 1) * 10 ^ 39 ≤ (q + 1) * d * 10 ^ 39 = mul-le-mul_right {m = rounded_pi + 1} {n = (q + 1) * d} (10 ^ 39) (omega arith) in
     let g : pi * 2 ^ f * d ≡ pi * 2 ^ 126 = omega (arith, ap (λ (j : ℕ). pi * j) t) in
     let h : pi * 2 ^ f * d ≤ (q + 1) * 10 ^ 39 * d = omega (arith, g, n, m) in
     let r = le_of_mul-le-mul_right {m = pi * 2 ^ f} {n = (q + 1) * 10 ^ 39} h o in
@@ -47,12 +44,12 @@ past f l =
     let v : pi * 2 ^ (f + 1) ≡ 2 * (pi * 2 ^ f) = omega (arith, ap (λ (j : ℕ). pi * j) w) in
     omega (arith, v, r)
 
-pub near : (f : ℕ) → f ≤ 64 → 2 * (half / 2 ^ (126 - f) + 1) * 2 ^ (64 - f) ≤ 2 * 0x3a666000000000000 + 2 ^ (64 - f)
+pub near : (f : ℕ) → f ≤ 64 → 2 * (rounded_pi / 2 ^ (126 - f) + 1) * 2 ^ (64 - f) ≤ 2 * 0x3a666000000000000 + 2 ^ (64 - f)
 near f l =
     let d = 2 ^ (126 - f) in
     let k = 2 ^ (64 - f) in
-    let q = half / d in
-    let s = div-add-mod' half d in
+    let q = rounded_pi / d in
+    let s = div-add-mod' rounded_pi d in
     let e : 126 - f ≡ 64 - f + 62 = omega arith in
     let t : d ≡ k * 2 ^ 62 = ap (λ (j : ℕ). 2 ^ j) e ∙ pow-add 2 (64 - f) 62 in
     let u : q * d ≡ q * k * 2 ^ 62 = ap (λ (j : ℕ). q * j) t ∙ sym (mul_assoc q k (2 ^ 62)) in

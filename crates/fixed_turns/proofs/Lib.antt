@@ -6,6 +6,7 @@ pub mod Nesting
 pub mod Pi
 pub mod Quarters
 pub mod RadianSines
+pub mod Reach
 pub mod Splits
 pub mod Sides
 pub mod Sums

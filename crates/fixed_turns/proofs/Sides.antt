@@ -1,6 +1,5 @@
 -- On which side of a direction a point lies, and the search between directions.
-use Rattle.std.proofs.Common.{◌≡◌, ◌≢◌, ◌+◌, ◌-◌, ◌*◌, ◌/◌, ◌^◌, ◌<◌, ◌≤◌, ℕ, Bool, true, false, refl, subst, sym, ap, ◌∙◌, arith}
-use Rattle.std.specs.Prelude.{nat_le, if◌then◌else◌}
+use Rattle.std.proofs.Common.{◌≡◌, ◌≢◌, ◌+◌, ◌-◌, ◌*◌, ◌/◌, ◌^◌, ◌<◌, ◌≤◌, ℕ, true, false, refl, subst, sym, ap, ◌∙◌, arith}
 use Rattle.std.proofs.lemmas.Bool.{leb-false, leb-true}
 use Rattle.std.proofs.Math.Dec.{leb}
 use Rattle.std.proofs.lemmas.Nat.{pow-add}
@@ -8,6 +7,7 @@ use Rattle.std.proofs.Math.Nat.{le_of_mul-le-mul_right, mul-le-mul_right, mul-le
 use Rattle.fixed_turns.specs.Angles.{IsBeside, IsLeftOf, IsNearest, IsRestOf, IsRightOf, turn_room}
 use Rattle.fixed_turns.specs.Series.{Fraction}
 use Rattle.fixed_turns.specs.inside.Rests.{IsClose, reach}
+use Rattle.fixed_turns.proofs.Reach.{room}
 
 -- ---- sums u and v are s / d and c / g, in units of 1 / w, off by e at most, which is 1 / (2 p)
 left : (a b u v s d c g e p w : ℕ) → 0 < e → 2 * e * p ≡ w → b ≤ a → a * u ≤ b * v → s * w ≤ (u + e) * d → v * g ≤ c * w + e * g
@@ -34,19 +34,15 @@ right a b u v s d c g e p w o is octant h low high =
     let f : p * (b * c * d) * (2 * e) ≤ (p * (a * s * g) + a * (d * g)) * (2 * e) = omega arith in
     le_of_mul-le-mul_right f (omega arith)
 
-room : (b : Bool) → (0 < (if b then 2 ^ 23 else 2 ^ 3)) × (2 * (if b then 2 ^ 23 else 2 ^ 3) * 2 ^ (if b then 40 else 60) ≡ 2 ^ 64)
-room true = (omega arith, refl)
-room false = (omega arith, refl)
-
 pub left_by : (bits a b u v : ℕ) (s c : Fraction) → b ≤ a → a * u ≤ b * v → IsClose (reach bits) u s → IsClose (reach bits) v c → IsLeftOf (turn_room bits) a b s c
 left_by bits a b u v s c octant h x y =
-    let r = room (nat_le bits 32) in
-    left a b u v s.num s.den c.num c.den (reach bits) (2 ^ turn_room bits) (2 ^ 64) r.0 r.1 octant h x.above y.below
+    let r = room bits in
+    left a b u v s.num s.den c.num c.den (reach bits) (2 ^ turn_room bits) (2 ^ 64) r.0 r.1.1 octant h x.above y.below
 
 pub right_by : (bits a b u v : ℕ) (s c : Fraction) → b ≤ a → b * v ≤ a * u → IsClose (reach bits) u s → IsClose (reach bits) v c → IsRightOf (turn_room bits) a b s c
 right_by bits a b u v s c octant h x y =
-    let r = room (nat_le bits 32) in
-    right a b u v s.num s.den c.num c.den (reach bits) (2 ^ turn_room bits) (2 ^ 64) r.0 r.1 octant h x.below y.above
+    let r = room bits in
+    right a b u v s.num s.den c.num c.den (reach bits) (2 ^ turn_room bits) (2 ^ 64) r.0 r.1.1 octant h x.below y.above
 
 -- the test, where x, y and z are a, u and b
 pub tested_left : (a b u v x y z : ℕ) → x ≡ a → y ≡ u → z ≡ b → leb (x * y) (z * v) ≡ true → a * u ≤ b * v

@@ -6,11 +6,8 @@ use Rattle.std.proofs.lemmas.Nat.{div-add-mod', pow_pos, shl_whole}
 use Rattle.std.proofs.Math.Nat.{le_of_mul-le-mul_right, mul-le-mul_right, mul-le-mul_left}
 use Rattle.fixed_word.specs.Format.{with_sign}
 use Rattle.fixed_turns.specs.Radians.{IsReduced, parts}
-use Rattle.fixed_turns.specs.inside.Rests.{IsBesidePi, IsReducedTo, IsSplit, IsUnder}
+use Rattle.fixed_turns.specs.inside.Rests.{IsBesidePi, IsReducedTo, IsSplit, IsUnder, rounded_pi}
 use Rattle.fixed_turns.proofs.TurnLaws.{negative_times, other_way}
-
-abbrev pub quarter : ℕ
-quarter = 0xc90fdaa22168c234c4c6628b80dc1cd1
 
 -- ---- a rest, of which k parts are 2^65 2 10^39
 rest_under : (t r f k : ℕ) → k * 2 ^ f ≡ 2 ^ 65 → 2 * t * (2 * 10 ^ 39) ≤ r * k → r * k ≤ 2 * (t + 2) * (2 * 10 ^ 39) → IsUnder 2 t (parts r f)
@@ -52,7 +49,7 @@ rest_below p m f n t k below o u le low high few sure =
     record { sign = true; rest = r; is = omega (arith, ints); small = rest_small t r f k o u few most; under = rest_under t r f k u (omega arith) most; sure = sure }
 
 -- ---- c is n quarters, rounded down
-quarters_low : (p f n k c : ℕ) → k * 2 ^ f ≡ 2 ^ 65 → IsBesidePi p → c * 2 ^ 63 ≤ n * quarter → 2 * 10 ^ 39 * (2 * c) ≤ n * (p * 2 ^ f) * k
+quarters_low : (p f n k c : ℕ) → k * 2 ^ f ≡ 2 ^ 65 → IsBesidePi p → c * 2 ^ 63 ≤ n * rounded_pi → 2 * 10 ^ 39 * (2 * c) ≤ n * (p * 2 ^ f) * k
 quarters_low p f n k c u i low =
     let a = mul-le-mul_left n i.below in
     let b = mul-le-mul_right (10 ^ 39) low in
@@ -61,10 +58,10 @@ quarters_low p f n k c u i low =
     let h = le_of_mul-le-mul_right {k = 2 ^ 61} g (omega arith) in
     omega arith
 
-quarters_high : (p f n k c : ℕ) → k * 2 ^ f ≡ 2 ^ 65 → IsBesidePi p → n < 2 ^ 64 → n * quarter < (c + 1) * 2 ^ 63 → n * (p * 2 ^ f) * k ≤ 2 * (2 * c + 3) * 10 ^ 39
+quarters_high : (p f n k c : ℕ) → k * 2 ^ f ≡ 2 ^ 65 → IsBesidePi p → n < 2 ^ 64 → n * rounded_pi < (c + 1) * 2 ^ 63 → n * (p * 2 ^ f) * k ≤ 2 * (2 * c + 3) * 10 ^ 39
 quarters_high p f n k c u i few high =
-    let a : n * (4 * (p * 2 ^ 126)) ≤ n * ((4 * quarter + 1) * 10 ^ 39) = mul-le-mul_left n i.above in
-    let b : n * quarter * 10 ^ 39 ≤ (c + 1) * 2 ^ 63 * 10 ^ 39 = mul-le-mul_right {m = n * quarter} {n = (c + 1) * 2 ^ 63} (10 ^ 39) (omega arith) in
+    let a : n * (4 * (p * 2 ^ 126)) ≤ n * ((4 * rounded_pi + 1) * 10 ^ 39) = mul-le-mul_left n i.above in
+    let b : n * rounded_pi * 10 ^ 39 ≤ (c + 1) * 2 ^ 63 * 10 ^ 39 = mul-le-mul_right {m = n * rounded_pi} {n = (c + 1) * 2 ^ 63} (10 ^ 39) (omega arith) in
     let d : n * 10 ^ 39 ≤ 2 ^ 64 * 10 ^ 39 = mul-le-mul_right {m = n} {n = 2 ^ 64} (10 ^ 39) (omega arith) in
     let e : n * (p * 2 ^ f) * k ≡ n * p * 2 ^ 65 = omega (arith, ap (λ (j : ℕ). n * p * j) u) in
     let g : n * p * 2 ^ 65 * 2 ^ 63 ≤ 2 * (2 * c + 3) * 10 ^ 39 * 2 ^ 63 = omega arith in
@@ -79,10 +76,10 @@ pub record IsWhole (m f n x c : ℕ) : Type 0 where
   pub least : 2 * x ≤ m * k + 1
   pub most : m * k ≤ 2 * x
   pub few : n < 2 ^ 64
-  pub low : c * 2 ^ 63 ≤ n * quarter
-  pub high : n * quarter < (c + 1) * 2 ^ 63
+  pub low : c * 2 ^ 63 ≤ n * rounded_pi
+  pub high : n * rounded_pi < (c + 1) * 2 ^ 63
 
-pub whole_is : (m f n x c k : ℕ) → k * 2 ^ f ≡ 2 ^ 65 → 2 * x ≤ m * k + 1 → m * k ≤ 2 * x → n < 2 ^ 64 → c * 2 ^ 63 ≤ n * quarter → n * quarter < (c + 1) * 2 ^ 63 → IsWhole m f n x c
+pub whole_is : (m f n x c k : ℕ) → k * 2 ^ f ≡ 2 ^ 65 → 2 * x ≤ m * k + 1 → m * k ≤ 2 * x → n < 2 ^ 64 → c * 2 ^ 63 ≤ n * rounded_pi → n * rounded_pi < (c + 1) * 2 ^ 63 → IsWhole m f n x c
 whole_is m f n x c k u least most few low high = record { k = k; some = some_of k (2 ^ f) u; unit = u; least = least; most = most; few = few; low = low; high = high }
   where
     some_of : (k g : ℕ) → k * g ≡ 2 ^ 65 → 0 < k

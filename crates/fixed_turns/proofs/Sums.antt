@@ -7,6 +7,7 @@ use Rattle.fixed_turns.specs.Series.{Fraction, cosine_series, nested, sine_serie
 use Rattle.fixed_turns.specs.Sines.{IsNear, IsSumAt, radians, sine_room}
 use Rattle.fixed_turns.specs.inside.Rests.{IsClose, IsLessened, IsNestedTo, IsRounded, IsUnder, quotients, reach, slack}
 use Rattle.fixed_turns.proofs.Nesting.{lessened_close, nested_part, quotient_high, quotient_low, square_part, square_under}
+use Rattle.fixed_turns.proofs.Reach.{room}
 
 -- ---- how far off
 far : (b : Bool) → ((if b then 7 else 10) ≤ 10) × ((slack 2 (if b then 7 else 10) (if b then 7 else 10) + 2 ≤ (if b then 2 ^ 23 else 2 ^ 3)) × (slack 1 (if b then 7 else 10) (if b then 7 else 10) + 1 ≤ (if b then 2 ^ 23 else 2 ^ 3)))
@@ -130,10 +131,6 @@ near_by k e is y f v r l close round =
       above = rw (a, b) (near_high r v y.num y.den (2 ^ (64 - f)) (2 ^ f) (2 ^ k) e (2 ^ 64) o p is round.above close.above);
     }
 
-room : (b : Bool) → (if b then 2 ^ 23 else 2 ^ 3) * 2 ^ (if b then 41 else 61) ≡ 2 ^ 64
-room true = refl
-room false = refl
-
 -- ---- from 0 to 1
 most : (f v r : ℕ) → f ≤ 64 → v ≤ 2 ^ 64 → IsRounded v (64 - f) r → r ≤ 2 ^ f
 most f v r l m round =
@@ -162,9 +159,9 @@ one_rounded f v r l e round =
 pub sum_at : (series : Fraction → ℕ → Fraction) (bits f e r v : ℕ) (y : Fraction) → f ≤ 64 → ((n : ℕ) → IsClose (reach bits) v (series y (n + 10))) → v ≤ 2 ^ 64 → IsRounded v (64 - f) r → (y.num ≡ 0 → r ≡ e)
     → IsSumAt series (sine_room bits) y f e r
 sum_at series bits f e r v y l close few round exact =
-    let s = room (nat_le bits 32) in
+    let s = room bits in
     record {
-      near = λ n. near_by (sine_room bits) (reach bits) s (series y (n + 10)) f v r l (close n) round;
+      near = λ n. near_by (sine_room bits) (reach bits) s.1.0 (series y (n + 10)) f v r l (close n) round;
       most = most f v r l few round;
       exact = exact;
     }

@@ -60,10 +60,14 @@ pub record IsRounded (v s r : ℕ) : Type 0 where
   pub below : 2 * (r * 2 ^ s) ≤ 2 * v + 2 ^ s
   pub above : 2 * v ≤ 2 * (r * 2 ^ s) + 2 ^ s
 
--- p is pi or the next number: half of p 10^-39 is at least the literal, in units of 2^-127, and at most 1/4 of a unit more
+-- pi in units of 2^-126, rounded down, which is also half of pi in units of 2^-127
+abbrev pub rounded_pi : ℕ
+rounded_pi = 0xc90fdaa22168c234c4c6628b80dc1cd1
+
+-- p is pi or the next number: half of p 10^-39 is at least rounded_pi, in units of 2^-127, and at most 1/4 of a unit more
 pub record IsBesidePi (p : ℕ) : Type 0 where
-  pub below : 0xc90fdaa22168c234c4c6628b80dc1cd1 * 10 ^ 39 ≤ p * 2 ^ 126
-  pub above : 4 * (p * 2 ^ 126) ≤ (4 * 0xc90fdaa22168c234c4c6628b80dc1cd1 + 1) * 10 ^ 39
+  pub below : rounded_pi * 10 ^ 39 ≤ p * 2 ^ 126
+  pub above : 4 * (p * 2 ^ 126) ≤ (4 * rounded_pi + 1) * 10 ^ 39
 
 -- m 2^-f radians are n quarters and a rest, whose magnitude is x units of 2^-64 or up to 2 more; it is below 0 if `below`
 -- is true, and its sign is not known if x is 0
