@@ -11,7 +11,7 @@ ghost use Rattle.fixed_turns.specs.inside.Rests.{IsBetween, IsUnder};
 
 use crate::angles::Angle;
 use crate::constants::PI;
-use crate::guesses::radians_near;
+use crate::guesses::{probe, radians_near};
 use crate::radians::{product, split_units};
 use crate::series::{cosine, sine};
 use fixed_word::{Outcome, RawWord, outcome_of_magnitude};
@@ -122,23 +122,6 @@ fn past_pi(frac: u32) -> u128
     ensures near { (2 * result) * 2 ^ (64 - frac) ≤ 2 * 0x3a666000000000000 + 2 ^ (64 - frac) }
 {
     (PI >> (126 - frac)) + 1
-}
-
-/// Returns where the search looks next, as [`crate::octants`] does in 64 bits.
-#[inline(always)]
-fn probe(low: u128, high: u128, guess: u128, stride: u128) -> u128
-    requires { low < high }
-    ensures least { low ≤ result }
-    ensures most { result < high }
-{
-    let reach = (stride / 4).min((high - low) / 2);
-    if guess < low {
-        low + reach
-    } else if high <= guess {
-        high - reach.max(1)
-    } else {
-        guess
-    }
 }
 
 /// Returns the angle of the point in units of `2^-frac` radians, rounded to the nearest up to the same part.

@@ -1,5 +1,5 @@
-//! A guess at the angle of a point. No contract states how near the guess is: the search returns a correct result from
-//! any start.
+//! A guess at the angle of a point, and where a search looks next. No contract states how near the guess is: the search
+//! returns a correct result from any start.
 
 ghost use Rattle.std.specs.Prelude.{◌≤◌, ◌<◌, ◌+◌, ◌*◌, ◌^◌};
 
@@ -113,4 +113,23 @@ pub(crate) fn radians_near(left: bool, x: u64, y: u64, bits: u32, frac: u32) -> 
         (false, false) => QUARTER - beside,
     };
     (angle + ((1 << (64 - frac)) >> 1)) >> (64 - frac)
+}
+
+/// Returns where the search looks next, from `low` to below `high`. That is the guess if it is in this range. If it is
+/// not, the search looks beside the nearer end: further away as the stride grows, but by at most half of the range, or
+/// by 1.
+#[inline(always)]
+pub(crate) fn probe(low: u128, high: u128, guess: u128, stride: u128) -> u128
+    requires { low < high }
+    ensures least { low ≤ result }
+    ensures most { result < high }
+{
+    let reach = (stride / 4).min((high - low) / 2);
+    if guess < low {
+        low + reach
+    } else if high <= guess {
+        high - reach.max(1)
+    } else {
+        guess
+    }
 }

@@ -6,7 +6,7 @@ ghost use Rattle.fixed_turns.specs.Angles.{IsBeside, IsLeftOf, IsNearest, IsRest
 ghost use Rattle.fixed_turns.specs.Series.{Fraction, cosine_series, sine_series};
 ghost use Rattle.fixed_turns.specs.inside.Rests.{IsUnder};
 
-use crate::guesses::guess;
+use crate::guesses::{guess, probe};
 use crate::series::{cosine, radians_of, sine};
 
 /// Returns 2 to the power of `exponent`. Precondition: `exponent` is below 64.
@@ -48,25 +48,6 @@ fn is_above_half(a: u64, b: u64, units: u64, bits: u32, frac: u32) -> bool
     is_left(a, b, radians_of((2 * units + 1) << (65 - frac)), bits)
 }
 
-/// Returns where the search looks next, from `low` to below `high`. That is the guess if it is in this range. If it is
-/// not, the search looks beside the nearer end: further away as the stride grows, but by at most half of the range, or
-/// by 1.
-#[inline(always)]
-fn probe(low: u64, high: u64, guess: u64, stride: u64) -> u64
-    requires { low < high }
-    ensures least { low ≤ result }
-    ensures most { result < high }
-{
-    let reach = (stride / 4).min((high - low) / 2);
-    if guess < low {
-        low + reach
-    } else if high <= guess {
-        high - reach.max(1)
-    } else {
-        guess
-    }
-}
-
 /// Returns the angle of `(a, b)` in units of `2^-frac` turns, rounded to the nearest up to the same bound.
 #[inline(always)]
 fn nearest(a: u64, b: u64, guess: u64, bits: u32, frac: u32) -> u64
@@ -80,7 +61,12 @@ fn nearest(a: u64, b: u64, guess: u64, bits: u32, frac: u32) -> u64
     let mut high = power(frac - 2) / 2;
     let mut stride = 1_u64;
     while low < high {
-        let units = probe(low, high, guess, stride);
+        let units = probe(
+            u128::from(low),
+            u128::from(high),
+            u128::from(guess),
+            u128::from(stride),
+        ) as u64;
         if is_above_half(a, b, units, bits, frac) {
             low = units + 1;
         } else {
