@@ -132,15 +132,31 @@ square_part y t small u =
     omega arith
 
 -- ---- all quotients
+left_out : (y : Fraction) (t m n : ℕ) → 1 ≤ m → 8 * t ≤ 5 * 2 ^ 64 → IsUnder 5 t y → y.num ≤ y.den → IsClose (4 + 5 * 2 ^ 64 / (8 * (m * (m + 1)))) 0 (nested y m n)
+unfolding nested
+left_out y t m zero one small u part =
+    let b : (nested y m zero).num ≡ 0 = refl in
+    record { below = omega arith; above = omega arith }
+left_out y t m (suc n) one small u part =
+    let z = nested y (m + 2) n in
+    let d = m * (m + 1) in
+    let j = 5 * 2 ^ 64 / (8 * d) in
+    let two : 2 ≤ d = mul-le 1 2 m (m + 1) one (omega arith) in
+    let e = quotient_high (5 * 2 ^ 64) (8 * d) (omega arith) in
+    let a : t + 5 ≤ (4 + j) * d = omega arith in
+    let b = mul-le-mul_right y.den a in
+    let above = u.above in
+    let f = mul-le (y.num * 2 ^ 64) (z.den - z.num) ((4 + j) * d * y.den) z.den (omega arith) (omega arith) in
+    let den : (nested y m (suc n)).den ≡ y.den * (m * (m + 1)) * z.den = refl in
+    let num : (nested y m (suc n)).num ≡ y.num * (z.den - z.num) = refl in
+    record { below = omega arith; above = omega arith }
+
 pub nested_none : (square first count : ℕ) → 1 ≤ first → 8 * square ≤ 5 * 2 ^ 64 → IsNestedTo square first count 0 0
 unfolding slack
 nested_none square first count one small = λ y n u.
-    let part = square_part y square small u in
-    let is = nested_part y (first + 2 * (count - 0)) (n + 0) u.some part (omega arith) in
-    let z = nested y (first + 2 * (count - 0)) (n + 0) in
-    let a : z.num * 2 ^ 64 ≤ z.den * 2 ^ 64 = mul-le-mul_right (2 ^ 64) is.1 in
-    let far : slack first count 0 ≡ 2 ^ 64 = refl in
-    record { below = omega arith; above = omega arith }
+    let e : first + 2 * (count - 0) ≡ first + 2 * count = omega arith in
+    let close = left_out y square (first + 2 * count) (n + 0) (omega arith) small u (square_part y square small u) in
+    subst (λ (j : ℕ). IsClose (slack first count 0) 0 (nested y j (n + 0))) (sym e) close
 
 pub nested_turn : (square first count i less s : ℕ) → 1 ≤ first → 8 * square ≤ 5 * 2 ^ 64 → i < count → IsNestedTo square first count i less
     → IsLessened (square / (place first count i * (place first count i + 1))) less s → IsNestedTo square first count (i + 1) s

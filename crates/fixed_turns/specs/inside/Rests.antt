@@ -30,7 +30,7 @@ IsSineNear k q below x f r = (b : Bool) (y : Fraction) → IsUnder 2 x y → (b 
 
 -- how many quotients are read on words of n bits, and how far off the sum may be
 abbrev pub quotients : ℕ → ℕ
-quotients n = if nat_le n 32 then 7 else 10
+quotients n = if nat_le n 32 then 6 else 10
 
 abbrev pub reach : ℕ → ℕ
 reach n = if nat_le n 32 then 2 ^ 23 else 2 ^ 3
@@ -39,9 +39,9 @@ reach n = if nat_le n 32 then 2 ^ 23 else 2 ^ 3
 abbrev pub place : ℕ → ℕ → ℕ → ℕ
 place first count i = first + 2 * (count - 1 - i)
 
--- how far off i quotients are, by a number that is 5/8 at most
+-- how far off i quotients are, by a number that is 5/8 at most; the quotients after them are left out
 unfoldable pub slack : ℕ → ℕ → ℕ → ℕ
-slack first count zero = 2 ^ 64
+slack first count zero = 4 + 5 * 2 ^ 64 / (8 * ((first + 2 * count) * (first + 2 * count + 1)))
 slack first count (suc i) = 4 + 5 * slack first count i / (8 * (place first count i * (place first count i + 1)))
 
 -- less is close to i quotients and n more
