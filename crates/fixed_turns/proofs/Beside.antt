@@ -1,10 +1,9 @@
 -- On which side of a direction in radians a point lies.
-use Rattle.std.proofs.Common.{◌≡◌, ◌≢◌, ◌⊎◌, ◌+◌, ◌-◌, ◌*◌, ◌/◌, ◌^◌, ◌<◌, ◌≤◌, ◌<ℤ◌, ◌≤ℤ◌, ◌+ℤ◌, ◌*ℤ◌, unsigned_abs, ℕ, ℤ, Bool, true, false, not, pos, negsuc, neg_ℤ, zero, suc, inl, inr, refl, subst, sym, ap, ◌∙◌, arith}
+use Rattle.std.proofs.Common.{◌≡◌, ◌≢◌, ◌⊎◌, ◌+◌, ◌*◌, ◌^◌, ◌<◌, ◌≤◌, ◌<ℤ◌, ◌≤ℤ◌, ◌+ℤ◌, ◌*ℤ◌, unsigned_abs, ℕ, ℤ, Bool, true, false, not, pos, negsuc, neg_ℤ, zero, suc, inl, inr, refl, subst, sym, ap, ◌∙◌, arith}
 use Rattle.std.proofs.lemmas.Int.{ints}
 use Rattle.std.proofs.Math.IntN.{*ℤ_comm}
 use Rattle.std.proofs.Math.Nat.{le_of_mul-le-mul_left, mul-le-mul_right, mul-le-mul_left}
 use Rattle.fixed_word.specs.Format.{with_sign}
-use Rattle.fixed_word.proofs.Wraps.{neg-times}
 use Rattle.fixed_turns.specs.Angles.{is_below}
 use Rattle.fixed_turns.specs.RadianAngles.{IsLeft, IsLeftBy, IsRight, IsRightBy, IsSide, IsSideWith}
 use Rattle.fixed_turns.specs.Radians.{IsReduced, parts}

@@ -1,5 +1,5 @@
 -- The search for an angle in radians.
-use Rattle.std.proofs.Common.{◌≡◌, ◌≢◌, ◌⊎◌, ◌+◌, ◌-◌, ◌*◌, ◌/◌, ◌%◌, ◌^◌, ◌<◌, ◌≤◌, ◌<ℤ◌, ◌≤ℤ◌, ◌+ℤ◌, ◌*ℤ◌, unsigned_abs, ℕ, ℤ, Bool, true, false, pos, negsuc, neg_ℤ, zero, suc, inl, inr, refl, subst, sym, ap, ◌∙◌, mul_assoc, pow-add, arith}
+use Rattle.std.proofs.Common.{◌≡◌, ◌≢◌, ◌+◌, ◌-◌, ◌*◌, ◌/◌, ◌%◌, ◌^◌, ◌<◌, ◌≤◌, ◌<ℤ◌, ◌≤ℤ◌, ◌+ℤ◌, ◌*ℤ◌, unsigned_abs, ℕ, ℤ, Bool, true, false, pos, negsuc, neg_ℤ, zero, suc, refl, subst, sym, ap, ◌∙◌, mul_assoc, pow-add, arith}
 use Rattle.std.proofs.lemmas.Int.{ints}
 use Rattle.std.proofs.lemmas.Nat.{div-add-mod', mod_below, pow_pos}
 use Rattle.std.proofs.Math.Nat.{le_of_mul-le-mul_right, mod-eq_of_lt, mul-le-mul_left, mul-le-mul_right, pow-le-pow_right}

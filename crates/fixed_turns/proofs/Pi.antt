@@ -1,9 +1,9 @@
 -- The series of the sine at half a turn, by the decimals of pi.
 use lib.Ieee.Fits.{and_l, and_r}
-use Rattle.std.proofs.Common.{◌≡◌, ◌+◌, ◌-◌, ◌*◌, ◌/◌, ◌^◌, ◌<◌, ◌≤◌, ℕ, zero, suc, Bool, ◌&&◌, T, leb, leb→le, refl, subst, sym, ap, ◌∙◌, arith}
+use Rattle.std.proofs.Common.{◌≡◌, ◌+◌, ◌-◌, ◌*◌, ◌/◌, ◌^◌, ◌<◌, ◌≤◌, ℕ, zero, suc, Bool, ◌&&◌, T, leb, leb→le, subst, ap, ◌∙◌, arith}
 use Rattle.std.proofs.lemmas.Nat.{div-add-mod', mod_below, mul-le}
 use Rattle.std.proofs.Math.Nat.{le_of_mul-le-mul_right, lt_of_mul-lt-mul_right, mul-le-mul_right, mul-le-mul_left}
-use Rattle.fixed_turns.specs.Series.{Fraction, lessened, nested, over, sine_series, squared}
+use Rattle.fixed_turns.specs.Series.{Fraction, nested, sine_series}
 use Rattle.fixed_turns.specs.Sines.{pi, radians}
 
 -- ---- nested quotients of a / b, in units of 1 / u: the i first ones, and how far they are from all

@@ -5,7 +5,7 @@ use Rattle.std.proofs.lemmas.Int.{ints}
 use Rattle.std.proofs.lemmas.Nat.{div-add-mod', pow_pos, shl_whole}
 use Rattle.std.proofs.Math.Nat.{le_of_mul-le-mul_right, mul-le-mul_right, mul-le-mul_left}
 use Rattle.fixed_word.specs.Format.{with_sign}
-use Rattle.fixed_turns.specs.Radians.{IsReduced, parts}
+use Rattle.fixed_turns.specs.Radians.{parts}
 use Rattle.fixed_turns.specs.inside.Rests.{IsBesidePi, IsReducedTo, IsSplit, IsUnder, rounded_pi}
 use Rattle.fixed_turns.proofs.TurnLaws.{negative_times, other_way}
 

@@ -10,7 +10,7 @@ use Rattle.fixed_turns.proofs.Nesting.{lessened_close, nested_part, quotient_hig
 use Rattle.fixed_turns.proofs.Reach.{room}
 
 -- ---- how far off
-far : (b : Bool) → ((if b then 6 else 10) ≤ 10) × ((slack 2 (if b then 6 else 10) (if b then 6 else 10) + 2 ≤ (if b then 2 ^ 23 else 2 ^ 3)) × (slack 1 (if b then 6 else 10) (if b then 6 else 10) + 1 ≤ (if b then 2 ^ 23 else 2 ^ 3)))
+far : (b : Bool) → ((if b then 6 else 9) ≤ 10) × ((slack 2 (if b then 6 else 9) (if b then 6 else 9) + 2 ≤ (if b then 2 ^ 23 else 2 ^ 3)) × (slack 1 (if b then 6 else 9) (if b then 6 else 9) + 1 ≤ (if b then 2 ^ 23 else 2 ^ 3)))
 unfolding slack
 far true = (omega arith, (omega arith, omega arith))
 far false = (omega arith, (omega arith, omega arith))

@@ -1,5 +1,5 @@
 -- The sine by quarters.
-use Rattle.std.proofs.Common.{◌≡◌, ◌⊎◌, ◌+◌, ◌-◌, ◌*◌, ◌/◌, ◌%◌, ◌^◌, ◌≤◌, ℕ, ℤ, Bool, true, false, not, pos, neg_ℤ, suc, zero, inl, inr, refl, sym, ap, ◌∙◌, arith}
+use Rattle.std.proofs.Common.{◌≡◌, ◌+◌, ◌-◌, ◌*◌, ◌/◌, ◌%◌, ◌^◌, ◌≤◌, ℕ, ℤ, Bool, true, false, not, pos, neg_ℤ, suc, zero, inl, inr, refl, sym, ap, ◌∙◌, arith}
 use Rattle.std.proofs.lemmas.Int.{ints}
 use Rattle.fixed_word.specs.Format.{with_sign}
 use Rattle.fixed_turns.specs.Series.{Fraction, cosine_series, sine_series}

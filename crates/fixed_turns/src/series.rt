@@ -29,7 +29,7 @@ fn lessened(part: u64, less: u64) -> u64
 fn quotients(bits: u32) -> u64
     ensures { result ≡ quotients bits }
 {
-    if bits <= 32 { 6 } else { 10 }
+    if bits <= 32 { 6 } else { 9 }
 }
 
 /// Returns `q (1 - r (1 - ..))`, where q, r and so on are `count` quotients of `square`. The first is by

@@ -30,7 +30,7 @@ IsSineNear k q below x f r = (b : Bool) (y : Fraction) → IsUnder 2 x y → (b 
 
 -- how many quotients are read on words of n bits, and how far off the sum may be
 abbrev pub quotients : ℕ → ℕ
-quotients n = if nat_le n 32 then 6 else 10
+quotients n = if nat_le n 32 then 6 else 9
 
 abbrev pub reach : ℕ → ℕ
 reach n = if nat_le n 32 then 2 ^ 23 else 2 ^ 3

@@ -1,6 +1,5 @@
-use Rattle.std.proofs.Common.{◌≤◌, true, false, pos, inl, inr, refl, arith}
+use Rattle.std.proofs.Common.{◌≤◌, pos, inl, inr, arith}
 use Rattle.fixed_turns.specs.RadianAngles.{IsLeftBy, IsRightBy}
-use Rattle.fixed_turns.specs.Series.{cosine_series, sine_series}
 use Rattle.fixed_turns.specs.Sines.{sine_room}
 use Rattle.fixed_turns.proofs.Beside.{by_split, left_none, left_one, left_two, right_none, right_one, right_two}
 use Rattle.fixed_turns.proofs.directions.is_left.Goals as goal

@@ -1,6 +1,5 @@
-use Rattle.std.proofs.Common.{rules, ◌≡◌, ◌+◌, ◌-◌, ◌*◌, ◌%◌, ◌^◌, ◌≤◌, false, ℕ, refl, subst, sym, arith}
+use Rattle.std.proofs.Common.{rules, ◌-◌, ◌*◌, ◌%◌, ◌^◌, ◌≤◌, refl, arith}
 use Rattle.std.proofs.lemmas.Nat.{pow_pos}
-use Rattle.fixed_turns.specs.inside.Rests.{IsSplit}
 use Rattle.fixed_turns.proofs.Splits.{as_units, doubled, exact_rest}
 use Rattle.fixed_turns.proofs.radians.split.Goals as goal
 

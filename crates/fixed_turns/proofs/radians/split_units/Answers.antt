@@ -1,4 +1,4 @@
-use Rattle.std.proofs.Common.{rules, ◌≤◌, ◌<◌, ◌+◌, ◌-◌, ◌*◌, ◌^◌, ℕ, false, subst, sym, arith}
+use Rattle.std.proofs.Common.{rules, ◌≤◌, ◌+◌, ◌-◌, ◌^◌, ℕ, false, subst, sym, arith}
 use Rattle.fixed_turns.specs.inside.Rests.{IsSplit}
 use Rattle.fixed_turns.proofs.Splits.{ahead, behind, whole_is}
 use Rattle.fixed_turns.proofs.radians.split_units.Goals as goal
