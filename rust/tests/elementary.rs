@@ -299,6 +299,15 @@ fn logarithms() {
     logarithms_of::<u64>();
 }
 
+/// Each of these lies less than 10^-9 of a unit above a whole number of units.
+#[test]
+fn logarithms_above_a_whole_number() {
+    for a in [1_860_085_729_u32, 3_240_365_059, 3_720_171_458] {
+        let expected = standing(true, (32 << 32) - logarithm(a.into(), 32));
+        assert_eq!(log2_of(a, 32), expected, "{a}");
+    }
+}
+
 /// Beside the definition, `2^s <= a^(2^places) < 2^(s + 1)`: s is one less than the bits of that power.
 #[test]
 fn logarithms_by_powers() {

@@ -8,3 +8,8 @@ mod Groups
 pub mod Raised
 mod ExpLaws
 pub mod Rows
+pub mod Chains
+mod Tables
+mod Reduced
+mod Rests
+mod Closing

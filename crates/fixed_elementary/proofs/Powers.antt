@@ -1,10 +1,10 @@
 -- Powers of 2 with a fractional exponent: their roots, squares and products, rounded down.
 use Rattle.std.proofs.Common.{◌≡◌, ◌+◌, ◌-◌, ◌*◌, ◌/◌, ◌%◌, ◌^◌, ◌<◌, ◌≤◌, ℕ, suc, refl, ap, sym, subst, ◌∙◌, inl, inr, arith}
-use Rattle.std.proofs.Math.Nat.{le_of_mul-le-mul_right, lt_of_mul-lt-mul_right, mul-le-mul_right, mul-le-mul_left, pow-le-pow_left, pow-le-pow_right, pow-lt-pow_left, one-le-pow, pow-suc, pow-zero, div-div-eq-div-mul}
+use Rattle.std.proofs.Math.Nat.{le_of_mul-le-mul_right, lt_of_mul-lt-mul_right, mul-le-mul_right, mul-le-mul_left, pow-le-pow_left, pow-le-pow_right, one-le-pow, pow-suc, pow-zero, div-div-eq-div-mul}
 use Rattle.std.proofs.lemmas.Nat.{mul-le, mul-pow, pow-add, pow_pos, div-add-mod', mod_below, div_below}
 use Rattle.std.proofs.lemmas.Bool.{cases_lt}
 use Rattle.fixed_elementary.specs.inside.Power.{IsFloored, IsPart, IsPower}
-use Rattle.fixed_elementary.proofs.Reading.{pow_times}
+use Rattle.fixed_elementary.proofs.Reading.{pow_times, root_le}
 
 -- c is 2 ^ (1 / 2 ^ b)
 pub record IsRootOfTwo (w b c : ℕ) : Type 0 where
@@ -103,12 +103,6 @@ times_above w q z i m = mul-pow (2 ^ z * w ^ q) (w ^ i) m ∙ ap (λ k. k * (w ^
 times_over : (w q i m p : ℕ) → (p ^ q * (w + 1) ^ i) ^ m ≡ p ^ (q * m) * (w + 1) ^ (i * m)
 times_over w q i m p = mul-pow (p ^ q) ((w + 1) ^ i) m ∙ ap (λ k. k * ((w + 1) ^ i) ^ m) (pow_times p q m) ∙ ap (λ k. p ^ (q * m) * k) (pow_times (w + 1) i m)
 
-root_below : (a b m : ℕ) → 0 < m → a ^ m ≤ b ^ m → a ≤ b
-root_below a b m o h = elim (cases_lt b a) [
-  | inl less ↦ let t : b ^ m < a ^ m = pow-lt-pow_left less (omega arith) in absurd (omega arith)
-  | inr fine ↦ fine
-]
-
 raised : (w q z i m p : ℕ) → IsPower w q z i p → IsPower w (q * m) (z * m) (i * m) p
 raised w q z i m p h =
     let low : (p ^ q) ^ m ≤ (2 ^ z * w ^ q) ^ m = pow-le-pow_left h.below m in
@@ -119,7 +113,7 @@ rooted : (w q z i m p : ℕ) → 0 < m → IsPower w (q * m) (z * m) (i * m) p �
 rooted w q z i m p o h =
     let low : (p ^ q) ^ m ≤ (2 ^ z * w ^ q) ^ m = rw (times_below w q z m, pow_times p q m) h.below in
     let high : (2 ^ z * w ^ q * w ^ i) ^ m ≤ (p ^ q * (w + 1) ^ i) ^ m = rw (times_above w q z i m, times_over w q i m p) h.above in
-    record { below = root_below (p ^ q) (2 ^ z * w ^ q) m o low; above = root_below (2 ^ z * w ^ q * w ^ i) (p ^ q * (w + 1) ^ i) m o high }
+    record { below = root_le (p ^ q) (2 ^ z * w ^ q) m o low; above = root_le (2 ^ z * w ^ q * w ^ i) (p ^ q * (w + 1) ^ i) m o high }
 
 weaker : (w q z i j p : ℕ) → i ≤ j → IsPower w q z i p → IsPower w q z j p
 weaker w q z i j p l h =

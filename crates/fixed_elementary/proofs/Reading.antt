@@ -1,12 +1,12 @@
 -- The digits of a logarithm, read by squaring.
 use Rattle.std.proofs.Common.{◌≡◌, ◌+◌, ◌-◌, ◌*◌, ◌^◌, ◌<◌, ◌≤◌, ◌<ℤ◌, ◌-ℤ◌, ℕ, ℤ, pos, zero, suc, refl, ap, sym, subst, ◌∙◌, arith, inl, inr}
-use Rattle.std.proofs.Math.Nat.{le_of_mul-le-mul_right, lt_of_mul-lt-mul_right, mul-le-mul_right, mul-le-mul_left, pow-suc, pow-zero, pow-lt-pow_left, pow-le-pow_right, one-le-pow}
+use Rattle.std.proofs.Math.Nat.{le_of_mul-le-mul_right, lt_of_mul-lt-mul_right, mul-le-mul_right, mul-le-mul_left, pow-suc, pow-zero, pow-lt-pow_left, pow-le-pow_left, pow-le-pow_right, one-le-pow}
 use Rattle.std.proofs.lemmas.Nat.{mul-le, mul-pow, pow-add, pow_pos}
 use Rattle.std.specs.Prelude.{neg_ℤ, unsigned_abs}
 use Rattle.std.proofs.lemmas.Int.{ints}
 use Rattle.std.proofs.lemmas.Bool.{cases_lt}
 use Rattle.fixed_elementary.specs.Log2.{IsLog2, IsLog2Of, log2_room}
-use Rattle.fixed_elementary.specs.Squaring.{IsMantissa, IsSquared}
+use Rattle.fixed_elementary.specs.inside.Squaring.{IsMantissa, IsSquared}
 use Rattle.fixed_elementary.specs.inside.Digits.{IsFound, IsRead}
 use Rattle.fixed_elementary.proofs.Squarings.{growth_within, lower, upper}
 
@@ -15,6 +15,19 @@ pow_times b m zero = let e : m * 0 ≡ 0 = omega arith in pow-zero (b ^ m) ∙ s
 pow_times b m (suc n) =
     let e : m * suc n ≡ m * n + m = omega arith in
     pow-suc (b ^ m) n ∙ ap (λ x. x * b ^ m) (pow_times b m n) ∙ sym (pow-add b (m * n) m) ∙ ap (λ x. b ^ x) (sym e)
+
+-- numbers are in the order of their powers
+pub root_le : (x y n : ℕ) → 0 < n → x ^ n ≤ y ^ n → x ≤ y
+root_le x y n o h = elim (cases_lt y x) [
+  | inl less ↦ let up : y ^ n < x ^ n = pow-lt-pow_left less (omega arith) in absurd (omega arith)
+  | inr fine ↦ fine
+]
+
+pub root_lt : (x y n : ℕ) → x ^ n < y ^ n → x < y
+root_lt x y n h = elim (cases_lt x y) [
+  | inl less ↦ less
+  | inr fine ↦ let up : y ^ n ≤ x ^ n = pow-le-pow_left fine n in absurd (omega arith)
+]
 
 pub twice_more : (b n : ℕ) → b ^ n * b ^ n * b ≡ b ^ (n + n + 1)
 twice_more b n =
@@ -145,14 +158,14 @@ pub read_turn : (w a i r m n b : ℕ) → 0 < w → IsRead w a i r m → IsSquar
 read_turn w a i r m n b o h k = let e : i + 1 ≡ suc i = omega arith in rw e (read_on w a i r m n b o h k)
 
 -- the digits fit a word of as many bits as the unit has, and one
-pub room : (w a i r m p e : ℕ) → i < p → p + 6 ≤ e → IsRead w a i r m → 2 * r + 1 < 2 ^ e
+pub room : (w a i r m p e : ℕ) → i < p → p + 7 ≤ e → IsRead w a i r m → 2 * r + 1 < 2 ^ e
 room w a i r m p e l h d =
     let x = pow-suc 2 i in
-    let few : suc i + 6 ≤ e = omega arith in
-    let y : 2 ^ (suc i + 6) ≤ 2 ^ e = pow-le-pow_right {n = 2} (omega arith) {i = suc i + 6} {j = e} few in
+    let few : suc i + 7 ≤ e = omega arith in
+    let y : 2 ^ (suc i + 7) ≤ 2 ^ e = pow-le-pow_right {n = 2} (omega arith) {i = suc i + 7} {j = e} few in
     let z = d.digits in
-    let t = pow-add 2 (suc i) 6 in
-    let six : 2 ^ 6 ≡ 64 = refl in
+    let t = pow-add 2 (suc i) 7 in
+    let seven : 2 ^ 7 ≡ 128 = refl in
     omega arith
 
 -- ---- all digits are read

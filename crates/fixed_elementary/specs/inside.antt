@@ -2,3 +2,5 @@
 pub mod Digits
 pub mod Power
 pub mod RecipParts
+pub mod Reduced
+pub mod Squaring

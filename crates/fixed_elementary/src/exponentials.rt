@@ -72,6 +72,7 @@ fn broad_turn(power: u128, digits: u64, group: u32) -> u128
 }
 
 /// Returns `2^(part / 16^groups)` in units of `2^-62`, or slightly less.
+#[inline(always)]
 fn narrow_exp2(part: u64, groups: u32) -> u64
     requires groups { groups ≤ 8 }
     requires part { part < 2 ^ (4 * groups) }
@@ -98,6 +99,7 @@ fn broad_exp2(part: u64, groups: u32) -> u128
 }
 
 /// Returns `mantissa * 2^whole / 2^unit`, rounded down, or `2^bits` if that is less.
+#[inline(always)]
 fn in_bits(mantissa: u128, unit: u32, whole: u128, bits: u32) -> u128
     requires unit { unit ≤ 126 }
     requires bits { bits ≤ unit }
@@ -113,6 +115,7 @@ fn in_bits(mantissa: u128, unit: u32, whole: u128, bits: u32) -> u128
 }
 
 /// Returns how many groups of four digits have these digits.
+#[inline(always)]
 fn groups_of(places: u32) -> u32
     requires { places ≤ 64 }
     ensures least { places ≤ 4 * result }
@@ -122,6 +125,7 @@ fn groups_of(places: u32) -> u32
 }
 
 /// Returns the fraction of an exponent, converted from units of `2^-places` to units of `16^-groups`.
+#[inline(always)]
 fn part_of(exponent: u128, places: u32, groups: u32) -> u64
     requires places { places ≤ 4 * groups }
     requires groups { groups ≤ 16 }
@@ -131,36 +135,57 @@ fn part_of(exponent: u128, places: u32, groups: u32) -> u64
     ((exponent % (1 << places)) << (4 * groups - places)) as u64
 }
 
+/// Returns `2^(exponent / 2^places)`, rounded down from a mantissa of 63 bits, at most `2^bits`.
+#[inline(always)]
+fn narrow_power(exponent: u128, places: u32, bits: u32) -> u128
+    requires bits { bits ≤ 32 }
+    requires places { places ≤ bits }
+    ensures { (r : ℕ) × IsExp2Up 54 exponent places r × (result ≡ min r (2 ^ bits)) }
+{
+    let groups = groups_of(places);
+    let mantissa = narrow_exp2(part_of(exponent, places, groups), groups);
+    in_bits(u128::from(mantissa), 62, exponent >> places, bits)
+}
+
+/// Does the same from a mantissa of 127 bits.
+fn broad_power(exponent: u128, places: u32, bits: u32) -> u128
+    requires bits { bits ≤ 64 }
+    requires places { places ≤ bits }
+    ensures { (r : ℕ) × IsExp2Up 117 exponent places r × (result ≡ min r (2 ^ bits)) }
+{
+    let groups = groups_of(places);
+    let mantissa = broad_exp2(part_of(exponent, places, groups), groups);
+    in_bits(mantissa, 126, exponent >> places, bits)
+}
+
 /// Returns `2^(exponent / 2^places)`, rounded as by `exp2_of`, at most `2^bits`. Precondition: `places <= bits <= 64`.
+#[inline(always)]
 pub fn power_of(exponent: u128, places: u32, bits: u32) -> u128
     requires bits { bits ≤ 64 }
     requires places { places ≤ bits }
     ensures { (r : ℕ) × IsExp2Up (exp2_room bits) exponent places r × (result ≡ min r (2 ^ bits)) }
 {
-    let groups = groups_of(places);
-    let part = part_of(exponent, places, groups);
-    let whole = exponent >> places;
     if bits <= 32 {
-        in_bits(u128::from(narrow_exp2(part, groups)), 62, whole, bits)
+        narrow_power(exponent, places, bits)
     } else {
-        in_bits(broad_exp2(part, groups), 126, whole, bits)
+        broad_power(exponent, places, bits)
     }
 }
 
 /// Returns the exponent of a power in units of `2^-frac`, or `None` if it is below 0, so that the power is less than a
 /// unit.
+#[inline(always)]
 fn exponent_of<T: RawWord>(a: T, frac: u32) -> Option<u128>
     requires { frac ≤ 64 }
     ensures { IsExponent (T.value a +ℤ pos (frac * 2 ^ frac)) result }
 {
     let units = in_units(frac);
     let magnitude = u128::from(a.magnitude());
-    if !a.is_below_zero() {
-        Some(units + magnitude)
-    } else if magnitude <= units {
-        Some(units - magnitude)
-    } else {
+    let less = magnitude * u128::from(a.is_below_zero());
+    if units < less {
         None
+    } else {
+        Some(units - less + (magnitude - less))
     }
 }
 
@@ -168,6 +193,7 @@ fn exponent_of<T: RawWord>(a: T, frac: u32) -> Option<u128>
 /// `r <= p < (r + 1) 2^(2^-k)`, where k is 54 on words of up to 32 bits and 117 on words of 64 bits. 2 to the power of
 /// a whole number of at least `-frac` is exact. If the result is above the range, the outcome stands for some number
 /// above the range. Precondition: `frac` is at most the width.
+#[inline(always)]
 pub fn exp2_of<T: RawWord>(a: T, frac: u32) -> Outcome<T>
     requires { frac ≤ T.BITS }
     ensures { (r : ℤ) × IsExp2Of (exp2_room T.BITS) (T.value a) frac r

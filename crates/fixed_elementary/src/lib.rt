@@ -7,11 +7,16 @@
 
 mod digits;
 pub mod exponentials;
+mod factor_table;
+mod factors;
 pub mod laws;
 mod lengths;
+mod log_table;
 pub mod logarithms;
+mod mantissas;
 mod powers_of_two;
 mod reciprocals;
+mod reductions;
 mod roots;
 pub mod wide;
 

@@ -1,114 +1,18 @@
-//! Logarithms to the base 2: each turn squares a mantissa and finds one binary digit.
+//! Logarithms to the base 2. They are computed by factors. Where these leave a digit open, they are computed by
+//! squaring.
 
 ghost use Rattle.std.specs.Prelude.{◌≡◌, ◌≤◌, ◌<◌, ◌+◌, ◌*◌, ◌^◌, ◌<ℤ◌, ◌-ℤ◌, ℤ, pos};
 ghost use Rattle.fixed_word.specs.Format.{with_sign};
 ghost use Rattle.fixed_word.specs.Standing.{StandsFor};
+ghost use Rattle.fixed_elementary.specs.Enclosed.{IsEnclosed};
 ghost use Rattle.fixed_elementary.specs.Log2.{IsLog2Of, log2_room};
-ghost use Rattle.fixed_elementary.specs.Squaring.{IsMantissa, IsSquared};
 ghost use Rattle.fixed_elementary.specs.inside.Digits.{IsFound};
 
-use crate::wide::product;
-use fixed_word::{Digits, Outcome, RawWord, Silent, Steps, Valued, outcome_of_magnitude};
-
-/// Digits of a logarithm, and the mantissa that is left, in units of `2^-63`.
-#[derive(Clone, Copy)]
-pub struct Narrow {
-    pub digits: u64,
-    pub mantissa: u64,
-}
-
-/// Digits of a logarithm, and the mantissa that is left, in units of `2^-127`.
-#[derive(Clone, Copy)]
-pub struct Broad {
-    pub digits: u128,
-    pub mantissa: u128,
-}
-
-/// Returns how many of the highest bits are 0. Precondition: `a` is above 0.
-fn zeros_of(a: u64) -> u32
-    requires { 0 < a }
-    ensures few { result ≤ 63 }
-    ensures below { a * 2 ^ result < 2 ^ 64 }
-    ensures above { 2 ^ 63 ≤ a * 2 ^ result }
-{
-    let mut steps = Steps::new(Silent::new());
-    Digits::leading_zeros(a, &mut steps)
-}
-
-/// Returns the product by a power of 2. Precondition: it fits.
-fn raised(a: u64, by: u32) -> u64
-    requires by { by ≤ 63 }
-    requires fits { a * 2 ^ by < 2 ^ 64 }
-    ensures { result ≡ a * 2 ^ by }
-{
-    a << by
-}
-
-/// Returns the whole part of the logarithm, and the mantissa in units of `2^-63`. Precondition: `a` is above 0.
-pub fn whole(a: u64) -> Narrow
-    requires { 0 < a }
-    ensures { IsMantissa (2 ^ 63) a result.digits result.mantissa }
-{
-    let zeros = zeros_of(a);
-    Narrow {
-        digits: 63 - u64::from(zeros),
-        mantissa: raised(a, zeros),
-    }
-}
-
-/// Returns the whole part of the logarithm, and the mantissa in units of `2^-127`. Precondition: `a` is above 0.
-pub fn broad_whole(a: u64) -> Broad
-    requires { 0 < a }
-    ensures { IsMantissa (2 ^ 127) a result.digits result.mantissa }
-{
-    let start = whole(a);
-    Broad {
-        digits: u128::from(start.digits),
-        mantissa: u128::from(start.mantissa) * (1 << 64),
-    }
-}
-
-/// Returns the next digit, and the mantissa after it: the square, over 2 if the digit is 1, rounded down. Precondition:
-/// the mantissa is at least 1, which is `2^63`.
-#[inline]
-pub fn squared(mantissa: u64) -> Narrow
-    requires { 2 ^ 63 ≤ mantissa }
-    ensures { IsSquared (2 ^ 63) mantissa result.digits result.mantissa }
-{
-    let square = u128::from(mantissa) * u128::from(mantissa);
-    let half = square >> 63;
-    if half <= u64::MAX as u128 {
-        Narrow {
-            digits: 0,
-            mantissa: half as u64,
-        }
-    } else {
-        Narrow {
-            digits: 1,
-            mantissa: (square >> 64) as u64,
-        }
-    }
-}
-
-/// Does the same in 128 bits. Precondition: the mantissa is at least 1, which is `2^127`.
-#[inline]
-pub fn broad_squared(mantissa: u128) -> Broad
-    requires { 2 ^ 127 ≤ mantissa }
-    ensures { IsSquared (2 ^ 127) mantissa result.digits result.mantissa }
-{
-    let square = product(mantissa, mantissa);
-    if square.high < 1 << 127 {
-        Broad {
-            digits: 0,
-            mantissa: 2 * square.high + square.low / (1 << 127),
-        }
-    } else {
-        Broad {
-            digits: 1,
-            mantissa: square.high,
-        }
-    }
-}
+use crate::mantissas::{broad_squarings, narrow_squarings};
+use crate::reductions::{
+    BROAD_LACK, BroadLog, NARROW_LACK, NarrowLog, broad_log, broad_units, narrow_log, narrow_units,
+};
+use fixed_word::{Outcome, RawWord, Valued, outcome_of_magnitude};
 
 /// Returns the logarithm in units of `2^-places`, from a mantissa of 64 bits.
 fn narrow_log2(a: u64, places: u32) -> u64
@@ -116,15 +20,17 @@ fn narrow_log2(a: u64, places: u32) -> u64
     requires places { places ≤ 32 }
     ensures { IsFound 62 a places result }
 {
-    let start = whole(a);
-    let mut digits = start.digits;
-    let mut mantissa = start.mantissa;
-    for i in 0..places {
-        let next = squared(mantissa);
-        digits = 2 * digits + next.digits;
-        mantissa = next.mantissa;
+    let log = narrow_log(a);
+    let least = narrow_units(log, places);
+    let most = NarrowLog {
+        digits: log.digits,
+        part: log.part + NARROW_LACK,
+    };
+    if narrow_units(most, places) == least {
+        least
+    } else {
+        narrow_squarings(a, places)
     }
-    digits
 }
 
 /// Returns the logarithm in units of `2^-places`, from a mantissa of 128 bits.
@@ -133,15 +39,33 @@ fn broad_log2(a: u64, places: u32) -> u128
     requires places { places ≤ 64 }
     ensures { IsFound 126 a places result }
 {
-    let start = broad_whole(a);
-    let mut digits = start.digits;
-    let mut mantissa = start.mantissa;
-    for i in 0..places {
-        let next = broad_squared(mantissa);
-        digits = 2 * digits + next.digits;
-        mantissa = next.mantissa;
+    let log = broad_log(a);
+    let least = broad_units(log, places);
+    let most = BroadLog {
+        digits: log.digits,
+        part: log.part + BROAD_LACK,
+    };
+    if broad_units(most, places) == least {
+        least
+    } else {
+        broad_squarings(a, places)
     }
-    digits
+}
+
+/// Returns the logarithm of `a` to the base 2, in units of `2^-places`, from a mantissa of 64 bits, or where `bits` is
+/// above 32 from one of 128. The exact logarithm is at least the result, and less than 2 units above it. Preconditions:
+/// `a` is above 0, and `places` is at most 57, or 121 where `bits` is above 32.
+pub fn enclosed_log2(bits: u32, a: u64, places: u32) -> u128
+    requires some { 0 < a }
+    requires places { places ≤ 121 }
+    requires narrow { bits ≤ 32 → places ≤ 57 }
+    ensures { IsEnclosed a places result }
+{
+    if bits <= 32 {
+        u128::from(narrow_units(narrow_log(a), places))
+    } else {
+        broad_units(broad_log(a), places)
+    }
 }
 
 /// Returns the logarithm in units of `2^-places`, from a mantissa of 64 bits, or on words of 64 bits from one of 128.

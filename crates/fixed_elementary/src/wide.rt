@@ -1,4 +1,4 @@
-//! Products of 256 bits.
+//! Products of up to 256 bits.
 
 ghost use Rattle.std.specs.Prelude.{◌≡◌, ◌≤◌, ◌<◌, ◌+◌, ◌*◌, ◌^◌};
 
@@ -55,4 +55,35 @@ pub fn product(a: u128, b: u128) -> Double
         high: a.high * b.high + first.high + second.high,
         low: second.low * (1 << 64) + lowest.low,
     }
+}
+
+/// Returns the higher half of a product.
+#[inline]
+pub(crate) fn high(a: u64, b: u64) -> u64
+    ensures below { result * 2 ^ 64 ≤ a * b }
+    ensures above { a * b < (result + 1) * 2 ^ 64 }
+{
+    ((u128::from(a) * u128::from(b)) >> 64) as u64
+}
+
+/// Returns the product by a factor in units of `2^-63`, rounded down. Precondition: the factor is at most 1.
+#[inline]
+pub(crate) fn narrow_scaled(number: u64, factor: u64) -> u64
+    requires { factor ≤ 2 ^ 63 }
+    ensures below { result * 2 ^ 63 ≤ number * factor }
+    ensures above { number * factor < (result + 1) * 2 ^ 63 }
+{
+    ((u128::from(number) * u128::from(factor)) >> 63) as u64
+}
+
+/// Does the same in 128 bits.
+#[inline]
+pub(crate) fn broad_scaled(number: u128, factor: u64) -> u128
+    requires { factor ≤ 2 ^ 63 }
+    ensures below { result * 2 ^ 63 ≤ number * factor }
+    ensures above { number * factor < (result + 1) * 2 ^ 63 }
+{
+    let number = split(number);
+    let factor = u128::from(factor);
+    2 * (number.high * factor) + number.low * factor / (1 << 63)
 }

@@ -2,12 +2,11 @@
 use Rattle.std.proofs.Common.{◌≡◌, ◌+◌, ◌*◌, ◌/◌, ◌-◌, ◌^◌, ◌<◌, ◌≤◌, ℕ, suc, refl, ap, sym, ◌∙◌, arith}
 use Rattle.std.proofs.lemmas.Nat.{mul-le, mul-pow, pow-add, pow_pos}
 use Rattle.std.proofs.Math.Nat.{le_of_mul-le-mul_right, mul-le-mul_right, mul-le-mul_left, one-le-pow, pow-le-pow_left, pow-le-pow_right, pow-suc, pow-zero}
-use Rattle.fixed_elementary.specs.Squaring.{IsSquared}
-use Rattle.fixed_elementary.proofs.Reading.{doubled, pow_times, twice_more, twice_power}
+use Rattle.fixed_elementary.specs.inside.Squaring.{IsSquared}
+use Rattle.fixed_elementary.proofs.Chains.{Ends, all_read}
+use Rattle.fixed_elementary.proofs.Reading.{doubled, pow_times, root_le, twice_more, twice_power}
 use Rattle.fixed_elementary.proofs.Squarings.{growth_within, lower, upper}
 use Rattle.fixed_natural.specs.Bases.{decimals, e_sum, factorial, log2_e}
-use Rattle.fixed_natural.proofs.Decimals.{Ends, all_read}
-use Rattle.fixed_natural.proofs.Exponents.{root_le}
 
 -- i digits were read
 record IsRatio (w s t i d m : ℕ) : Type 0 where

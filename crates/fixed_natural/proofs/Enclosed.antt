@@ -4,31 +4,12 @@ use Rattle.std.specs.Prelude.{neg_ℤ}
 use Rattle.std.proofs.lemmas.Int.{ints}
 use Rattle.std.proofs.lemmas.Nat.{pow_pos, pow-add}
 use Rattle.std.proofs.Math.Nat.{pow-le-pow_right, mul-le-mul_right}
-use Rattle.fixed_elementary.specs.inside.Digits.{IsRead}
-use Rattle.fixed_elementary.proofs.Reading.{read_near}
 use Rattle.fixed_word.specs.Format.{IsWidth}
 use Rattle.fixed_natural.specs.Logs.{IsLogTo, log_room}
-use Rattle.fixed_natural.specs.inside.Scaling.{IsEnclosed, IsInverse, IsQuotient}
+use Rattle.fixed_elementary.specs.Enclosed.{IsEnclosed}
+use Rattle.fixed_natural.specs.inside.Scaling.{IsInverse, IsQuotient}
 use Rattle.fixed_natural.proofs.Exponents.{power_above, power_below}
 use Rattle.fixed_natural.proofs.Factors.{down_above, down_below, up_above, up_below}
-
--- ---- all digits are read
-
-pub enclosed : (room w a h i r m : ℕ) → w ≡ 2 ^ (room + 1) → h ≤ room → i ≡ h → IsRead w a i r m → IsEnclosed a h r
-enclosed room w a h i r m u l e read =
-    let all = subst (λ (j : ℕ). IsRead w a j r m) e read in
-    let o : 0 < w = omega (arith, pow_pos (room + 1)) in
-    let one : 2 ^ 0 ≡ 1 = refl in
-    let s = pow-add 2 room 1 in
-    let p : 2 ^ h ≤ 2 ^ room = pow-le-pow_right {n = 2} (omega arith) l in
-    let near = read_near w a h 0 r m o all (omega arith) in
-    let x : 2 ^ h * 2 ^ 0 ≡ 2 ^ h = omega arith in
-    let y : (r + 1) * 2 ^ 0 + 1 ≡ r + 2 = omega arith in
-    record {
-      below = near.below;
-      above = subst (λ (n : ℕ). a ^ 2 ^ h < 2 ^ n) y (subst (λ (n : ℕ). a ^ n < 2 ^ ((r + 1) * 2 ^ 0 + 1)) x near.above);
-      digits = all.digits;
-    }
 
 -- ---- the logarithm, scaled
 

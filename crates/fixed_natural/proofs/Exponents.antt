@@ -3,19 +3,7 @@ use Rattle.std.proofs.Common.{◌≡◌, ◌+◌, ◌*◌, ◌^◌, ◌<◌, ◌
 use Rattle.std.proofs.lemmas.Bool.{cases_lt}
 use Rattle.std.proofs.lemmas.Nat.{mul-pow, pow-add, pow_pos}
 use Rattle.std.proofs.Math.Nat.{mul-le-mul_right, pow-le-pow_left, pow-le-pow_right, pow-lt-pow_left}
-use Rattle.fixed_elementary.proofs.Reading.{pow_times}
-
-pub root_le : (x y n : ℕ) → 0 < n → x ^ n ≤ y ^ n → x ≤ y
-root_le x y n o h = elim (cases_lt y x) [
-  | inl less ↦ let up : y ^ n < x ^ n = pow-lt-pow_left less (omega arith) in absurd (omega arith)
-  | inr fine ↦ fine
-]
-
-pub root_lt : (x y n : ℕ) → x ^ n < y ^ n → x < y
-root_lt x y n h = elim (cases_lt x y) [
-  | inl less ↦ less
-  | inr fine ↦ let up : y ^ n ≤ x ^ n = pow-le-pow_left fine n in absurd (omega arith)
-]
+use Rattle.fixed_elementary.proofs.Reading.{pow_times, root_le, root_lt}
 
 -- a raised to 2^(f + g) m is its power with 2^f m, raised to 2^g
 raised : (a f g m : ℕ) → (a ^ 2 ^ (f + g)) ^ m ≡ (a ^ (2 ^ f * m)) ^ 2 ^ g

@@ -6,13 +6,12 @@ use Rattle.std.proofs.lemmas.Bool.{cases_lt}
 use Rattle.std.proofs.lemmas.Nat.{mul-le, mul-pow, pow-add, pow_pos}
 use Rattle.std.proofs.Math.Nat.{one-le-pow, pow-suc, pow-zero, mul-le-mul_left, le_of_mul-le-mul_right, lt_of_mul-lt-mul_right, mul-le-mul_right, mul-le-mul_left, pow-le-pow_left, pow-le-pow_right, pow-lt-pow_left}
 use Rattle.fixed_word.specs.Format.{InRange}
-use Rattle.fixed_elementary.proofs.Reading.{pow_times}
+use Rattle.fixed_elementary.proofs.Reading.{pow_times, root_lt}
 use Rattle.fixed_elementary.proofs.LogLaws.{exponent_less}
 use Rattle.fixed_natural.specs.Bases.{decimals, log2_e}
 use Rattle.fixed_natural.specs.Exps.{IsExp, IsExpTo, exp_room}
 use Rattle.fixed_natural.specs.Logs.{IsLogTo}
 use Rattle.fixed_natural.specs.Pows.{IsPow, IsPowTo, pow_room}
-use Rattle.fixed_natural.proofs.Exponents.{root_lt}
 
 -- exponents are in the order of the powers of two
 exponent_le : (i j : ℕ) → 2 ^ i ≤ 2 ^ j → i ≤ j

@@ -6,11 +6,11 @@ use Rattle.std.proofs.lemmas.Bool.{cases_lt}
 use Rattle.std.proofs.lemmas.Nat.{mul-pow, pow-add, pow_pos}
 use Rattle.std.proofs.Math.Nat.{mul-le-mul_right, mul-le-mul_left, pow-le-pow_left, pow-le-pow_right, pow-zero, pow-suc}
 use Rattle.fixed_elementary.specs.Exp2.{IsExp2Up}
-use Rattle.fixed_elementary.proofs.Reading.{pow_times}
+use Rattle.fixed_elementary.proofs.Reading.{pow_times, root_le, root_lt}
 use Rattle.fixed_natural.specs.Pows.{IsPowTo, pow_room}
 use Rattle.fixed_natural.specs.inside.PowExponent.{IsPowExponent}
-use Rattle.fixed_natural.specs.inside.Scaling.{IsEnclosed, IsQuotient}
-use Rattle.fixed_natural.proofs.Exponents.{root_le, root_lt}
+use Rattle.fixed_elementary.specs.Enclosed.{IsEnclosed}
+use Rattle.fixed_natural.specs.inside.Scaling.{IsQuotient}
 use Rattle.fixed_natural.proofs.Moving.{none_is, some_is}
 use Rattle.fixed_natural.proofs.PowExponents.{down_least, down_most, down_none, near_above, near_below, up_least, up_most}
 use Rattle.fixed_natural.proofs.Raising.{exp_above, exp_below}

@@ -2,8 +2,7 @@
 use Rattle.std.proofs.Common.{◌≡◌, ◌+◌, ◌*◌, ◌^◌, ◌<◌, ◌≤◌, ℕ, refl, ap, sym, subst, ◌∙◌, arith}
 use Rattle.std.proofs.lemmas.Nat.{mul-pow, pow-add, pow_pos}
 use Rattle.std.proofs.Math.Nat.{le_of_mul-le-mul_right, mul-le-mul_right, lt_of_mul-lt-mul_right, mul-le-mul_left, pow-le-pow_left, pow-le-pow_right, pow-lt-pow_left}
-use Rattle.fixed_elementary.proofs.Reading.{pow_times}
-use Rattle.fixed_natural.proofs.Exponents.{root_le, root_lt}
+use Rattle.fixed_elementary.proofs.Reading.{pow_times, root_le, root_lt}
 
 -- ---- the exponents, in whole numbers: h, s and f are powers of 2, and 2 h = s f; c is p / 2 q in units of 1 / d
 

@@ -6,7 +6,8 @@ ghost use Rattle.fixed_word.specs.Standing.{StandsFor};
 ghost use Rattle.fixed_natural.specs.Logs.{IsLn, IsLog10, IsLogTo, log_room};
 ghost use Rattle.fixed_natural.specs.inside.Scaling.{IsInverse};
 
-use crate::scaling::{fine_log2, guard_of, in_places, scaled};
+use crate::scaling::{guard_of, in_places, scaled};
+use fixed_elementary::logarithms::enclosed_log2;
 use fixed_word::{Outcome, RawWord, Valued, outcome_of_magnitude};
 
 /// The natural logarithm of 2, in units of `2^-128`, rounded down.
@@ -27,7 +28,7 @@ fn log_of<T: RawWord>(a: T, frac: u32, factor: u128) -> Outcome<T>
         × StandsFor T.value T.SIGNED T.BITS r result }
 {
     let guard = guard_of(T::BITS);
-    let units = fine_log2(T::BITS, a.magnitude(), frac + guard) + 2;
+    let units = enclosed_log2(T::BITS, a.magnitude(), frac + guard) + 2;
     let less = in_places(frac, frac + guard);
     if less <= units {
         outcome_of_magnitude(false, scaled(units - less, factor + 1, guard))

@@ -6,8 +6,9 @@ ghost use Rattle.fixed_elementary.specs.Exp2.{IsExp2Up, StandsUpTo};
 ghost use Rattle.fixed_natural.specs.Pows.{IsPow};
 ghost use Rattle.fixed_natural.specs.inside.PowExponent.{IsPowExponent};
 
-use crate::scaling::{broad_log2, difference, in_places, scaled};
+use crate::scaling::{difference, in_places, scaled};
 use fixed_elementary::exponentials::power_of;
+use fixed_elementary::logarithms::enclosed_log2;
 use fixed_word::{Outcome, RawWord, Valued, outcome_of_magnitude};
 
 /// Returns a number times `2^64`.
@@ -25,7 +26,7 @@ fn rising(a: u64, frac: u32, exponent: u64) -> Option<u128>
     requires some { 0 < a }
     ensures { IsPowExponent a exponent 0 frac result }
 {
-    let units = broad_log2(a, 121) + 2;
+    let units = enclosed_log2(64, a, 121) + 2;
     let offset = in_places(frac, 121);
     let start = in_places(frac, 57);
     if offset <= units {
@@ -41,7 +42,7 @@ fn falling(a: u64, frac: u32, exponent: u64) -> Option<u128>
     requires some { 0 < a }
     ensures { IsPowExponent a 0 exponent frac result }
 {
-    let units = broad_log2(a, 121);
+    let units = enclosed_log2(64, a, 121);
     let offset = in_places(frac, 121);
     let start = in_places(frac, 57);
     if offset <= units {

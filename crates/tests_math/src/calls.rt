@@ -83,6 +83,8 @@ fn logarithms(rt: HostRuntime) {
         (655360, 16, 217705, Side::Fits),
         (1, 16, -1048576, Side::Fits),
         (1, 31, -2147483648, Side::Below),
+        // 10^-9 of a unit above a whole number of units
+        (1860085729, 32, -890252365, Side::Below),
     ] {
         let operands = [a as i128, frac as i128, 0];
         check(

@@ -10,7 +10,7 @@ pub record IsRead (w a i d m : ℕ) : Type 0 where
   pub most : m < 2 * w
   pub below : 2 ^ d * m ≤ a ^ 2 ^ i * w
   pub above : a ^ 2 ^ i * w * w ^ turns ≤ 2 ^ d * m * (w + 1) ^ turns
-  pub digits : d + 1 ≤ 64 * 2 ^ i
+  pub digits : d + 1 ≤ 128 * 2 ^ i
   pub exact : (j : ℕ) → a ≡ 2 ^ j → (m ≡ w) × (d ≡ j * 2 ^ i)
 
 -- s is the logarithm of a in units of 2^-g, as near as a mantissa of that unit allows; that of a power of two is exact

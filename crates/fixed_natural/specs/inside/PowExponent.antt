@@ -1,6 +1,6 @@
 -- The exponent of 2 of a power.
 use Rattle.std.specs.Prelude.{◌≡◌, ◌+◌, ◌*◌, ◌^◌, ◌≤◌, ◌<◌, ℕ, Option, Some, None}
-use Rattle.fixed_natural.specs.inside.Scaling.{IsEnclosed}
+use Rattle.fixed_elementary.specs.Enclosed.{IsEnclosed}
 
 -- of the power of a units to the exponent of up less down units, all of 2^-f, z - 4 and z - 1 enclose the exponent of 2, in units
 -- of 2^-57; where there is no z, the exponent is below 0. s is the logarithm of a, in units of 2^-121

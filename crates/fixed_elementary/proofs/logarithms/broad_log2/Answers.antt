@@ -1,23 +1,9 @@
-use Rattle.std.proofs.Common.{◌^◌, arith, refl, rules}
-use Rattle.fixed_elementary.proofs.Reading.{read_all, read_none, read_turn, room}
+use Rattle.std.proofs.Common.{◌-◌, ◌∙◌, arith, sym}
+use Rattle.fixed_elementary.proofs.Closing.{found_is}
 use Rattle.fixed_elementary.proofs.logarithms.broad_log2.Goals as goal
 
-pub loop-i-init : goal.loop-i-init
-loop-i-init c = read_none (2 ^ 127) c.args.a _ _ (omega arith) c.broad_whole-start.ensures
-
-pub overflow_mul-digits : goal.overflow_mul-digits
-overflow_mul-digits c =
-    let r = room (2 ^ 127) c.args.a c.loop-i.i _ _ c.args.places 128 (search rules) (omega (arith, c.requires.places)) c.loop-i.invariant in
-    omega arith
-
-pub overflow_add-digits : goal.overflow_add-digits
-overflow_add-digits c =
-    let r = room (2 ^ 127) c.args.a c.loop-i.i _ _ c.args.places 128 (search rules) (omega (arith, c.requires.places)) c.loop-i.invariant in
-    let d = c.broad_squared-next.ensures.digit in
-    omega arith
-
-pub loop-i-preserved : goal.loop-i-preserved
-loop-i-preserved c = read_turn (2 ^ 127) c.args.a c.loop-i.i _ _ _ _ (omega arith) c.loop-i.invariant c.broad_squared-next.ensures
-
-pub returns : goal.returns
-returns c = read_all 126 (2 ^ 127) c.args.a c.args.places c.loop-i.i _ _ refl (search rules) c.loop-i.invariant
+pub returns-then-broad_units-least : goal.returns-then-broad_units-least
+returns-then-broad_units-least c =
+    let log = c.broad_log-log.result in
+    let same = sym c.if-broad_units-least.true in
+    found_is c.args.places (126 - c.args.places) 23 c.args.a log.digits log.part c.broad_units-least.result 126 126 (omega (arith, c.requires.places)) c.broad_units-least.ensures (same ∙ c.broad_units.ensures) c.broad_log-log.ensures.value

@@ -1,23 +1,9 @@
-use Rattle.std.proofs.Common.{◌^◌, arith, refl, rules}
-use Rattle.fixed_elementary.proofs.Reading.{read_all, read_none, read_turn, room}
+use Rattle.std.proofs.Common.{◌-◌, ◌∙◌, arith, sym}
+use Rattle.fixed_elementary.proofs.Closing.{found_is}
 use Rattle.fixed_elementary.proofs.logarithms.narrow_log2.Goals as goal
 
-pub loop-i-init : goal.loop-i-init
-loop-i-init c = read_none (2 ^ 63) c.args.a _ _ (omega arith) c.whole-start.ensures
-
-pub overflow_mul-digits : goal.overflow_mul-digits
-overflow_mul-digits c =
-    let r = room (2 ^ 63) c.args.a c.loop-i.i _ _ c.args.places 64 (search rules) (omega (arith, c.requires.places)) c.loop-i.invariant in
-    omega arith
-
-pub overflow_add-digits : goal.overflow_add-digits
-overflow_add-digits c =
-    let r = room (2 ^ 63) c.args.a c.loop-i.i _ _ c.args.places 64 (search rules) (omega (arith, c.requires.places)) c.loop-i.invariant in
-    let d = c.squared-next.ensures.digit in
-    omega arith
-
-pub loop-i-preserved : goal.loop-i-preserved
-loop-i-preserved c = read_turn (2 ^ 63) c.args.a c.loop-i.i _ _ _ _ (omega arith) c.loop-i.invariant c.squared-next.ensures
-
-pub returns : goal.returns
-returns c = read_all 62 (2 ^ 63) c.args.a c.args.places c.loop-i.i _ _ refl (search rules) c.loop-i.invariant
+pub returns-then-narrow_units-least : goal.returns-then-narrow_units-least
+returns-then-narrow_units-least c =
+    let log = c.narrow_log-log.result in
+    let same = sym c.if-narrow_units-least.true in
+    found_is c.args.places (62 - c.args.places) 14 c.args.a log.digits log.part c.narrow_units-least.result 62 62 (omega (arith, c.requires.places)) c.narrow_units-least.ensures (same ∙ c.narrow_units.ensures) c.narrow_log-log.ensures.value

@@ -7,7 +7,7 @@ pub returns-then-offset-units : goal.returns-then-offset-units
 returns-then-offset-units c =
     let f = c.args.frac in
     let m = c.args.exponent in
-    let s = c.broad_log2-units.result in
+    let s = c.enclosed_log2-units.result in
     let o = c.in_places-offset.ensures in
     let t = c.scaled.result in
     let z = c.difference.result in
@@ -17,17 +17,17 @@ returns-then-offset-units c =
     let y = subst (λ (n : ℕ). IsQuotient ((s - f * 2 ^ 121) * n) (2 ^ 128 * 2 ^ f) t) c.wide.ensures x in
     let nothing = subst (λ (n : ℕ). n + 1 < t → z ≡ None) c.in_places-start.ensures c.difference.ensures.below in
     let something = subst (λ (n : ℕ). t ≤ n + 1 → z ≡ Some (n + 1 - t)) c.in_places-start.ensures c.difference.ensures.above in
-    falling_down c.args.a f m s t z c.broad_log2-units.ensures small less y nothing something
+    falling_down c.args.a f m s t z c.enclosed_log2-units.ensures small less y nothing something
 
 pub returns-else-offset-units : goal.returns-else-offset-units
 returns-else-offset-units c =
     let f = c.args.frac in
     let m = c.args.exponent in
-    let s = c.broad_log2-units.result in
+    let s = c.enclosed_log2-units.result in
     let o = c.in_places-offset.ensures in
     let t = c.scaled-else-offset-units.result in
     let small : m < 2 ^ 64 = omega arith in
     let more : s < f * 2 ^ 121 = let k : s < c.in_places-offset.result = search rules in omega arith in
     let x = subst (λ (n : ℕ). IsQuotient ((n - s) * c.wide-else-offset-units.result) (2 ^ 128 * 2 ^ f) t) o c.scaled-else-offset-units.ensures in
     let y = subst (λ (n : ℕ). IsQuotient ((f * 2 ^ 121 - s) * n) (2 ^ 128 * 2 ^ f) t) c.wide-else-offset-units.ensures x in
-    rw c.in_places-start.ensures (falling_up c.args.a f m s t c.broad_log2-units.ensures small more y)
+    rw c.in_places-start.ensures (falling_up c.args.a f m s t c.enclosed_log2-units.ensures small more y)

@@ -1,9 +1,0 @@
-use Rattle.std.proofs.Common.{◌*◌, ◌^◌, arith}
-use Rattle.fixed_elementary.proofs.Reading.{broad_is}
-use Rattle.fixed_elementary.proofs.logarithms.broad_whole.Goals as goal
-
-pub returns : goal.returns
-returns c =
-    let d = c.whole-start.result.digits in
-    let m = c.whole-start.result.mantissa in
-    broad_is c.args.a d m c.from.result (c.from-2.result * 2 ^ 64) c.whole-start.ensures (omega (arith, c.from.ensures)) (omega (arith, c.from-2.ensures))

@@ -1,8 +1,0 @@
-use Rattle.std.proofs.Common.{rules}
-use Rattle.fixed_elementary.proofs.Reading.{mantissa_is}
-use Rattle.fixed_elementary.proofs.logarithms.whole.Goals as goal
-
-pub returns : goal.returns
-returns c =
-    let z = c.zeros_of-zeros.ensures in
-    mantissa_is c.args.a c.zeros_of-zeros.result _ _ z.few z.below z.above (search rules) c.raised.ensures

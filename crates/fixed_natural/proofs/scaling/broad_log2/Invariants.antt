@@ -1,6 +1,0 @@
-use Rattle.std.proofs.Common.{◌^◌}
-use Rattle.fixed_elementary.specs.inside.Digits.{IsRead}
-use Rattle.fixed_natural.proofs.scaling.broad_log2.Given as goal
-
-abbrev pub invariant-loop-i : goal.invariant-loop-i
-invariant-loop-i l = IsRead (2 ^ 127) l.fn.a l.i l.digits l.mantissa
