@@ -1,7 +1,8 @@
 -- Digits of logarithms, computed by squaring a mantissa.
 use Rattle.std.proofs.Common.{◌≡◌, ◌⊎◌, ◌+◌, ◌*◌, ◌/◌, ◌^◌, ◌<◌, ◌≤◌, ℕ, zero, suc, Bool, true, false, ◌&&◌, T, leb, leb→le, refl, subst, inl, inr, arith}
 use Rattle.std.specs.Prelude.{if◌then◌else◌}
-use Rattle.std.proofs.lemmas.Nat.{mul-le, div-add-mod', mod_below, div_below, le-div, pow_pos}
+use Rattle.std.proofs.Math.Nat.{div-mul-le_self, lt-mul-div-succ}
+use Rattle.std.proofs.lemmas.Nat.{mul-le, div_below, le-div, pow_pos}
 use lib.Ieee.Fits.{and_l, and_r}
 use Rattle.fixed_elementary.specs.inside.Digits.{IsFound, IsRead}
 use Rattle.fixed_elementary.specs.inside.Squaring.{IsSquared}
@@ -28,15 +29,10 @@ either false x y t = inr (λ z. z, t)
 not_le : (x y : ℕ) → (T (leb x y) → ⊥) → y < x
 not_le x y h = grind arith
 
-quotient : (x v : ℕ) → 0 < v → (x / v * v ≤ x) × (x < (x / v + 1) * v)
-quotient x v o =
-    let d = div-add-mod' x v in
-    let m = mod_below x v o in
-    (omega arith, omega arith)
-
 one_digit : (w m : ℕ) → 0 < w → w ≤ m → m < 2 * w → 2 * w * w ≤ m * m → IsSquared w m 1 (m * m / (2 * w))
 one_digit w m o l u h =
-    let q = quotient (m * m) (2 * w) (omega arith) in
+    let low = div-mul-le_self (m * m) (2 * w) in
+    let high = lt-mul-div-succ (m * m) {b = 2 * w} (omega arith) in
     let two : 2 ^ 1 ≡ 2 = refl in
     let a = mul-le (m + 1) (m + 1) (2 * w) (2 * w) (omega arith) (omega arith) in
     let b = le-div w (m * m) (2 * w) (omega arith) (omega arith) in
@@ -45,7 +41,8 @@ one_digit w m o l u h =
 
 no_digit : (w m : ℕ) → 0 < w → w ≤ m → m * m < 2 * w * w → IsSquared w m 0 (m * m / w)
 no_digit w m o l h =
-    let q = quotient (m * m) w o in
+    let low = div-mul-le_self (m * m) w in
+    let high = lt-mul-div-succ (m * m) o in
     let one : 2 ^ 0 ≡ 1 = refl in
     let a = mul-le w w m m l l in
     let b = le-div w (m * m) w o (omega arith) in

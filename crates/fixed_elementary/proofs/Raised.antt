@@ -2,7 +2,7 @@
 use Rattle.std.proofs.Common.{◌≡◌, ◌+◌, ◌-◌, ◌*◌, ◌/◌, ◌%◌, ◌^◌, ◌<◌, ◌≤◌, ◌<ℤ◌, ℕ, ℤ, Bool, true, false, pos, negsuc, refl, ap, sym, subst, ◌∙◌, inl, inr, arith}
 use Rattle.std.specs.Prelude.{min}
 use Rattle.std.proofs.lemmas.Int.{ints}
-use Rattle.std.proofs.Math.Nat.{le_of_mul-le-mul_right, lt_of_mul-lt-mul_right, mul-le-mul_right, mul-le-mul_left, pow-le-pow_left, pow-le-pow_right, pow-lt-pow_left, one-le-pow, mul-div_left}
+use Rattle.std.proofs.Math.Nat.{le_of_mul-le-mul_right, lt_of_mul-lt-mul_right, mul-le-mul_right, mul-le-mul_left, pow-le-pow_left, pow-le-pow_right, pow-lt-pow_left, one-le-pow, mul-div_left, div-mul-le_self, lt-mul-div-succ}
 use Rattle.std.proofs.lemmas.Nat.{mul-le, mul-pow, pow-add, pow_pos, div-add-mod', mod_below, div_below, le-div}
 use Rattle.std.proofs.lemmas.Bool.{cases_lt}
 use Rattle.fixed_word.specs.Format.{highest}
@@ -71,18 +71,13 @@ above_raised w c q m e r o some h f =
 
 -- ---- the power
 
-quotient_of : (x w : ℕ) → 0 < w → (x / w * w ≤ x) × (x < (x / w + 1) * w)
-quotient_of x w o =
-    let d = div-add-mod' x w in
-    let m = mod_below x w o in
-    (omega arith, omega arith)
-
 power_near : (w f m z n p k : ℕ) → 0 < w → 2 * (m * 2 ^ k) ≤ w → IsPart w f m z p → IsExp2 (n * 2 ^ f + z) f k (p * 2 ^ n / w)
 power_near w f m z n p k o h part =
     let q = 2 ^ f in
-    let v = quotient_of (p * 2 ^ n) w o in
-    let low = up_below w q z n p (p * 2 ^ n / w) o v.0 part.power.below in
-    let high = up_above w q z n p (p * 2 ^ n / w) (m * q) o (pow_pos f) v.1 part.power.above in
+    let fits = div-mul-le_self (p * 2 ^ n) w in
+    let next = lt-mul-div-succ (p * 2 ^ n) o in
+    let low = up_below w q z n p (p * 2 ^ n / w) o fits part.power.below in
+    let high = up_above w q z n p (p * 2 ^ n / w) (m * q) o (pow_pos f) (omega arith) part.power.above in
     record { below = low; above = above_raised w m q (2 ^ k) (n * q + z) (p * 2 ^ n / w) o (pow_pos k) h high }
 
 whole_exponent : (q n z j : ℕ) → z < q → n * q + z ≡ j * q → (z ≡ 0) × (n ≡ j)

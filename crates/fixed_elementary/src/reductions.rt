@@ -21,14 +21,14 @@ pub(crate) const BROAD_LACK: u128 = 23;
 
 /// A mantissa in units of `2^-63`, and the logarithm of what it was over this, in units of `2^-62`.
 #[derive(Clone, Copy)]
-struct Narrow {
+struct NarrowReduction {
     mantissa: u64,
     log: u64,
 }
 
 /// A mantissa in units of `2^-127`, and the logarithm of what it was over this, in units of `2^-126`.
 #[derive(Clone, Copy)]
-struct Broad {
+struct BroadReduction {
     mantissa: u128,
     log: u128,
 }
@@ -67,7 +67,7 @@ fn broad_digit(rest: u128, shift: u32) -> u64
 
 /// Returns the mantissa times the factor of a group, rounded down.
 #[inline]
-fn narrow_step(mantissa: u64, group: u32) -> Narrow
+fn narrow_step(mantissa: u64, group: u32) -> NarrowReduction
     requires group { group < 3 }
     requires near { IsNearOne (2 ^ 63) 1 (128 ^ group) group mantissa }
     ensures near { IsNearOne (2 ^ 63) 1 (128 ^ (group + 1)) (group + 1) result.mantissa }
@@ -75,7 +75,7 @@ fn narrow_step(mantissa: u64, group: u32) -> Narrow
 {
     let digit = narrow_digit(mantissa - (1 << 63), 56 - 7 * group);
     let factor = factor_of(digit, group);
-    Narrow {
+    NarrowReduction {
         mantissa: narrow_scaled(mantissa, factor.factor),
         log: (factor.log >> 64) as u64,
     }
@@ -83,7 +83,7 @@ fn narrow_step(mantissa: u64, group: u32) -> Narrow
 
 /// Does the same in 128 bits.
 #[inline]
-fn broad_step(mantissa: u128, group: u32) -> Broad
+fn broad_step(mantissa: u128, group: u32) -> BroadReduction
     requires group { group < 6 }
     requires near { IsNearOne (2 ^ 127) (2 ^ 64) (128 ^ group) group mantissa }
     ensures near { IsNearOne (2 ^ 127) (2 ^ 64) (128 ^ (group + 1)) (group + 1) result.mantissa }
@@ -91,7 +91,7 @@ fn broad_step(mantissa: u128, group: u32) -> Broad
 {
     let digit = broad_digit(mantissa - (1 << 127), 120 - 7 * group);
     let factor = factor_of(digit, group);
-    Broad {
+    BroadReduction {
         mantissa: broad_scaled(mantissa, factor.factor),
         log: factor.log,
     }
@@ -99,16 +99,16 @@ fn broad_step(mantissa: u128, group: u32) -> Broad
 
 /// Returns a mantissa of hardly more than `1 + 2^-21`, and the logarithm of the given one over it.
 #[inline]
-fn narrow_reduced(mantissa: u64) -> Narrow
+fn narrow_reduced(mantissa: u64) -> NarrowReduction
     requires { 2 ^ 63 ≤ mantissa }
     ensures near { IsNearOne (2 ^ 63) 1 (2 ^ 21) 3 result.mantissa }
     ensures log { IsOver 62 9 mantissa result.mantissa result.log }
     ensures most { result.log ≤ 2 ^ 62 }
 {
-    let mut part = Narrow { mantissa, log: 0 };
+    let mut part = NarrowReduction { mantissa, log: 0 };
     for group in 0..3 {
         let next = narrow_step(part.mantissa, group);
-        part = Narrow {
+        part = NarrowReduction {
             mantissa: next.mantissa,
             log: part.log + next.log,
         };
@@ -118,16 +118,16 @@ fn narrow_reduced(mantissa: u64) -> Narrow
 
 /// Returns a mantissa of hardly more than `1 + 2^-42`, and the logarithm of the given one over it.
 #[inline]
-fn broad_reduced(mantissa: u128) -> Broad
+fn broad_reduced(mantissa: u128) -> BroadReduction
     requires { 2 ^ 127 ≤ mantissa }
     ensures near { IsNearOne (2 ^ 127) (2 ^ 64) (2 ^ 42) 6 result.mantissa }
     ensures log { IsOver 126 18 mantissa result.mantissa result.log }
     ensures most { result.log ≤ 2 ^ 126 }
 {
-    let mut part = Broad { mantissa, log: 0 };
+    let mut part = BroadReduction { mantissa, log: 0 };
     for group in 0..6 {
         let next = broad_step(part.mantissa, group);
-        part = Broad {
+        part = BroadReduction {
             mantissa: next.mantissa,
             log: part.log + next.log,
         };
