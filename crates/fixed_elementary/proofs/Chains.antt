@@ -1,12 +1,12 @@
 -- Digits of logarithms, computed by squaring a mantissa.
 use Rattle.std.proofs.Common.{◌≡◌, ◌⊎◌, ◌+◌, ◌*◌, ◌/◌, ◌^◌, ◌<◌, ◌≤◌, ℕ, zero, suc, Bool, true, false, ◌&&◌, T, leb, leb→le, refl, subst, inl, inr, arith}
 use Rattle.std.specs.Prelude.{if◌then◌else◌}
-use Rattle.std.proofs.Math.Nat.{div-mul-le_self, lt-mul-div-succ}
+use Rattle.std.proofs.Math.Nat.{div-mul-le_self, lt-mul-div-succ, pow-le-pow_right}
 use Rattle.std.proofs.lemmas.Nat.{mul-le, div_below, le-div, pow_pos}
 use lib.Ieee.Fits.{and_l, and_r}
 use Rattle.fixed_elementary.specs.inside.Digits.{IsFound, IsRead}
-use Rattle.fixed_elementary.specs.inside.Squaring.{IsSquared}
-use Rattle.fixed_elementary.proofs.Reading.{read_all, read_turn}
+use Rattle.fixed_elementary.specs.inside.Squaring.{IsMantissa, IsSquared}
+use Rattle.fixed_elementary.proofs.Reading.{read_all, read_none, read_turn}
 
 -- f of n, which is computed first
 abbrev forced : ℕ → (ℕ → Bool) → Bool
@@ -88,6 +88,15 @@ all_read P (suc k) w i d m low high o s h t =
 
 -- ---- the digits of a number
 
+-- 2^127, computed
+abbrev pub unit : ℕ
+unit = 170141183460469231731687303715884105728
+
+pub begun : (c : ℕ) → 2 ^ 62 ≤ c → c < 2 ^ 63 → IsRead unit c 0 62 (c * 2 ^ 65)
+begun c least most =
+    let start : IsMantissa unit c 62 (c * 2 ^ 65) = record { least = omega arith; most = omega arith; digits = omega arith; value = omega arith } in
+    read_none unit c 62 (c * 2 ^ 65) (omega arith) start
+
 -- the digits are s
 pub digits_found : (room w a h d m s : ℕ) → w ≡ 2 ^ (room + 1) → IsRead w a 0 d m → T (reads h w d m s s) → IsFound room a h s
 digits_found room w a h d m s u r t =
@@ -109,3 +118,14 @@ found_between room a h s l found =
     let exponent : 2 ^ h * 2 ^ 0 ≡ 2 ^ h = omega arith in
     let next : (s + 1) * 2 ^ 0 + 1 ≡ s + 2 = omega arith in
     (near.below, subst (λ (k : ℕ). a ^ 2 ^ h < 2 ^ k) next (subst (λ (k : ℕ). a ^ k < 2 ^ ((s + 1) * 2 ^ 0 + 1)) exponent near.above))
+
+-- so do powers of two, if the digits are between theirs
+pub enclosed : (c h low high : ℕ) → h ≤ 126 → 2 ^ 62 ≤ c → c < 2 ^ 63 → T (reads h unit 62 (c * 2 ^ 65) low high) → (2 ^ low ≤ c ^ 2 ^ h) × (c ^ 2 ^ h < 2 ^ (high + 2))
+enclosed c h low high l least most t =
+    let o : 0 < unit = omega arith in
+    let turns : Reads (IsRead unit c) unit = record { bounds = λ i d m k. (k.least, k.most); turn = λ i d m n b k x. read_turn unit c i d m n b o k x } in
+    let e = all_read (IsRead unit c) h unit 0 62 (c * 2 ^ 65) low high o turns (begun c least most) t in
+    let between = found_between 126 c h e.d l (read_all 126 unit c h (0 + h) e.d e.m refl (omega arith) e.read) in
+    let from : 2 ^ low ≤ 2 ^ e.d = pow-le-pow_right {n = 2} (omega arith) {i = low} {j = e.d} e.least in
+    let to : 2 ^ (e.d + 2) ≤ 2 ^ (high + 2) = pow-le-pow_right {n = 2} (omega arith) {i = e.d + 2} {j = high + 2} (omega (arith, e.most)) in
+    (omega (arith, between.0), omega (arith, between.1))

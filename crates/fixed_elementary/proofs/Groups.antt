@@ -1,10 +1,10 @@
--- The tables of the powers of 2, for each four digits of an exponent.
+-- The table of the powers of 2 for each four digits of an exponent.
 use Rattle.std.proofs.Common.{◌≡◌, ◌+◌, ◌-◌, ◌*◌, ◌/◌, ◌%◌, ◌^◌, ◌<◌, ◌≤◌, ℕ, zero, suc, List, Bool, true, ◌&&◌, T, leb, ltb, leb→le, ltb→lt, get_or, refl, ap, subst, ◌∙◌, inl, inr, arith, eq-zero-or-pos}
 use Rattle.std.proofs.Math.Nat.{pow-suc}
 use Rattle.std.proofs.lemmas.Nat.{div-add-mod', mod_below}
 use Rattle.std.proofs.lemmas.Bool.{cases_lt}
 use lib.Ieee.Fits.{and_l, and_r}
-use Rattle.fixed_elementary.specs.declared.powers_of_two.TheConstants.{BROAD, NARROW}
+use Rattle.fixed_elementary.specs.declared.powers_of_two.TheConstants.{BROAD}
 use Rattle.fixed_elementary.specs.inside.Power.{IsFloored, IsPart}
 use Rattle.fixed_elementary.proofs.Powers.{IsRootOfTwo, first_root, next_root, part_longer, part_none, part_of_root, part_on, part_weaker}
 
@@ -130,15 +130,12 @@ entry_is xs w n o t g l (suc m) f e h =
         let x = ap (λ k. k * 2 ^ (4 - suc m)) h in
         rw p (omega arith)
 
--- ---- the tables
+-- ---- the table
 
 group_is : (xs : List ℕ) (w n : ℕ) → 0 < w → T (is_table xs w n) → (g d : ℕ) → g < n → d < 16 → IsPart w (4 * g + 4) 12 d (get_or xs (16 * g + d) 0)
 group_is xs w n o t g d l h =
     let e : d * 2 ^ (4 - 4) ≡ d = omega arith in
     subst (λ i. IsPart w (4 * g + 4) 12 d (get_or xs (16 * g + i) 0)) e (entry_is xs w n o t g l 4 (omega arith) d h)
-
-pub narrow_is : (g d : ℕ) → g < 8 → d < 16 → IsPart (2 ^ 62) (4 * g + 4) 12 d (get_or NARROW (16 * g + d) 0)
-narrow_is g d l h = group_is NARROW (2 ^ 62) 8 (omega arith) tt g d l h
 
 pub broad_is : (g d : ℕ) → g < 16 → d < 16 → IsPart (2 ^ 126) (4 * g + 4) 12 d (get_or BROAD (16 * g + d) 0)
 broad_is g d l h = group_is BROAD (2 ^ 126) 16 (omega arith) tt g d l h

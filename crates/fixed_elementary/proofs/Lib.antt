@@ -5,6 +5,7 @@ pub mod Reading
 pub mod LogLaws
 pub mod Powers
 mod Groups
+mod Eights
 pub mod Raised
 mod ExpLaws
 pub mod Rows

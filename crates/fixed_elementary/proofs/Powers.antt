@@ -262,6 +262,19 @@ part_times w b n m y z p c r o digits g h f =
         let s = le_of_mul-le-mul_right t o in
         omega arith
 
+-- the power of the digits z, rounded down
+pub part_floored : (w b z p : ℕ) → 0 < w → z < 2 ^ b → w ≤ p → (z ≡ 0 → p ≡ w) → p ^ 2 ^ b ≤ 2 ^ z * w ^ 2 ^ b → 2 ^ z * w ^ 2 ^ b ≤ (p + 1) ^ 2 ^ b → IsPart w b 1 z p
+part_floored w b z p o digits least unit low high =
+    let q = 2 ^ b in
+    let near : (p + 1) * w ≤ p * (w + 1) = omega arith in
+    let up : ((p + 1) * w) ^ q ≤ (p * (w + 1)) ^ q = pow-le-pow_left near q in
+    let x = mul-pow (p + 1) w q in
+    let y = mul-pow p (w + 1) q in
+    let t = mul-le-mul_right (w ^ q) high in
+    let one : 1 * q ≡ q = omega arith in
+    let power : IsPower w q z (1 * q) p = rw one (record { below = low; above = omega arith }) in
+    record { digits = digits; least = least; most = less_than_two w q z (1 * q) p o digits power; power = power; unit = unit }
+
 -- k digits more, which are d
 pub part_on : (w b k n m z d p c r : ℕ) → 0 < w → d < 2 ^ k → IsPart w b n z p → IsPart w (b + k) m d c → IsFloored w p c r → IsPart w (b + k) (n + m + 1) (z * 2 ^ k + d) r
 part_on w b k n m z d p c r o small g h f =
@@ -269,13 +282,12 @@ part_on w b k n m z d p c r o small g h f =
     let t = mul-le-mul_right (2 ^ k) g.digits in
     part_times w (b + k) n m (z * 2 ^ k) d p c r o (rw e (omega arith)) (part_longer w b k n z p g) h f
 
-pub turned : (w g n z d p c r : ℕ) → 0 < w → d < 16 → IsPart w (4 * g) n z p → IsPart w (4 * g + 4) 12 d c → IsFloored w p c r → IsPart w (4 * g + 4) (n + 13) (16 * z + d) r
-turned w g n z d p c r o small h f b =
-    let four : 2 ^ 4 ≡ 16 = refl in
-    let i : n + 12 + 1 ≡ n + 13 = omega arith in
-    let e : z * 2 ^ 4 + d ≡ 16 * z + d = omega arith in
-    let all = part_on w (4 * g) 4 n 12 z d p c r o (omega arith) h f b in
-    subst (λ k. IsPart w (4 * g + 4) (n + 13) k r) e (subst (λ k. IsPart w (4 * g + 4) k (z * 2 ^ 4 + d) r) i all)
+pub turned : (w b k n m z d p c r : ℕ) → 0 < w → d < 2 ^ k → IsPart w b n z p → IsPart w (b + k) m d c → IsFloored w p c r → IsPart w (b + k) (n + (m + 1)) (2 ^ k * z + d) r
+turned w b k n m z d p c r o small h f g =
+    let i : n + m + 1 ≡ n + (m + 1) = omega arith in
+    let e : z * 2 ^ k + d ≡ 2 ^ k * z + d = omega arith in
+    let all = part_on w b k n m z d p c r o small h f g in
+    subst (λ x. IsPart w (b + k) (n + (m + 1)) x r) e (subst (λ x. IsPart w (b + k) x (z * 2 ^ k + d) r) i all)
 
 -- ---- the fraction
 
@@ -291,35 +303,38 @@ digits_fit x f g l h =
     let p : 2 ^ g ≡ 2 ^ f * 2 ^ (g - f) = ap (λ k. 2 ^ k) (sym e) ∙ pow-add 2 f (g - f) in
     rw (same, p) (omega arith)
 
--- ---- the loop
+-- ---- the loop: k digits a turn, for each of which there are c factors
 
-pub part_begun : (w x g : ℕ) → 0 < w → x < 2 ^ (4 * g) → IsPart w (4 * 0) (13 * 0) (x / 2 ^ (4 * (g - 0))) w
-part_begun w x g o h =
+pub part_begun : (w x k c g : ℕ) → 0 < w → x < 2 ^ (k * g) → IsPart w (k * 0) (c * 0) (x / 2 ^ (k * (g - 0))) w
+part_begun w x k c g o h =
     let e : g - 0 ≡ g = omega arith in
-    let z : x / 2 ^ (4 * g) ≡ 0 = let d = div_below x (2 ^ (4 * g)) 1 (pow_pos (4 * g)) (omega arith) in omega arith in
-    rw (e, z) (part_none w 0 o)
+    let a : k * 0 ≡ 0 = omega arith in
+    let b : c * 0 ≡ 0 = omega arith in
+    let z : x / 2 ^ (k * g) ≡ 0 = let d = div_below x (2 ^ (k * g)) 1 (pow_pos (k * g)) (omega arith) in omega arith in
+    rw (e, a, b, z) (part_none w 0 o)
 
 -- the digits so far, and the next
-digits_on : (x g i : ℕ) → i < g → 16 * (x / 2 ^ (4 * (g - i))) + x / 2 ^ (4 * (g - 1 - i)) % 16 ≡ x / 2 ^ (4 * (g - (i + 1)))
-digits_on x g i h =
+digits_on : (x k g i : ℕ) → i < g → 2 ^ k * (x / 2 ^ (k * (g - i))) + x / 2 ^ (k * (g - 1 - i)) % 2 ^ k ≡ x / 2 ^ (k * (g - (i + 1)))
+digits_on x k g i h =
     let e : g - 1 - i ≡ g - (i + 1) = omega arith in
-    let f : 4 * (g - i) ≡ 4 * (g - (i + 1)) + 4 = omega arith in
-    let four : 2 ^ 4 ≡ 16 = refl in
-    let p : 2 ^ (4 * (g - (i + 1)) + 4) ≡ 2 ^ (4 * (g - (i + 1))) * 16 = pow-add 2 (4 * (g - (i + 1))) 4 ∙ ap (λ k. 2 ^ (4 * (g - (i + 1))) * k) four in
-    let d = div-div-eq-div-mul x (2 ^ (4 * (g - (i + 1)))) 16 in
-    let m = div-add-mod' (x / 2 ^ (4 * (g - (i + 1)))) 16 in
-    rw (e, f, p, sym d) (omega arith)
+    let s : g - i ≡ g - (i + 1) + 1 = omega arith in
+    let f : k * (g - (i + 1) + 1) ≡ k * (g - (i + 1)) + k = omega arith in
+    let p = pow-add 2 (k * (g - (i + 1))) k in
+    let d = div-div-eq-div-mul x (2 ^ (k * (g - (i + 1)))) (2 ^ k) in
+    let m = div-add-mod' (x / 2 ^ (k * (g - (i + 1)))) (2 ^ k) in
+    rw (e, s, f, p, sym d) (omega arith)
 
-pub part_turned : (w x g i d r : ℕ) → i < g → d ≡ x / 2 ^ (4 * (g - 1 - i)) % 16 → IsPart w (4 * i + 4) (13 * i + 13) (16 * (x / 2 ^ (4 * (g - i))) + d) r → IsPart w (4 * (i + 1)) (13 * (i + 1)) (x / 2 ^ (4 * (g - (i + 1)))) r
-part_turned w x g i d r l e h =
-    let b : 4 * i + 4 ≡ 4 * (i + 1) = omega arith in
-    let n : 13 * i + 13 ≡ 13 * (i + 1) = omega arith in
-    let z = ap (λ (k : ℕ). 16 * (x / 2 ^ (4 * (g - i))) + k) e ∙ digits_on x g i l in
-    subst (λ k. IsPart w k (13 * (i + 1)) (x / 2 ^ (4 * (g - (i + 1)))) r) b (subst (λ k. IsPart w (4 * i + 4) k (x / 2 ^ (4 * (g - (i + 1)))) r) n (subst (λ k. IsPart w (4 * i + 4) (13 * i + 13) k r) z h))
+pub part_turned : (w x k c g i d r : ℕ) → i < g → d ≡ x / 2 ^ (k * (g - 1 - i)) % 2 ^ k → IsPart w (k * i + k) (c * i + c) (2 ^ k * (x / 2 ^ (k * (g - i))) + d) r → IsPart w (k * (i + 1)) (c * (i + 1)) (x / 2 ^ (k * (g - (i + 1)))) r
+part_turned w x k c g i d r l e h =
+    let b : k * i + k ≡ k * (i + 1) = omega arith in
+    let n : c * i + c ≡ c * (i + 1) = omega arith in
+    let z = ap (λ (y : ℕ). 2 ^ k * (x / 2 ^ (k * (g - i))) + y) e ∙ digits_on x k g i l in
+    subst (λ y. IsPart w y (c * (i + 1)) (x / 2 ^ (k * (g - (i + 1)))) r) b (subst (λ y. IsPart w (k * i + k) y (x / 2 ^ (k * (g - (i + 1)))) r) n (subst (λ y. IsPart w (k * i + k) (c * i + c) y r) z h))
 
-pub part_all : (w x g i p : ℕ) → i ≡ g → IsPart w (4 * i) (13 * i) (x / 2 ^ (4 * (g - i))) p → IsPart w (4 * g) (13 * g) x p
-part_all w x g i p e h =
-    let z : 4 * (g - g) ≡ 0 = omega arith in
+pub part_all : (w x k c g i p : ℕ) → i ≡ g → IsPart w (k * i) (c * i) (x / 2 ^ (k * (g - i))) p → IsPart w (k * g) (c * g) x p
+part_all w x k c g i p e h =
+    let s : g - g ≡ 0 = omega arith in
+    let z : k * 0 ≡ 0 = omega arith in
     let one : x / 2 ^ 0 ≡ x = let d = div-add-mod' x 1 in let m = mod_below x 1 (omega arith) in omega arith in
-    let a = subst (λ k. IsPart w (4 * k) (13 * k) (x / 2 ^ (4 * (g - k))) p) e h in
-    subst (λ k. IsPart w (4 * g) (13 * g) k p) (ap (λ k. x / 2 ^ k) z ∙ one) a
+    let a = subst (λ y. IsPart w (k * y) (c * y) (x / 2 ^ (k * (g - y))) p) e h in
+    subst (λ y. IsPart w (k * g) (c * g) y p) (ap (λ y. x / 2 ^ (k * y)) s ∙ ap (λ y. x / 2 ^ y) z ∙ one) a

@@ -8,19 +8,14 @@ use Rattle.std.proofs.lemmas.Nat.{pow-add}
 use lib.Ieee.Fits.{and_l, and_r}
 use Rattle.fixed_elementary.specs.declared.factor_table.TheConstants.{FACTORS}
 use Rattle.fixed_elementary.specs.declared.log_table.TheConstants.{LOGS}
-use Rattle.fixed_elementary.specs.inside.Squaring.{IsMantissa}
-use Rattle.fixed_elementary.specs.inside.Digits.{IsFound, IsRead}
+use Rattle.fixed_elementary.specs.inside.Digits.{IsFound}
 use Rattle.fixed_elementary.specs.inside.Reduced.{IsFactor, IsNearFactor}
-use Rattle.fixed_elementary.proofs.Chains.{digits_found, found_between, reads}
-use Rattle.fixed_elementary.proofs.Reading.{pow_times, read_none}
+use Rattle.fixed_elementary.proofs.Chains.{begun, digits_found, found_between, reads, unit}
+use Rattle.fixed_elementary.proofs.Reading.{pow_times}
 
 -- ---- one row
 
--- 2^127, computed
-abbrev unit : ℕ
-unit = 170141183460469231731687303715884105728
-
--- 63 * 2^126, likewise
+-- 63 * 2^126, computed
 abbrev all_digits : ℕ
 all_digits = 5359447279004780799548150067050349330432
 
@@ -86,11 +81,6 @@ less_is h n c l s found sum =
     let x = mul-le-mul_left (2 ^ l) most in
     let y = mul-le-mul_left (2 ^ (l + 2)) below in
     (rw whole (omega arith), rw whole (omega arith))
-
-begun : (c : ℕ) → 2 ^ 62 ≤ c → c < 2 ^ 63 → IsRead unit c 0 62 (c * 2 ^ 65)
-begun c least most =
-    let start : IsMantissa unit c 62 (c * 2 ^ 65) = record { least = omega arith; most = omega arith; digits = omega arith; value = omega arith } in
-    read_none unit c 62 (c * 2 ^ 65) (omega arith) start
 
 log_is : (h c l : ℕ) → h ≡ 126 → T (is_log c l) → IsFactor h c l
 log_is h c l e t = go (eqb c (2 ^ 63)) refl t

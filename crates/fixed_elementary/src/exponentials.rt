@@ -1,4 +1,5 @@
-//! Powers of 2 with a fractional exponent: one product for each four binary digits of the exponent.
+//! Powers of 2 with a fractional exponent: one product for each eight binary digits of the exponent, or on words of 64
+//! bits for each four.
 
 ghost use Rattle.std.specs.Prelude.{◌≡◌, ◌≤◌, ◌<◌, ◌+◌, ◌-◌, ◌*◌, ◌/◌, ◌%◌, ◌^◌, ◌+ℤ◌, ℕ, ℤ, pos, min};
 ghost use Rattle.fixed_word.specs.Format.{with_sign};
@@ -12,7 +13,7 @@ use crate::wide::product;
 use fixed_word::{Outcome, RawWord, Valued, outcome_of_magnitude};
 
 /// Returns the product in units of `2^-62`, rounded down.
-#[inline]
+#[inline(always)]
 fn narrow_product(a: u64, b: u64) -> u64
     requires a { 2 ^ 62 ≤ a }
     requires a_most { a < 2 ^ 63 }
@@ -36,24 +37,33 @@ fn broad_product(a: u128, b: u128) -> u128
     4 * double.high + double.low / (1 << 126)
 }
 
+/// Returns a group of eight binary digits of a number. Group 0 is the last eight.
+#[inline(always)]
+fn narrow_digits(number: u64, group: u32) -> u64
+    requires { group < 8 }
+    ensures { result ≡ number / 2 ^ (8 * group) % 256 }
+{
+    (number >> (8 * group)) % 256
+}
+
 /// Returns a group of four binary digits of a number. Group 0 is the last four.
 #[inline]
-fn digits_of(number: u64, group: u32) -> u64
+fn broad_digits(number: u64, group: u32) -> u64
     requires { group < 16 }
     ensures { result ≡ number / 2 ^ (4 * group) % 16 }
 {
     (number >> (4 * group)) % 16
 }
 
-/// Returns the power after four more digits of the exponent, in units of `2^-62`.
-#[inline]
+/// Returns the power after eight more digits of the exponent, in units of `2^-62`.
+#[inline(always)]
 fn narrow_turn(power: u64, digits: u64, group: u32) -> u64
-    requires group { group < 8 }
-    requires digits { digits < 16 }
+    requires group { group < 4 }
+    requires digits { digits < 256 }
     requires least { 2 ^ 62 ≤ power }
     requires most { power < 2 ^ 63 }
-    ensures { (n z : ℕ) → IsPart (2 ^ 62) (4 * group) n z power
-        → IsPart (2 ^ 62) (4 * group + 4) (n + 13) (16 * z + digits) result }
+    ensures { (n z : ℕ) → IsPart (2 ^ 62) (8 * group) n z power
+        → IsPart (2 ^ 62) (8 * group + 8) (n + 2) (256 * z + digits) result }
 {
     narrow_product(power, narrow_factor(digits, group))
 }
@@ -71,16 +81,16 @@ fn broad_turn(power: u128, digits: u64, group: u32) -> u128
     broad_product(power, broad_factor(digits, group))
 }
 
-/// Returns `2^(part / 16^groups)` in units of `2^-62`, or slightly less.
+/// Returns `2^(part / 256^groups)` in units of `2^-62`, or slightly less.
 #[inline(always)]
 fn narrow_exp2(part: u64, groups: u32) -> u64
-    requires groups { groups ≤ 8 }
-    requires part { part < 2 ^ (4 * groups) }
-    ensures { IsPart (2 ^ 62) (4 * groups) (13 * groups) part result }
+    requires groups { groups ≤ 4 }
+    requires part { part < 2 ^ (8 * groups) }
+    ensures { IsPart (2 ^ 62) (8 * groups) (2 * groups) part result }
 {
     let mut power = 1 << 62;
     for i in 0..groups {
-        power = narrow_turn(power, digits_of(part, groups - 1 - i), i);
+        power = narrow_turn(power, narrow_digits(part, groups - 1 - i), i);
     }
     power
 }
@@ -93,30 +103,52 @@ fn broad_exp2(part: u64, groups: u32) -> u128
 {
     let mut power = 1 << 126;
     for i in 0..groups {
-        power = broad_turn(power, digits_of(part, groups - 1 - i), i);
+        power = broad_turn(power, broad_digits(part, groups - 1 - i), i);
     }
     power
 }
 
-/// Returns `mantissa * 2^whole / 2^unit`, rounded down, or `2^bits` if that is less.
+/// Returns `mantissa * 2^whole / 2^62`, rounded down, or `2^bits` if that is less.
 #[inline(always)]
-fn in_bits(mantissa: u128, unit: u32, whole: u128, bits: u32) -> u128
-    requires unit { unit ≤ 126 }
-    requires bits { bits ≤ unit }
-    requires least { 2 ^ unit ≤ mantissa }
-    requires most { mantissa < 2 * 2 ^ unit }
-    ensures { result ≡ min (mantissa * 2 ^ whole / 2 ^ unit) (2 ^ bits) }
+fn narrow_in_bits(mantissa: u64, whole: u128, bits: u32) -> u64
+    requires bits { bits ≤ 32 }
+    requires least { 2 ^ 62 ≤ mantissa }
+    requires most { mantissa < 2 * 2 ^ 62 }
+    ensures { result ≡ min (mantissa * 2 ^ whole / 2 ^ 62) (2 ^ bits) }
 {
     if whole < u128::from(bits) {
-        mantissa >> (unit - whole as u32)
+        mantissa >> (62 - whole as u32)
+    } else {
+        1 << bits
+    }
+}
+
+/// Returns `mantissa * 2^whole / 2^126`, rounded down, or `2^bits` if that is less.
+fn broad_in_bits(mantissa: u128, whole: u128, bits: u32) -> u128
+    requires bits { bits ≤ 64 }
+    requires least { 2 ^ 126 ≤ mantissa }
+    requires most { mantissa < 2 * 2 ^ 126 }
+    ensures { result ≡ min (mantissa * 2 ^ whole / 2 ^ 126) (2 ^ bits) }
+{
+    if whole < u128::from(bits) {
+        mantissa >> (126 - whole as u32)
     } else {
         power_of_two(bits)
     }
 }
 
-/// Returns how many groups of four digits have these digits.
+/// Returns how many groups of eight digits have these digits.
 #[inline(always)]
-fn groups_of(places: u32) -> u32
+fn narrow_groups(places: u32) -> u32
+    requires { places ≤ 64 }
+    ensures least { places ≤ 8 * result }
+    ensures most { 8 * result < places + 8 }
+{
+    places.div_ceil(8)
+}
+
+/// Returns how many groups of four digits have these digits.
+fn broad_groups(places: u32) -> u32
     requires { places ≤ 64 }
     ensures least { places ≤ 4 * result }
     ensures most { 4 * result < places + 4 }
@@ -124,27 +156,27 @@ fn groups_of(places: u32) -> u32
     places.div_ceil(4)
 }
 
-/// Returns the fraction of an exponent, converted from units of `2^-places` to units of `16^-groups`.
+/// Returns the fraction of an exponent, converted from units of `2^-places` to units of `2^-digits`.
 #[inline(always)]
-fn part_of(exponent: u128, places: u32, groups: u32) -> u64
-    requires places { places ≤ 4 * groups }
-    requires groups { groups ≤ 16 }
-    ensures digits { result < 2 ^ (4 * groups) }
-    ensures value { result ≡ exponent % 2 ^ places * 2 ^ (4 * groups - places) }
+fn part_of(exponent: u128, places: u32, digits: u32) -> u64
+    requires places { places ≤ digits }
+    requires digits { digits ≤ 64 }
+    ensures digits { result < 2 ^ digits }
+    ensures value { result ≡ exponent % 2 ^ places * 2 ^ (digits - places) }
 {
-    ((exponent % (1 << places)) << (4 * groups - places)) as u64
+    ((exponent % (1 << places)) << (digits - places)) as u64
 }
 
 /// Returns `2^(exponent / 2^places)`, rounded down from a mantissa of 63 bits, at most `2^bits`.
 #[inline(always)]
-fn narrow_power(exponent: u128, places: u32, bits: u32) -> u128
+fn narrow_power(exponent: u128, places: u32, bits: u32) -> u64
     requires bits { bits ≤ 32 }
     requires places { places ≤ bits }
     ensures { (r : ℕ) × IsExp2Up 54 exponent places r × (result ≡ min r (2 ^ bits)) }
 {
-    let groups = groups_of(places);
-    let mantissa = narrow_exp2(part_of(exponent, places, groups), groups);
-    in_bits(u128::from(mantissa), 62, exponent >> places, bits)
+    let groups = narrow_groups(places);
+    let mantissa = narrow_exp2(part_of(exponent, places, 8 * groups), groups);
+    narrow_in_bits(mantissa, exponent >> places, bits)
 }
 
 /// Does the same from a mantissa of 127 bits.
@@ -153,9 +185,9 @@ fn broad_power(exponent: u128, places: u32, bits: u32) -> u128
     requires places { places ≤ bits }
     ensures { (r : ℕ) × IsExp2Up 117 exponent places r × (result ≡ min r (2 ^ bits)) }
 {
-    let groups = groups_of(places);
-    let mantissa = broad_exp2(part_of(exponent, places, groups), groups);
-    in_bits(mantissa, 126, exponent >> places, bits)
+    let groups = broad_groups(places);
+    let mantissa = broad_exp2(part_of(exponent, places, 4 * groups), groups);
+    broad_in_bits(mantissa, exponent >> places, bits)
 }
 
 /// Returns `2^(exponent / 2^places)`, rounded as by `exp2_of`, at most `2^bits`. Precondition: `places <= bits <= 64`.
@@ -166,26 +198,26 @@ pub fn power_of(exponent: u128, places: u32, bits: u32) -> u128
     ensures { (r : ℕ) × IsExp2Up (exp2_room bits) exponent places r × (result ≡ min r (2 ^ bits)) }
 {
     if bits <= 32 {
-        narrow_power(exponent, places, bits)
+        u128::from(narrow_power(exponent, places, bits))
     } else {
         broad_power(exponent, places, bits)
     }
 }
 
 /// Returns the exponent of a power in units of `2^-frac`, or `None` if it is below 0, so that the power is less than a
-/// unit.
+/// unit. Each branch asks for the magnitude anew: where the sign is known, it compiles to a sum with no branch on it.
 #[inline(always)]
 fn exponent_of<T: RawWord>(a: T, frac: u32) -> Option<u128>
     requires { frac ≤ 64 }
     ensures { IsExponent (T.value a +ℤ pos (frac * 2 ^ frac)) result }
 {
     let units = in_units(frac);
-    let magnitude = u128::from(a.magnitude());
-    let less = magnitude * u128::from(a.is_below_zero());
-    if units < less {
+    if !a.is_below_zero() {
+        Some(units + u128::from(a.magnitude()))
+    } else if units < u128::from(a.magnitude()) {
         None
     } else {
-        Some(units - less + (magnitude - less))
+        Some(units - u128::from(a.magnitude()))
     }
 }
 

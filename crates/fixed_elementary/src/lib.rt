@@ -9,6 +9,8 @@ mod digits;
 pub mod exponentials;
 mod factor_table;
 mod factors;
+mod first_powers;
+mod last_powers;
 pub mod laws;
 mod lengths;
 mod log_table;

@@ -1,143 +1,14 @@
-//! Powers of 2 with the exponents `digits / 16^(group+1)`, where `digits` is below 16.
+//! Powers of 2 with the exponents `digits / 256^(group+1)`, and with the exponents `digits / 16^(group+1)`.
 
 ghost use Rattle.std.specs.Prelude.{◌≤◌, ◌<◌, ◌+◌, ◌*◌, ◌^◌};
 ghost use Rattle.fixed_elementary.specs.inside.Power.{IsPart};
 
-/// The powers in units of `2^-62`, 16 for each group. The first power of a group is 1. Each other power is a product,
+use crate::first_powers::FIRST_POWERS;
+use crate::last_powers::LAST_POWERS;
+
+/// The powers in units of `2^-126`, 16 for each group. The first power of a group is 1. Each other power is a product,
 /// rounded down: of the power without the last binary digit that is 1, and of the root for that digit. Each root is the
 /// root of the one before it, rounded down.
-static NARROW: [u64; 128] = [
-    0x4000_0000_0000_0000,
-    0x42d5_61b3_e624_3d8a,
-    0x45ca_e0f1_f545_eb73,
-    0x48e1_e9b9_d588_e19a,
-    0x4c1b_f828_c6dc_54b7,
-    0x4f7a_9930_48d0_88d5,
-    0x52ff_6b54_d8a8_9c73,
-    0x56ac_1f75_2150_a560,
-    0x5a82_7999_fcef_3242,
-    0x5e84_51cf_ac06_1b5e,
-    0x62b3_9508_aa83_6d6d,
-    0x6712_460a_8fc2_406f,
-    0x6ba2_7e65_6b4e_b579,
-    0x7066_6f76_154a_7086,
-    0x7560_6373_ee92_1c95,
-    0x7a92_be8a_9243_6613,
-    0x4000_0000_0000_0000,
-    0x402c_6be9_6af2_fb57,
-    0x4058_f6a7_eccc_d5b5,
-    0x4085_a050_ec0a_0367,
-    0x40b2_68f9_de01_83b9,
-    0x40df_50b8_46ef_3028,
-    0x410c_57a1_b9fe_12f3,
-    0x4139_7dcb_d952_c4a1,
-    0x4166_c34c_5615_d0eb,
-    0x4194_2838_f07e_22a1,
-    0x41c1_aca7_77db_7719,
-    0x41ef_50ad_caa0_d895,
-    0x421d_1461_d66f_2021,
-    0x424a_f7d9_981f_7e94,
-    0x4278_fb2b_1bce_0d11,
-    0x42a7_1e6c_7ce4_64a9,
-    0x4000_0000_0000_0000,
-    0x4002_c5d7_bff7_1dad,
-    0x4005_8bce_4101_47e7,
-    0x4008_51e3_8473_993e,
-    0x400b_1817_8ba3_3b13,
-    0x400d_de6a_57e5_6581,
-    0x4010_a4db_ea8f_5f7b,
-    0x4013_6b6c_44f6_7eb0,
-    0x4016_321b_6870_27a7,
-    0x4018_f8e9_5651_cd9e,
-    0x401b_bfd6_0ff0_f2b2,
-    0x401e_86e1_96a3_27bd,
-    0x4021_4e0b_ebbe_0c74,
-    0x4024_1555_1097_4f46,
-    0x4026_dcbd_0684_ad82,
-    0x4029_a443_cedb_f338,
-    0x4000_0000_0000_0000,
-    0x4000_2c5c_955d_d700,
-    0x4000_58b9_497b_8151,
-    0x4000_8516_1c59_1441,
-    0x4000_b173_0df6_a523,
-    0x4000_ddd0_1e54_4944,
-    0x4001_0a2d_4d72_15f9,
-    0x4001_368a_9b50_208e,
-    0x4001_62e8_07ee_7e5a,
-    0x4001_8f45_934d_44a5,
-    0x4001_bba3_3d6c_88c7,
-    0x4001_e801_064c_600c,
-    0x4002_145e_edec_dfc9,
-    0x4002_40bc_f44e_1d4b,
-    0x4002_6d1b_1970_2de7,
-    0x4002_9979_5d53_26ea,
-    0x4000_0000_0000_0000,
-    0x4000_02c5_c86f_3f25,
-    0x4000_058b_90fd_3e0b,
-    0x4000_0851_59a9_fcaf,
-    0x4000_0b17_2275_7b1a,
-    0x4000_0ddc_eb5f_b944,
-    0x4000_10a2_b468_b734,
-    0x4000_1368_7d90_74e8,
-    0x4000_162e_46d6_f26b,
-    0x4000_18f4_103c_2faf,
-    0x4000_1bb9_d9c0_2cc0,
-    0x4000_1e7f_a362_e99a,
-    0x4000_2145_6d24_6644,
-    0x4000_240b_3704_a2b8,
-    0x4000_26d1_0103_9efe,
-    0x4000_2996_cb21_5b12,
-    0x4000_0000_0000_0000,
-    0x4000_002c_5c86_0d54,
-    0x4000_0058_b90c_3968,
-    0x4000_0085_1592_843b,
-    0x4000_00b1_7218_edcf,
-    0x4000_00dd_ce9f_7621,
-    0x4000_010a_2b26_1d34,
-    0x4000_0136_87ac_e306,
-    0x4000_0162_e433_c79a,
-    0x4000_018f_40ba_caeb,
-    0x4000_01bb_9d41_ecfd,
-    0x4000_01e7_f9c9_2dce,
-    0x4000_0214_5650_8d60,
-    0x4000_0240_b2d8_0bb0,
-    0x4000_026d_0f5f_a8c1,
-    0x4000_0299_6be7_6491,
-    0x4000_0000_0000_0000,
-    0x4000_0002_c5c8_5fee,
-    0x4000_0005_8b90_bffc,
-    0x4000_0008_5159_2027,
-    0x4000_000b_1721_8073,
-    0x4000_000d_dce9_e0db,
-    0x4000_0010_a2b2_4164,
-    0x4000_0013_687a_a20a,
-    0x4000_0016_2e43_02d2,
-    0x4000_0018_f40b_63b5,
-    0x4000_001b_b9d3_c4b9,
-    0x4000_001e_7f9c_25da,
-    0x4000_0021_4564_871c,
-    0x4000_0024_0b2c_e87a,
-    0x4000_0026_d0f5_49f9,
-    0x4000_0029_96bd_ab95,
-    0x4000_0000_0000_0000,
-    0x4000_0000_2c5c_85fd,
-    0x4000_0000_58b9_0bfb,
-    0x4000_0000_8515_91f8,
-    0x4000_0000_b172_17f8,
-    0x4000_0000_ddce_9df5,
-    0x4000_0001_0a2b_23f3,
-    0x4000_0001_3687_a9f0,
-    0x4000_0001_62e4_2ff3,
-    0x4000_0001_8f40_b5f0,
-    0x4000_0001_bb9d_3bef,
-    0x4000_0001_e7f9_c1ed,
-    0x4000_0002_1456_47ee,
-    0x4000_0002_40b2_cdec,
-    0x4000_0002_6d0f_53eb,
-    0x4000_0002_996b_d9e9,
-];
-
-/// The powers in units of `2^-126`, computed in the same way.
 static BROAD: [u128; 256] = [
     0x4000_0000_0000_0000_0000_0000_0000_0000,
     0x42d5_61b3_e624_3d8a_62e4_adc6_10aa_60d8,
@@ -397,14 +268,19 @@ static BROAD: [u128; 256] = [
     0x4000_0000_0000_0002_996b_d9e1_52ca_084c,
 ];
 
-/// Returns `2^(digits / 16^(group+1))` in units of `2^-62`, or slightly less.
-#[inline]
+/// Returns `2^(digits / 256^(group+1))` in units of `2^-62`, rounded down.
+#[inline(always)]
 pub(crate) fn narrow_factor(digits: u64, group: u32) -> u64
-    requires group { group < 8 }
-    requires digits { digits < 16 }
-    ensures { IsPart (2 ^ 62) (4 * group + 4) 12 digits result }
+    requires group { group < 4 }
+    requires digits { digits < 256 }
+    ensures { IsPart (2 ^ 62) (8 * group + 8) 1 digits result }
 {
-    NARROW[16 * group as usize + digits as usize]
+    let row = 256 * (group % 2) as usize + digits as usize;
+    if group < 2 {
+        FIRST_POWERS[row]
+    } else {
+        LAST_POWERS[row]
+    }
 }
 
 /// Returns `2^(digits / 16^(group+1))` in units of `2^-126`, or slightly less.

@@ -3,14 +3,14 @@ use Rattle.fixed_elementary.proofs.Powers.{part_all, part_begun, part_turned}
 use Rattle.fixed_elementary.proofs.exponentials.narrow_exp2.Goals as goal
 
 pub loop-i-init : goal.loop-i-init
-loop-i-init c = part_begun (2 ^ 62) c.args.part c.args.groups (omega arith) c.requires.part
+loop-i-init c = part_begun (2 ^ 62) c.args.part 8 2 c.args.groups (omega arith) c.requires.part
 
 pub loop-i-preserved : goal.loop-i-preserved
 loop-i-preserved c =
     let x = c.args.part in
     let g = c.args.groups in
     let i = c.loop-i.i in
-    part_turned (2 ^ 62) x g i c.digits_of.result c.narrow_turn-power.result (search rules) c.digits_of.ensures (c.narrow_turn-power.ensures (13 * i) (x / 2 ^ (4 * (g - i))) c.loop-i.invariant)
+    part_turned (2 ^ 62) x 8 2 g i c.narrow_digits.result c.narrow_turn-power.result (search rules) c.narrow_digits.ensures (c.narrow_turn-power.ensures (2 * i) (x / 2 ^ (8 * (g - i))) c.loop-i.invariant)
 
 pub returns : goal.returns
-returns c = part_all (2 ^ 62) c.args.part c.args.groups c.loop-i.i c.loop-i.power (search rules) c.loop-i.invariant
+returns c = part_all (2 ^ 62) c.args.part 8 2 c.args.groups c.loop-i.i c.loop-i.power (search rules) c.loop-i.invariant
