@@ -287,7 +287,7 @@ fn what_is_shared() {
     );
     let said = of_crates("shared_and_offered", &crates, &[offered]).err();
     let error =
-        "fixed_elementary/src/exponentials.rt:195: power_of: a clause of no known form: bits ≤ 64";
+        "fixed_elementary/src/exponentials.rt:246: power_of: a clause of no known form: bits ≤ 64";
     assert_eq!(said.as_deref(), Some(error));
 }
 

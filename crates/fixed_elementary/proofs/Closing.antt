@@ -95,7 +95,7 @@ unit_is h b n j a c s e u sum found =
     }
 
 -- a mantissa of j + 2 bits reads j digits
-unit_read : (h b n j m w c s : ℕ) → 2 ^ h * b ≡ 2 ^ j → s ≡ c + n * 2 ^ j → w ≡ 2 ^ (j + 1) → w ≡ 2 ^ n * m → m < w → n ≤ 127 → T (reads j w n (w + m) s s) → IsUnit h (2 ^ n) b c
+pub unit_read : (h b n j m w c s : ℕ) → 2 ^ h * b ≡ 2 ^ j → s ≡ c + n * 2 ^ j → w ≡ 2 ^ (j + 1) → w ≡ 2 ^ n * m → m < w → n ≤ 127 → T (reads j w n (w + m) s s) → IsUnit h (2 ^ n) b c
 unit_read h b n j m w c s u sum size whole small few t =
     let o : 0 < w = omega (arith, pow_pos (j + 1)) in
     let value : 2 ^ n * (w + m) ≡ (2 ^ n + 1) * w = omega arith in

@@ -14,3 +14,4 @@ mod Tables
 mod Reduced
 mod Rests
 mod Closing
+mod Nears

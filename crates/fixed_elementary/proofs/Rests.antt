@@ -114,7 +114,7 @@ exchanged x i n b =
     let e : n * b * i ≡ i * n * b = omega arith in
     p ∙ ap (λ (k : ℕ). x ^ k) e ∙ sym r ∙ ap (λ (k : ℕ). k ^ b) (sym q)
 
-unit_below : (h w b c i t : ℕ) → 0 < b → t * b ≤ i * c → IsUnit h w b c → 2 ^ t * (w ^ i) ^ 2 ^ h ≤ ((w + 1) ^ i) ^ 2 ^ h
+pub unit_below : (h w b c i t : ℕ) → 0 < b → t * b ≤ i * c → IsUnit h w b c → 2 ^ t * (w ^ i) ^ 2 ^ h ≤ ((w + 1) ^ i) ^ 2 ^ h
 unit_below h w b c i t o f u =
     let N = 2 ^ h in
     let p = pow-le-pow_left u.below i in
@@ -130,7 +130,7 @@ unit_below h w b c i t o f u =
     let t_all : (2 ^ t * (w ^ i) ^ N) ^ b ≤ (((w + 1) ^ i) ^ N) ^ b = rw (r, s) (omega arith) in
     root_le (2 ^ t * (w ^ i) ^ N) (((w + 1) ^ i) ^ N) b o t_all
 
-unit_above : (h w b c i t : ℕ) → 0 < b → (c + 2) * i ≤ t * b → IsUnit h w b c → ((w + 1) ^ i) ^ 2 ^ h ≤ 2 ^ t * (w ^ i) ^ 2 ^ h
+pub unit_above : (h w b c i t : ℕ) → 0 < b → (c + 2) * i ≤ t * b → IsUnit h w b c → ((w + 1) ^ i) ^ 2 ^ h ≤ 2 ^ t * (w ^ i) ^ 2 ^ h
 unit_above h w b c i t o f u =
     let N = 2 ^ h in
     let p = pow-le-pow_left u.above i in
@@ -145,6 +145,26 @@ unit_above h w b c i t o f u =
     let all : (((w + 1) ^ i) ^ N) ^ b ≤ 2 ^ ((c + 2) * i) * ((w ^ i) ^ N) ^ b = rw (sym e, sym x, sym y, sym a) p in
     let t_all : (((w + 1) ^ i) ^ N) ^ b ≤ (2 ^ t * (w ^ i) ^ N) ^ b = rw (r, s) (omega arith) in
     root_le (((w + 1) ^ i) ^ N) (2 ^ t * (w ^ i) ^ N) b o t_all
+
+pub joined_below : (w u i n p : ℕ) → 0 < w → (w + 1) ^ i * w ≤ w ^ i * (w + u) → p * (w ^ i) ^ n ≤ ((w + 1) ^ i) ^ n → p * w ^ n ≤ (w + u) ^ n
+joined_below w u i n p o f g =
+    let x = pow-le-pow_left f n in
+    let a = mul-pow ((w + 1) ^ i) w n in
+    let e = mul-pow (w ^ i) (w + u) n in
+    let y : ((w + 1) ^ i) ^ n * w ^ n ≤ (w ^ i) ^ n * (w + u) ^ n = rw (sym a, sym e) x in
+    let m = mul-le-mul_right (w ^ n) g in
+    let s : p * w ^ n * (w ^ i) ^ n ≤ (w + u) ^ n * (w ^ i) ^ n = omega arith in
+    le_of_mul-le-mul_right s (power_some (w ^ i) n (power_some w i o))
+
+pub joined_above : (w u i n p : ℕ) → 0 < w → (w + u) * w ^ i ≤ (w + 1) ^ i * w → ((w + 1) ^ i) ^ n ≤ p * (w ^ i) ^ n → (w + u) ^ n ≤ p * w ^ n
+joined_above w u i n p o f g =
+    let x = pow-le-pow_left f n in
+    let a = mul-pow ((w + 1) ^ i) w n in
+    let e = mul-pow (w + u) (w ^ i) n in
+    let y : (w + u) ^ n * (w ^ i) ^ n ≤ ((w + 1) ^ i) ^ n * w ^ n = rw (sym a, sym e) x in
+    let m = mul-le-mul_right (w ^ n) g in
+    let s : (w + u) ^ n * (w ^ i) ^ n ≤ p * w ^ n * (w ^ i) ^ n = omega arith in
+    le_of_mul-le-mul_right s (power_some (w ^ i) n (power_some w i o))
 
 -- i is the exponent of rest_below, and that of rest_above is at most 3 more
 pub rest_over : (h w u q i b c t : ℕ) → 0 < w → 0 < b → 4 * u ≤ b → 12 ≤ b → c ≤ b → u ≤ w → q * (2 * w) ≤ u * u → u * u ≤ (q + 1) * (2 * w) → u * u * u ≤ 4 * w * w
@@ -177,23 +197,3 @@ rest_over h w u q i b c t o z few four less small low high cube difference t_low
         let e = pow-zero w in
         rw (a, e) (omega arith)
     start w u q (suc i) o s l d = rest_below w u q (suc i) o s l (omega arith)
-
-    joined_below : (w u i n p : ℕ) → 0 < w → (w + 1) ^ i * w ≤ w ^ i * (w + u) → p * (w ^ i) ^ n ≤ ((w + 1) ^ i) ^ n → p * w ^ n ≤ (w + u) ^ n
-    joined_below w u i n p o f g =
-        let x = pow-le-pow_left f n in
-        let a = mul-pow ((w + 1) ^ i) w n in
-        let e = mul-pow (w ^ i) (w + u) n in
-        let y : ((w + 1) ^ i) ^ n * w ^ n ≤ (w ^ i) ^ n * (w + u) ^ n = rw (sym a, sym e) x in
-        let m = mul-le-mul_right (w ^ n) g in
-        let s : p * w ^ n * (w ^ i) ^ n ≤ (w + u) ^ n * (w ^ i) ^ n = omega arith in
-        le_of_mul-le-mul_right s (power_some (w ^ i) n (power_some w i o))
-
-    joined_above : (w u i n p : ℕ) → 0 < w → (w + u) * w ^ i ≤ (w + 1) ^ i * w → ((w + 1) ^ i) ^ n ≤ p * (w ^ i) ^ n → (w + u) ^ n ≤ p * w ^ n
-    joined_above w u i n p o f g =
-        let x = pow-le-pow_left f n in
-        let a = mul-pow ((w + 1) ^ i) w n in
-        let e = mul-pow (w + u) (w ^ i) n in
-        let y : (w + u) ^ n * (w ^ i) ^ n ≤ ((w + 1) ^ i) ^ n * w ^ n = rw (sym a, sym e) x in
-        let m = mul-le-mul_right (w ^ n) g in
-        let s : (w + u) ^ n * (w ^ i) ^ n ≤ p * w ^ n * (w ^ i) ^ n = omega arith in
-        le_of_mul-le-mul_right s (power_some (w ^ i) n (power_some w i o))

@@ -1,16 +1,22 @@
 //! Powers of 2 with a fractional exponent: one product for each eight binary digits of the exponent, or on words of 64
 //! bits for each four.
 
-ghost use Rattle.std.specs.Prelude.{◌≡◌, ◌≤◌, ◌<◌, ◌+◌, ◌-◌, ◌*◌, ◌/◌, ◌%◌, ◌^◌, ◌+ℤ◌, ℕ, ℤ, pos, min};
+ghost use Rattle.std.specs.Prelude.{◌≡◌, ◌≤◌, ◌<◌, ◌+◌, ◌-◌, ◌*◌, ◌/◌, ◌%◌, ◌^◌, ◌+ℤ◌, ℕ, ℤ, IsTrue, pos, min};
 ghost use Rattle.fixed_word.specs.Format.{with_sign};
 ghost use Rattle.fixed_elementary.specs.Exp2.{IsExp2Of, IsExp2Up, StandsUpTo, exp2_room};
-ghost use Rattle.fixed_elementary.specs.inside.Power.{IsExponent, IsFloored, IsPart};
+ghost use Rattle.fixed_elementary.specs.inside.Power.{IsExponent, IsFloored, IsPart, IsWithin};
 
 use crate::logarithms::in_units;
 use crate::powers_of_two::{broad_factor, narrow_factor};
 use crate::reciprocals::power_of_two;
-use crate::wide::product;
+use crate::wide::{high, product};
 use fixed_word::{Outcome, RawWord, Valued, outcome_of_magnitude};
+
+/// Half the natural logarithm of 2, in units of `2^-64`, rounded down.
+const HALF_LOG_2: u64 = 0x58b9_0bfb_e8e7_bcd5;
+
+/// How many units of `2^-62` a power may lack that is computed in 64 bits.
+const NEAR_LACK: u64 = 24;
 
 /// Returns the product in units of `2^-62`, rounded down.
 #[inline(always)]
@@ -180,6 +186,7 @@ fn narrow_power(exponent: u128, places: u32, bits: u32) -> u64
 }
 
 /// Does the same from a mantissa of 127 bits.
+#[inline(never)]
 fn broad_power(exponent: u128, places: u32, bits: u32) -> u128
     requires bits { bits ≤ 64 }
     requires places { places ≤ bits }
@@ -188,6 +195,50 @@ fn broad_power(exponent: u128, places: u32, bits: u32) -> u128
     let groups = broad_groups(places);
     let mantissa = broad_exp2(part_of(exponent, places, 4 * groups), groups);
     broad_in_bits(mantissa, exponent >> places, bits)
+}
+
+/// Returns `2^(part / 2^64)` in units of `2^-62`, or at most 24 units less. The last 32 digits need one product, since
+/// their power is little above 1.
+#[inline(always)]
+fn near_exp2(part: u64) -> u64
+    ensures near { IsWithin (2 ^ 62) 64 24 part result }
+    ensures most { result < 3 * 2 ^ 62 }
+{
+    let power = narrow_exp2(part >> 32, 4);
+    let rest = high(part % (1 << 32), HALF_LOG_2);
+    power + high(2 * power, rest)
+}
+
+/// Returns whether all numbers from `low` to 24 more have the same digits before the last `shift`.
+#[inline(always)]
+fn is_closed(low: u64, shift: u32) -> bool
+    requires low { low < 3 * 2 ^ 62 }
+    requires shift { shift < 64 }
+    ensures { IsTrue result → low + 24 < (low / 2 ^ shift + 1) * 2 ^ shift }
+{
+    (low + NEAR_LACK) >> shift == low >> shift
+}
+
+/// Returns `2^(exponent / 2^places)`, rounded as by `broad_power`, at most `2^bits`. It is computed from a mantissa of 63
+/// bits, and from one of 127 bits where that leaves a digit open.
+#[inline(always)]
+fn either_power(exponent: u128, places: u32, bits: u32) -> u128
+    requires bits { bits ≤ 64 }
+    requires places { places ≤ bits }
+    ensures { (r : ℕ) × IsExp2Up 117 exponent places r × (result ≡ min r (2 ^ bits)) }
+{
+    let whole = exponent >> places;
+    if whole >= u128::from(bits) {
+        return power_of_two(bits);
+    }
+    let low = near_exp2(part_of(exponent, places, 64));
+    if whole < 62 {
+        let shift = 62 - whole as u32;
+        if is_closed(low, shift) {
+            return u128::from(low >> shift);
+        }
+    }
+    broad_power(exponent, places, bits)
 }
 
 /// Returns `2^(exponent / 2^places)`, rounded as by `exp2_of`, at most `2^bits`. Precondition: `places <= bits <= 64`.
@@ -200,7 +251,7 @@ pub fn power_of(exponent: u128, places: u32, bits: u32) -> u128
     if bits <= 32 {
         u128::from(narrow_power(exponent, places, bits))
     } else {
-        broad_power(exponent, places, bits)
+        either_power(exponent, places, bits)
     }
 }
 

@@ -20,6 +20,11 @@ pub record IsPart (w b n z p : ℕ) : Type 0 where
   pub power : IsPower w (2 ^ b) z (n * 2 ^ b) p
   pub unit : z ≡ 0 → p ≡ w
 
+-- 2 ^ (z / 2 ^ b) lies between p / w and (p + e) / w
+pub record IsWithin (w b e z p : ℕ) : Type 0 where
+  pub below : p ^ 2 ^ b ≤ 2 ^ z * w ^ 2 ^ b
+  pub above : 2 ^ z * w ^ 2 ^ b ≤ (p + e) ^ 2 ^ b
+
 -- the exponent is x, or there is none and x is below 0
 abbrev pub IsExponent : ℤ → Option ℕ → Type 0
 IsExponent x (Some e) = x ≡ pos e

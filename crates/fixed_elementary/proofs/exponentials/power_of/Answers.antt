@@ -11,6 +11,6 @@ returns-then-bits-le32 c =
 
 pub returns-else-bits-le32 : goal.returns-else-bits-le32
 returns-else-bits-le32 c =
-    let up = c.broad_power.ensures in
+    let up = c.either_power.ensures in
     let room = room_broad c.args.bits (search rules) in
     (up.0, subst (λ k. IsExp2Up k c.args.exponent c.args.places up.0) room up.1, up.2)
