@@ -2,6 +2,7 @@ pub mod AngleLaws
 pub mod Beside
 pub mod Bisected
 pub mod Coordinates
+pub mod Factorials
 pub mod Nesting
 pub mod Pi
 pub mod Quarters

@@ -9,7 +9,7 @@ ghost use Rattle.fixed_turns.specs.inside.Rests.{IsBesidePi, IsReducedTo, IsSpli
 use crate::angles::Angle;
 use crate::constants::{QUARTERS, QUARTERS_MORE, RADIANS, RADIANS_MORE};
 use crate::series::high;
-use crate::sines::{outcome_at, outcomes_at};
+use crate::sines::outcome_at;
 use fixed_word::{Outcome, RawWord};
 
 /// Returns the product of words of 64 bits.
@@ -154,5 +154,9 @@ pub fn sin_cos_of<T: RawWord>(a: T, frac: u32) -> (Outcome<T>, Outcome<T>)
         × StandsFor T.value T.SIGNED T.BITS r result.1 }
 {
     let angle = reduced(a, frac);
-    outcomes_at(angle.quarter, angle.below, angle.rest, frac)
+    let sine = outcome_at(angle.quarter, angle.below, angle.rest, frac);
+    (
+        sine,
+        outcome_at(angle.quarter + 1, angle.below, angle.rest, frac),
+    )
 }
