@@ -4,6 +4,7 @@ pub mod Bisected
 pub mod Coordinates
 pub mod Factorials
 pub mod Nesting
+pub mod Pairs
 pub mod Pi
 pub mod Quarters
 pub mod RadianSines
