@@ -2,7 +2,9 @@ pub mod AngleLaws
 pub mod Beside
 pub mod Bisected
 pub mod Coordinates
+pub mod Factorials
 pub mod Nesting
+pub mod Pairs
 pub mod Pi
 pub mod Quarters
 pub mod RadianSines

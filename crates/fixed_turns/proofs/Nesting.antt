@@ -1,9 +1,10 @@
--- Quotients, nested: each is close to its fraction, if the one in it is.
-use Rattle.std.proofs.Common.{◌≡◌, ◌+◌, ◌-◌, ◌*◌, ◌/◌, ◌^◌, ◌<◌, ◌≤◌, ℕ, zero, suc, refl, subst, sym, ap, ◌∙◌, arith}
-use Rattle.std.proofs.lemmas.Nat.{div-add-mod', mul-le}
-use Rattle.std.proofs.Math.Nat.{zero-div, le_of_mul-le-mul_right, mod-lt, mul-le-mul_right, mul-le-mul_left}
+-- Quotients, nested, over the numbers that divide them: each is close to its fraction, if the one in it is.
+use Rattle.std.proofs.Common.{◌≡◌, ◌+◌, ◌-◌, ◌*◌, ◌/◌, ◌^◌, ◌<◌, ◌≤◌, ℕ, zero, suc, refl, subst, sym, ap, arith}
+use Rattle.std.proofs.lemmas.Nat.{mul-le}
+use Rattle.std.proofs.Math.Nat.{le_of_mul-le-mul_right, mul-le-mul_right, mul-le-mul_left}
 use Rattle.fixed_turns.specs.Series.{Fraction, lessened, nested, over, squared}
-use Rattle.fixed_turns.specs.inside.Rests.{IsClose, IsLessened, IsNestedTo, IsUnder, place, slack}
+use Rattle.fixed_turns.specs.inside.Rests.{IsClose, IsLessened, IsNestedTo, IsUnder, factorial, place, slack}
+use Rattle.fixed_turns.proofs.Factorials.{factorial_some, factorial_two, quotient_high, quotient_low, smaller}
 
 -- ---- x (1 - y), where x is a / g, q is x in units of 1 / u, y is n / (m + n), and w is y in units of 1 / u, off by c units at most
 lessened_below : (a g q m n w s c e k u : ℕ) → 0 < u → q * g ≤ a * u → s * u + q * w ≤ q * u + u → n * u ≤ (w + c) * (m + n) → 1 ≤ e → e * u + q * c ≤ k * u
@@ -61,7 +62,15 @@ nested_part y m (suc n) some part one =
     let g : y.den * z.den * 1 ≤ y.den * z.den * (m * (m + 1)) = mul-le-mul_left (y.den * z.den) (omega arith) in
     (omega arith, omega arith)
 
--- ---- the square, and its quotients
+-- ---- the square
+-- a square of 5/8 at most is at most 1
+pub square_part : (y : Fraction) (t : ℕ) → 8 * (t + 5) ≤ 5 * 2 ^ 64 → IsUnder 5 t y → y.num ≤ y.den
+square_part y t small u =
+    let a : t + 5 ≤ 2 ^ 64 = omega arith in
+    let b = mul-le-mul_right y.den a in
+    let above = u.above in
+    omega arith
+
 pub square_under : (x : Fraction) (q t : ℕ) → IsUnder 2 q x → q + 1 ≤ 2 ^ 64 → t * 2 ^ 64 ≤ q * q → q * q < (t + 1) * 2 ^ 64 → IsUnder 5 t (squared x)
 square_under x q t u small below above =
     let a = x.num in
@@ -80,59 +89,78 @@ square_under x q t u small below above =
       above = le_of_mul-le-mul_right second o;
     }
 
-pub quotient_low : (t d : ℕ) → t / d * d ≤ t
-quotient_low t d = omega (arith, div-add-mod' t d)
+-- ---- y (1 - z) / d, over p: e is the denominator of z, q is p d, c is 1 / q and w is z / q in units of 1 / u, g is c - w, and s is the
+-- product of t and g
+term_below : (a b v n e q g w c j k s t u : ℕ) → 0 < u → v + n ≡ e → g + w ≡ c → t * b ≤ a * u → a * u ≤ (t + 5) * b → n * u ≤ (w + j) * (e * q) → c * q ≤ u → s * u ≤ t * g → (t + 5) * j ≤ k * u
+    → s * (b * (e * q)) ≤ a * v * u + k * (b * (e * q))
+term_below a b v n e q g w c j k s t u o all sum low high near most product small =
+    let whole = ap (λ (i : ℕ). i * u) all in
+    let parts = ap (λ (i : ℕ). i * (e * q)) sum in
+    let x1 = mul-le-mul_right e most in
+    let x : g * (e * q) ≤ v * u + j * (e * q) = omega arith in
+    let y1 = mul-le-mul_right (b * (e * q)) product in
+    let y2 = mul-le-mul_right (g * (e * q)) low in
+    let y3 : a * u * (g * (e * q)) ≤ a * u * (v * u + j * (e * q)) = mul-le-mul_left (a * u) x in
+    let z1 = mul-le-mul_right (j * (e * q)) high in
+    let z2 = mul-le-mul_right (b * (e * q)) small in
+    let far : s * (b * (e * q)) * u ≤ (a * v * u + k * (b * (e * q))) * u = omega arith in
+    le_of_mul-le-mul_right far o
 
-pub quotient_high : (t d : ℕ) → 0 < d → t < (t / d + 1) * d
-quotient_high t d o = omega (arith, div-add-mod' t d, mod-lt t o)
+term_above : (a b v n e q g w c j k s t u : ℕ) → 0 < u → v + n ≡ e → g + w ≡ c → a * u ≤ (t + 5) * b → w * (e * q) ≤ n * u + j * (e * q) → u ≤ (c + 1) * q → t * g < (s + 1) * u
+    → u + t * (1 + j) + 5 * (c + 1 + j) ≤ k * u → a * v * u ≤ (s + k) * (b * (e * q))
+term_above a b v n e q g w c j k s t u o all sum high near least product small =
+    let whole = ap (λ (i : ℕ). i * u) all in
+    let parts = ap (λ (i : ℕ). i * (e * q)) sum in
+    let x1 = mul-le-mul_right e least in
+    let x : v * u ≤ (g + 1 + j) * (e * q) = omega arith in
+    let y1 = mul-le-mul_right (v * u) high in
+    let y2 : (t + 5) * b * (v * u) ≤ (t + 5) * b * ((g + 1 + j) * (e * q)) = mul-le-mul_left ((t + 5) * b) x in
+    let y3 : t * g + u + t * (1 + j) + 5 * (c + 1 + j) ≤ (s + 1 + k) * u = omega arith in
+    let y4 : (t + 5) * (g + 1 + j) ≤ (s + k) * u = omega arith in
+    let y5 = mul-le-mul_right (b * (e * q)) y4 in
+    let far : a * v * u * u ≤ (s + k) * (b * (e * q)) * u = omega arith in
+    le_of_mul-le-mul_right far o
 
-over_under : (y : Fraction) (t d : ℕ) → 2 ≤ d → IsUnder 5 t y → IsUnder 3 (t / d) (over y d)
-over_under y t d two u =
-    let q = t / d in
-    let low = mul-le-mul_right y.den (quotient_low t d) in
-    let high = quotient_high t d (omega arith) in
-    let most : t + 5 ≤ (q + 3) * d = omega arith in
-    let m = mul-le-mul_right y.den most in
-    let below = u.below in
-    let above = u.above in
-    record {
-      some = mul-le 1 1 y.den d u.some (omega arith);
-      below = omega arith;
-      above = omega arith;
-    }
+-- z is the series after a quotient by d, and p d is the number that divides it
+term_close : (y z : Fraction) (d p q g w c j k s t : ℕ) → p * d ≡ q → z.num ≤ z.den → IsUnder 5 t y → IsClose j w (over z q) → g + w ≡ c → c * q ≤ 2 ^ 64 → 2 ^ 64 ≤ (c + 1) * q
+    → s * 2 ^ 64 ≤ t * g → t * g < (s + 1) * 2 ^ 64 → 2 ^ 64 + t * (1 + j) + 5 * (c + 1 + j) ≤ k * 2 ^ 64 → IsClose k s (over (lessened (over y d) z) p)
+term_close y z d p q g w c j k s t is part u close sum most least low high small =
+    let a = y.num in
+    let b = y.den in
+    let e = z.den in
+    let v = e - z.num in
+    let all : v + z.num ≡ e = omega arith in
+    let below = close.below in
+    let above = close.above in
+    let enough : (t + 5) * j ≤ k * 2 ^ 64 = omega arith in
+    let least_s = term_below a b v z.num e q g w c j k s t (2 ^ 64) (omega arith) all sum u.below u.above above most low enough in
+    let most_s = term_above a b v z.num e q g w c j k s t (2 ^ 64) (omega arith) all sum u.above below least high small in
+    let same = ap (λ (i : ℕ). b * e * i) is in
+    let den : b * d * e * p ≡ b * (e * q) = omega (arith, same) in
+    let first : s * (b * d * e * p) ≤ a * v * 2 ^ 64 + k * (b * d * e * p) = rw den least_s in
+    let second : a * v * 2 ^ 64 ≤ (s + k) * (b * d * e * p) = rw den most_s in
+    record { below = first; above = second }
 
--- ---- how far off
-less_far : (t d c : ℕ) → 2 ≤ d → 8 * t ≤ 5 * 2 ^ 64 → 3 * 2 ^ 64 + t / d * c ≤ (4 + 5 * c / (8 * d)) * 2 ^ 64
-less_far t d c two small =
-    let j = 5 * c / (8 * d) in
-    let q = t / d in
-    let a = mul-le-mul_right c (quotient_low t d) in
-    let b = mul-le-mul_right c small in
-    let e = quotient_high (5 * c) (8 * d) (omega arith) in
-    let f : q * c * (8 * d) ≤ (j + 1) * 2 ^ 64 * (8 * d) = omega arith in
-    let o : 0 < 8 * d = omega arith in
-    let g = le_of_mul-le-mul_right f o in
-    omega arith
-
-pub nested_step : (y : Fraction) (t m n c w s : ℕ) → 1 ≤ m → 8 * t ≤ 5 * 2 ^ 64 → IsUnder 5 t y → y.num ≤ y.den → IsClose c w (nested y (m + 2) n) → IsLessened (t / (m * (m + 1))) w s
-    → IsClose (4 + 5 * c / (8 * (m * (m + 1)))) s (nested y m (suc n))
-unfolding nested
-nested_step y t m n c w s one small u part close l =
-    let d = m * (m + 1) in
-    let two : 2 ≤ d = mul-le 1 2 m (m + 1) one (omega arith) in
-    let rest = nested_part y (m + 2) n u.some part (omega arith) in
-    lessened_close (over y d) (nested y (m + 2) n) (t / d) w s c 3 (4 + 5 * c / (8 * d)) (over_under y t d two u) (omega arith) rest.1 close l (less_far t d c two small)
-
--- a square of 5/8 at most is at most 1
-pub square_part : (y : Fraction) (t : ℕ) → 8 * t ≤ 5 * 2 ^ 64 → IsUnder 5 t y → y.num ≤ y.den
-square_part y t small u =
-    let a : t + 5 ≤ 2 ^ 64 = omega arith in
-    let b = mul-le-mul_right y.den a in
-    let above = u.above in
-    omega arith
+-- ---- how far off: c is 1 / q in units of 1 / u
+term_far : (t j c q : ℕ) → 0 < q → 8 * (t + 5) ≤ 5 * 2 ^ 64 → c * q ≤ 2 ^ 64 → 2 ^ 64 + t * (1 + j) + 5 * (c + 1 + j) ≤ (5 * j + 40 / q + 21) / 8 * 2 ^ 64
+term_far t j c q o small most =
+    let i = 40 / q in
+    let k = (5 * j + i + 21) / 8 in
+    let a : 40 < (i + 1) * q = quotient_high 40 q o in
+    let b : 5 * j + i + 21 < (k + 1) * 8 = quotient_high (5 * j + i + 21) 8 (omega arith) in
+    let e1 : 40 ≤ (i + 1) * q = omega arith in
+    let e : 40 * 2 ^ 64 ≤ (i + 1) * q * 2 ^ 64 = mul-le-mul_right (2 ^ 64) e1 in
+    let f : 40 * c * q ≤ (i + 1) * 2 ^ 64 * q = omega arith in
+    let g : 40 * c ≤ (i + 1) * 2 ^ 64 = le_of_mul-le-mul_right f o in
+    let h = mul-le-mul_right (1 + j) small in
+    let l1 : 5 * j + i + 14 ≤ 8 * k = omega arith in
+    let l : (5 * j + i + 14) * 2 ^ 64 ≤ 8 * k * 2 ^ 64 = mul-le-mul_right (2 ^ 64) l1 in
+    let r : (2 ^ 64 + t * (1 + j) + 5 * (c + 1 + j)) * 8 ≤ k * 2 ^ 64 * 8 = omega arith in
+    let eight : 0 < 8 = omega arith in
+    le_of_mul-le-mul_right r eight
 
 -- ---- all quotients
-left_out : (y : Fraction) (t m n : ℕ) → 1 ≤ m → 8 * t ≤ 5 * 2 ^ 64 → IsUnder 5 t y → y.num ≤ y.den → IsClose (4 + 5 * 2 ^ 64 / (8 * (m * (m + 1)))) 0 (nested y m n)
+left_out : (y : Fraction) (t m n : ℕ) → 1 ≤ m → 8 * (t + 5) ≤ 5 * 2 ^ 64 → IsUnder 5 t y → y.num ≤ y.den → IsClose (1 + 5 * 2 ^ 64 / (8 * factorial (m + 1))) 0 (over (nested y m n) (factorial (m - 1)))
 unfolding nested
 left_out y t m zero one small u part =
     let b : (nested y m zero).num ≡ 0 = refl in
@@ -140,41 +168,84 @@ left_out y t m zero one small u part =
 left_out y t m (suc n) one small u part =
     let z = nested y (m + 2) n in
     let d = m * (m + 1) in
-    let j = 5 * 2 ^ 64 / (8 * d) in
-    let two : 2 ≤ d = mul-le 1 2 m (m + 1) one (omega arith) in
-    let e = quotient_high (5 * 2 ^ 64) (8 * d) (omega arith) in
-    let a : t + 5 ≤ (4 + j) * d = omega arith in
+    let p = factorial (m - 1) in
+    let q = factorial (m + 1) in
+    let j = 5 * 2 ^ 64 / (8 * q) in
+    let is : p * d ≡ q = factorial_two m one in
+    let o = factorial_some (m + 1) in
+    let e = quotient_high (5 * 2 ^ 64) (8 * q) (omega arith) in
+    let a : t + 5 ≤ (1 + j) * q = omega arith in
     let b = mul-le-mul_right y.den a in
     let above = u.above in
-    let f = mul-le (y.num * 2 ^ 64) (z.den - z.num) ((4 + j) * d * y.den) z.den (omega arith) (omega arith) in
+    let f = mul-le (y.num * 2 ^ 64) (z.den - z.num) ((1 + j) * q * y.den) z.den (omega arith) (omega arith) in
     let den : (nested y m (suc n)).den ≡ y.den * (m * (m + 1)) * z.den = refl in
     let num : (nested y m (suc n)).num ≡ y.num * (z.den - z.num) = refl in
-    record { below = omega arith; above = omega arith }
+    let same = ap (λ (i : ℕ). y.den * z.den * i) is in
+    let all : y.den * d * z.den * p ≡ y.den * z.den * q = omega (arith, same) in
+    let more : y.num * (z.den - z.num) * 2 ^ 64 ≤ (0 + (1 + j)) * (y.den * d * z.den * p) = rw all (omega arith) in
+    record { below = omega arith; above = more }
 
-pub nested_none : (square first count : ℕ) → 1 ≤ first → 8 * square ≤ 5 * 2 ^ 64 → IsNestedTo square first count 0 0
+pub nested_none : (square first count : ℕ) → 1 ≤ first → 8 * (square + 5) ≤ 5 * 2 ^ 64 → IsNestedTo square first count 0 0
 unfolding slack
 nested_none square first count one small = λ y n u.
     let e : first + 2 * (count - 0) ≡ first + 2 * count = omega arith in
     let close = left_out y square (first + 2 * count) (n + 0) (omega arith) small u (square_part y square small u) in
-    subst (λ (j : ℕ). IsClose (slack first count 0) 0 (nested y j (n + 0))) (sym e) close
+    subst (λ (j : ℕ). IsClose (slack first count 0) 0 (over (nested y j (n + 0)) (factorial (j - 1)))) (sym e) close
 
-pub nested_turn : (square first count i less s : ℕ) → 1 ≤ first → 8 * square ≤ 5 * 2 ^ 64 → i < count → IsNestedTo square first count i less
-    → IsLessened (square / (place first count i * (place first count i + 1))) less s → IsNestedTo square first count (i + 1) s
+pub nested_step : (y : Fraction) (t m n j w s : ℕ) → 1 ≤ m → 8 * (t + 5) ≤ 5 * 2 ^ 64 → IsUnder 5 t y → y.num ≤ y.den → IsClose j w (over (nested y (m + 2) n) (factorial (m + 1)))
+    → w ≤ (2 ^ 64 - 1) / factorial (m + 1) → s * 2 ^ 64 ≤ t * ((2 ^ 64 - 1) / factorial (m + 1) - w) → t * ((2 ^ 64 - 1) / factorial (m + 1) - w) < (s + 1) * 2 ^ 64
+    → IsClose ((5 * j + 40 / factorial (m + 1) + 21) / 8) s (over (nested y m (suc n)) (factorial (m - 1)))
+unfolding nested
+nested_step y t m n j w s one small u part close fits low high =
+    let d = m * (m + 1) in
+    let q = factorial (m + 1) in
+    let c = (2 ^ 64 - 1) / q in
+    let o = factorial_some (m + 1) in
+    let l = quotient_low (2 ^ 64 - 1) q in
+    let h = quotient_high (2 ^ 64 - 1) q o in
+    let most : c * q ≤ 2 ^ 64 = omega arith in
+    let least : 2 ^ 64 ≤ (c + 1) * q = omega arith in
+    let sum : c - w + w ≡ c = omega arith in
+    let rest = nested_part y (m + 2) n u.some part (omega arith) in
+    term_close y (nested y (m + 2) n) d (factorial (m - 1)) q (c - w) w c j ((5 * j + 40 / q + 21) / 8) s t (factorial_two m one) rest.1 u close sum most least low high (term_far t j c q o small most)
+
+pub nested_turn : (square first count i less s : ℕ) → 1 ≤ first → 8 * (square + 5) ≤ 5 * 2 ^ 64 → i < count → IsNestedTo square first count i less
+    → less ≤ (2 ^ 64 - 1) / factorial (place first count i + 1) → s * 2 ^ 64 ≤ square * ((2 ^ 64 - 1) / factorial (place first count i + 1) - less)
+    → square * ((2 ^ 64 - 1) / factorial (place first count i + 1) - less) < (s + 1) * 2 ^ 64 → IsNestedTo square first count (i + 1) s
 unfolding slack
-nested_turn square first count i less s one small more h l = λ y n u.
+nested_turn square first count i less s one small more h fits low high = λ y n u.
     let m = place first count i in
     let part = square_part y square small u in
     let e1 : first + 2 * (count - i) ≡ m + 2 = omega arith in
     let e2 : first + 2 * (count - (i + 1)) ≡ m = omega arith in
     let e3 : n + (i + 1) ≡ suc (n + i) = omega arith in
     let e4 : i + 1 ≡ suc i = omega arith in
-    let close = subst (λ (j : ℕ). IsClose (slack first count i) less (nested y j (n + i))) e1 (h y n u) in
-    let next = nested_step y square m (n + i) (slack first count i) less s (omega arith) small u part close l in
-    let a = subst (λ (j : ℕ). IsClose (slack first count (suc i)) s (nested y m j)) (sym e3) next in
-    let b = subst (λ (j : ℕ). IsClose (slack first count (suc i)) s (nested y j (n + (i + 1)))) (sym e2) a in
-    subst (λ (j : ℕ). IsClose (slack first count j) s (nested y (first + 2 * (count - (i + 1))) (n + (i + 1)))) (sym e4) b
+    let e5 : m + 2 - 1 ≡ m + 1 = omega arith in
+    let close1 = subst (λ (j : ℕ). IsClose (slack first count i) less (over (nested y j (n + i)) (factorial (j - 1)))) e1 (h y n u) in
+    let close = subst (λ (j : ℕ). IsClose (slack first count i) less (over (nested y (m + 2) (n + i)) (factorial j))) e5 close1 in
+    let next = nested_step y square m (n + i) (slack first count i) less s (omega arith) small u part close fits low high in
+    let a = subst (λ (j : ℕ). IsClose (slack first count (suc i)) s (over (nested y m j) (factorial (m - 1)))) (sym e3) next in
+    let b = subst (λ (j : ℕ). IsClose (slack first count (suc i)) s (over (nested y j (n + (i + 1))) (factorial (j - 1)))) (sym e2) a in
+    subst (λ (j : ℕ). IsClose (slack first count j) s (over (nested y (first + 2 * (count - (i + 1))) (n + (i + 1))) (factorial (first + 2 * (count - (i + 1)) - 1)))) (sym e4) b
 
-pub nothing : (d s square : ℕ) → square ≡ 0 → s ≤ square / d → s ≡ 0
-nothing d s square none h =
-    let e : square / d ≡ 0 = ap (λ (j : ℕ). j / d) none ∙ zero-div d in
+-- less does not exceed the reciprocal from which it is subtracted
+pub fits_in : (first count i less c : ℕ) → 1 ≤ first → i < count → less ≤ (2 ^ 64 - 1) / factorial (first + 2 * (count - i) + 1) → c ≡ (2 ^ 64 - 1) / factorial (place first count i + 1) → less ≤ c
+fits_in first count i less c one more h is =
+    let m = place first count i in
+    let e : first + 2 * (count - i) + 1 ≡ m + 3 = omega arith in
+    rw is (smaller m less (subst (λ (j : ℕ). less ≤ (2 ^ 64 - 1) / factorial j) e h))
+
+pub next_fits : (square first count i less s c : ℕ) → square + 5 ≤ 2 ^ 64 → i < count → s * 2 ^ 64 ≤ square * (c - less) → c ≡ (2 ^ 64 - 1) / factorial (place first count i + 1)
+    → s ≤ (2 ^ 64 - 1) / factorial (first + 2 * (count - (i + 1)) + 1)
+next_fits square first count i less s c small more low is =
+    let e : place first count i + 1 ≡ first + 2 * (count - (i + 1)) + 1 = omega arith in
+    let a : square * (c - less) ≤ 2 ^ 64 * (c - less) = mul-le-mul_right (c - less) (omega arith) in
+    let b : s * 2 ^ 64 ≤ (c - less) * 2 ^ 64 = omega arith in
+    let d = le_of_mul-le-mul_right b (omega arith) in
+    let f : s ≤ c = omega arith in
+    subst (λ (j : ℕ). s ≤ (2 ^ 64 - 1) / factorial j) e (subst (λ (j : ℕ). s ≤ j) is f)
+
+pub nothing_left : (square g s : ℕ) → square ≡ 0 → s * 2 ^ 64 ≤ square * g → s ≡ 0
+nothing_left square g s none low =
+    let a : s * 2 ^ 64 ≤ 0 * g = subst (λ (j : ℕ). s * 2 ^ 64 ≤ j * g) none low in
     omega arith

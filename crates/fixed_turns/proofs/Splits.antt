@@ -1,6 +1,6 @@
 -- Angles in radians: quarter turns and a rest.
-use Rattle.std.proofs.Common.{◌≡◌, ◌⊎◌, ◌+◌, ◌-◌, ◌*◌, ◌/◌, ◌%◌, ◌^◌, ◌<◌, ◌≤◌, ◌<ℤ◌, ◌+ℤ◌, ◌-ℤ◌, ◌*ℤ◌, unsigned_abs, ℕ, ℤ, Bool, true, false, not, pos, negsuc, neg_ℤ, inl, inr, zero, suc, refl, subst, sym, ap, ◌∙◌, add-mul, mul_assoc, pow-add, arith}
-use Rattle.std.proofs.lemmas.Bool.{cases_lt}
+use Rattle.std.proofs.Common.{◌≡◌, ◌⊎◌, ◌+◌, ◌-◌, ◌*◌, ◌/◌, ◌%◌, ◌^◌, ◌<◌, ◌≤◌, ◌<ℤ◌, ◌+ℤ◌, ◌-ℤ◌, ◌*ℤ◌, unsigned_abs, ℕ, ℤ, Bool, true, false, not, pos, negsuc, neg_ℤ, if◌then◌else◌, T, leb, leb→le, inl, inr, zero, suc, refl, subst, sym, ap, ◌∙◌, add-mul, mul_assoc, pow-add, arith}
+use Rattle.std.proofs.lemmas.Bool.{cases_lt, leb-false}
 use Rattle.std.proofs.lemmas.Int.{ints}
 use Rattle.std.proofs.lemmas.Nat.{div-add-mod', pow_pos, shl_whole}
 use Rattle.std.proofs.Math.Nat.{le_of_mul-le-mul_right, mul-le-mul_right, mul-le-mul_left}
@@ -152,6 +152,21 @@ ahead p m f n x c w i lt few = elim (cases_lt (c + 1) x) [
       let z : x - c - 2 ≡ 0 = omega arith in
       subst (λ (t : ℕ). IsSplit p m f n false t) (sym z) (ahead_near p m f n x c w i one)
 ]
+
+-- w is c - x and s is x - c - 2, each where it is above 0
+pub on_a_side : (p m f n x c w s t : ℕ) → IsWhole m f n x c → IsBesidePi p → x < 2 ^ 128 → c < 2 ^ 128 → x < c + 2 ^ 64 → c + 2 < x + 2 ^ 64
+    → (w + (x + (2 ^ 128 - c)) % 2 ^ 128 % 2 ^ 64) % 2 ^ 64 ≡ 0 → w < 2 ^ 64 → s ≡ (x + (2 ^ 128 - c)) % 2 ^ 128 % 2 ^ 64 - 2 → t ≡ (if leb x c then w else s) → IsSplit p m f n (leb x c) t
+on_a_side p m f n x c w s t h i few few_c above below w_is few_w s_is t_is = go (leb x c) refl t_is
+  where
+    go : (b : Bool) → leb x c ≡ b → t ≡ (if b then w else s) → IsSplit p m f n b t
+    go true e is =
+        let le : x ≤ c = leb→le x c (subst T (sym e) tt) in
+        let d : w ≡ c - x = omega arith in
+        rw (is, d) (behind p m f n x c h i le (omega arith))
+    go false e is =
+        let lt : c < x = leb-false x c e in
+        let d : s ≡ x - c - 2 = omega arith in
+        rw (is, d) (ahead p m f n x c h i lt (omega arith))
 
 -- no quarters: x is the rest
 pub exact_rest : (p m f x k : ℕ) → 0 < k → k * 2 ^ f ≡ 2 ^ 65 → m * k ≡ 2 * x → x + 2 ≤ 2 ^ 64 → IsSplit p m f 0 false x

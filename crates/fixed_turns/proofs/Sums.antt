@@ -1,35 +1,49 @@
 -- The series at an angle, and the numbers that are rounded.
-use Rattle.std.proofs.Common.{◌≡◌, ◌+◌, ◌-◌, ◌*◌, ◌/◌, ◌^◌, ◌<◌, ◌≤◌, ℕ, Bool, true, false, refl, subst, sym, ap, ◌∙◌, arith}
+use Rattle.std.proofs.Common.{◌≡◌, ◌+◌, ◌-◌, ◌*◌, ◌/◌, ◌^◌, ◌<◌, ◌≤◌, ℕ, zero, suc, Bool, true, false, refl, subst, sym, ap, ◌∙◌, arith}
 use Rattle.std.specs.Prelude.{nat_le, if◌then◌else◌}
 use Rattle.std.proofs.lemmas.Nat.{mul-le, pow-add, pow_pos}
 use Rattle.std.proofs.Math.Nat.{le_of_mul-le-mul_right, mul-le-mul_right, mul-le-mul_left}
-use Rattle.fixed_turns.specs.Series.{Fraction, cosine_series, nested, sine_series, squared}
+use Rattle.fixed_turns.specs.Series.{Fraction, cosine_series, lessened, nested, over, sine_series, squared}
 use Rattle.fixed_turns.specs.Sines.{IsNear, IsSumAt, radians, sine_room}
-use Rattle.fixed_turns.specs.inside.Rests.{IsClose, IsLessened, IsNestedTo, IsRounded, IsUnder, quotients, reach, slack}
-use Rattle.fixed_turns.proofs.Nesting.{lessened_close, nested_part, quotient_high, quotient_low, square_part, square_under}
+use Rattle.fixed_turns.specs.inside.Rests.{IsClose, IsLessened, IsNestedTo, IsRounded, IsUnder, factorial, quotients, reach, slack}
+use Rattle.fixed_turns.proofs.Factorials.{quotient_high, quotient_low}
+use Rattle.fixed_turns.proofs.Nesting.{lessened_close, nested_part, square_part, square_under}
 use Rattle.fixed_turns.proofs.Reach.{room}
 
 -- ---- how far off
-far : (b : Bool) → ((if b then 6 else 9) ≤ 10) × ((slack 2 (if b then 6 else 9) (if b then 6 else 9) + 2 ≤ (if b then 2 ^ 23 else 2 ^ 3)) × (slack 1 (if b then 6 else 9) (if b then 6 else 9) + 1 ≤ (if b then 2 ^ 23 else 2 ^ 3)))
-unfolding slack
+far : (b : Bool) → ((if b then 6 else 9) ≤ 9) × ((slack 2 (if b then 6 else 9) (if b then 6 else 9) + 2 ≤ (if b then 2 ^ 23 else 2 ^ 3)) × (slack 1 (if b then 6 else 9) (if b then 6 else 9) ≤ (if b then 2 ^ 23 else 2 ^ 3)))
+unfolding slack factorial
 far true = (omega arith, (omega arith, omega arith))
 far false = (omega arith, (omega arith, omega arith))
 
-by_bits : (n : ℕ) → (quotients n ≤ 10) × ((slack 2 (quotients n) (quotients n) + 2 ≤ reach n) × (slack 1 (quotients n) (quotients n) + 1 ≤ reach n))
+by_bits : (n : ℕ) → (quotients n ≤ 9) × ((slack 2 (quotients n) (quotients n) + 2 ≤ reach n) × (slack 1 (quotients n) (quotients n) ≤ reach n))
 by_bits n = far (nat_le n 32)
 
 -- ---- the square
-pub square_small : (q t : ℕ) → q ≤ 0xc910000000000000 → t * 2 ^ 64 ≤ q * q → 8 * t ≤ 5 * 2 ^ 64
+pub square_small : (q t : ℕ) → q ≤ 0xc910000000000000 → t * 2 ^ 64 ≤ q * q → 8 * (t + 5) ≤ 5 * 2 ^ 64
 square_small q t l h =
     let a = mul-le q q 0xc910000000000000 0xc910000000000000 l l in
     omega arith
 
-close_at : (square first count w n : ℕ) (y : Fraction) → count ≤ 10 → IsUnder 5 square y → IsNestedTo square first count count w → IsClose (slack first count count) w (nested y first (n + 10))
-close_at square first count w n y few u h =
+-- the numbers that divide all quotients
+no_divisor : (first : ℕ) → 1 ≤ first → first ≤ 2 → factorial (first - 1) ≡ 1
+unfolding factorial
+no_divisor zero least most = absurd (omega arith)
+no_divisor (suc zero) least most = refl
+no_divisor (suc (suc zero)) least most = refl
+no_divisor (suc (suc (suc n))) least most = absurd (omega arith)
+
+close_at : (square first count w n : ℕ) (y : Fraction) → 1 ≤ first → first ≤ 2 → count ≤ 9 → IsUnder 5 square y → IsNestedTo square first count count w → IsClose (slack first count count) w (nested y first (n + 10))
+close_at square first count w n y least most few u h =
     let e : first + 2 * (count - count) ≡ first = omega arith in
     let d : n + (10 - count) + count ≡ n + 10 = omega arith in
-    let a = subst (λ (j : ℕ). IsClose (slack first count count) w (nested y j (n + (10 - count) + count))) e (h y (n + (10 - count)) u) in
-    subst (λ (j : ℕ). IsClose (slack first count count) w (nested y first j)) d a
+    let z = nested y first (n + 10) in
+    let a = subst (λ (j : ℕ). IsClose (slack first count count) w (over (nested y j (n + (10 - count) + count)) (factorial (j - 1)))) e (h y (n + (10 - count)) u) in
+    let b = subst (λ (j : ℕ). IsClose (slack first count count) w (over (nested y first j) (factorial (first - 1)))) d a in
+    let c = subst (λ (j : ℕ). IsClose (slack first count count) w (over z j)) (no_divisor first least most) b in
+    let below : w * (z.den * 1) ≤ z.num * 2 ^ 64 + slack first count count * (z.den * 1) = c.below in
+    let above : z.num * 2 ^ 64 ≤ (w + slack first count count) * (z.den * 1) = c.above in
+    record { below = omega arith; above = omega arith }
 
 pub sine_close : (x : Fraction) (q t w s bits n : ℕ) → IsUnder 2 q x → q ≤ 0xc910000000000000 → t * 2 ^ 64 ≤ q * q → q * q < (t + 1) * 2 ^ 64
     → IsNestedTo t 2 (quotients bits) (quotients bits) w → IsLessened q w s → IsClose (reach bits) s (sine_series x (n + 10))
@@ -40,25 +54,35 @@ sine_close x q t w s bits n u l low high h less =
     let v = square_under x q t u (omega arith) low high in
     let small = square_small q t l low in
     let part = nested_part y 2 (n + 10) v.some (square_part y t small v) (omega arith) in
-    let close = close_at t 2 (quotients bits) w n y b.0 v h in
+    let close = close_at t 2 (quotients bits) w n y (omega arith) (omega arith) b.0 v h in
     let d : q * c ≤ 2 ^ 64 * c = mul-le-mul_right c (omega arith) in
     let e : (2 + c) * 2 ^ 64 ≤ reach bits * 2 ^ 64 = mul-le-mul_right (2 ^ 64) (omega (arith, b.1.0)) in
     lessened_close x (nested y 2 (n + 10)) q w s c 2 (reach bits) u (omega arith) part.1 close less (omega arith)
+
+-- w is close to z, so that 1 - w is close to 1 - z
+rest_close : (z : Fraction) (w c k : ℕ) → z.num ≤ z.den → w ≤ 2 ^ 64 → c ≤ k → IsClose c w z → IsClose k (2 ^ 64 - w) (lessened (record { num = 1; den = 1 }) z)
+rest_close z w c k part less far close =
+    let below = close.below in
+    let above = close.above in
+    let v = 2 ^ 64 - w in
+    let is : v + w ≡ 2 ^ 64 = omega arith in
+    let whole = ap (λ (j : ℕ). j * z.den) is in
+    let more = mul-le-mul_right z.den far in
+    let all : z.den - z.num + z.num ≡ z.den = omega arith in
+    let first : v * (1 * z.den) ≤ 1 * (z.den - z.num) * 2 ^ 64 + k * (1 * z.den) = omega arith in
+    let second : 1 * (z.den - z.num) * 2 ^ 64 ≤ (v + k) * (1 * z.den) = omega arith in
+    record { below = first; above = second }
 
 pub cosine_close : (x : Fraction) (q t w bits n : ℕ) → IsUnder 2 q x → q ≤ 0xc910000000000000 → t * 2 ^ 64 ≤ q * q → q * q < (t + 1) * 2 ^ 64 → w < 2 ^ 64
     → IsNestedTo t 1 (quotients bits) (quotients bits) w → IsClose (reach bits) (2 ^ 64 - w) (cosine_series x (n + 10))
 cosine_close x q t w bits n u l low high less h =
     let b = by_bits bits in
-    let c = slack 1 (quotients bits) (quotients bits) in
     let y = squared x in
     let v = square_under x q t u (omega arith) low high in
     let small = square_small q t l low in
     let part = nested_part y 1 (n + 10) v.some (square_part y t small v) (omega arith) in
-    let close = close_at t 1 (quotients bits) w n y b.0 v h in
-    let e : (1 + c) * 2 ^ 64 ≤ reach bits * 2 ^ 64 = mul-le-mul_right (2 ^ 64) (omega (arith, b.1.1)) in
-    lessened_close (record { num = 1; den = 1 }) (nested y 1 (n + 10)) (2 ^ 64) w (2 ^ 64 - w) c 1 (reach bits)
-    (record { some = omega arith; below = omega arith; above = omega arith }) (omega arith) part.1 close
-    (record { below = omega arith; above = omega arith; most = omega arith }) (omega arith)
+    let close = close_at t 1 (quotients bits) w n y (omega arith) (omega arith) b.0 v h in
+    rest_close (nested y 1 (n + 10)) w (slack 1 (quotients bits) (quotients bits)) (reach bits) part.1 (omega arith) b.1.1 close
 
 -- ---- radians: c and c + 1 enclose a quarter in units of 1 / h, of which there are two in 1 / u
 radians_low : (r g k x p c d h : ℕ) → 0 < h → r * (2 * h) ≤ x * k * c → c * d ≤ p * h → r * (2 * d * g) ≤ p * x * (k * g)
@@ -131,6 +155,23 @@ near_by k e is y f v r l close round =
       above = rw (a, b) (near_high r v y.num y.den (2 ^ (64 - f)) (2 ^ f) (2 ^ k) e (2 ^ 64) o p is round.above close.above);
     }
 
+half_rounded : (v d r : ℕ) → 0 < d → v / d + 1 < (r + 1) * 2 → r * 2 ≤ v / d + 1 → (2 * (r * (2 * d)) ≤ 2 * v + 2 * d) × (2 * v ≤ 2 * (r * (2 * d)) + 2 * d)
+half_rounded v d r o high low =
+    let a = quotient_low v d in
+    let b = quotient_high v d o in
+    let c : r * 2 * d ≤ (v / d + 1) * d = mul-le-mul_right d low in
+    let e : (v / d + 1) * d ≤ (r * 2 + 1) * d = mul-le-mul_right d (omega arith) in
+    (omega arith, omega arith)
+
+pub rounded_half : (v s : ℕ) → 0 < s → IsRounded v s ((v / 2 ^ (s - 1) + 1) / 2)
+rounded_half v s o =
+    let d = 2 ^ (s - 1) in
+    let e : s ≡ s - 1 + 1 = omega arith in
+    let is : 2 ^ s ≡ 2 * d = ap (λ (j : ℕ). 2 ^ j) e ∙ twice (s - 1) in
+    let r = (v / d + 1) / 2 in
+    let h = half_rounded v d r (pow_pos (s - 1)) (quotient_high (v / d + 1) 2 (omega arith)) (quotient_low (v / d + 1) 2) in
+    record { below = rw is h.0; above = rw is h.1 }
+
 -- ---- from 0 to 1
 most : (f v r : ℕ) → f ≤ 64 → v ≤ 2 ^ 64 → IsRounded v (64 - f) r → r ≤ 2 ^ f
 most f v r l m round =
@@ -172,13 +213,11 @@ no_units x y u none =
     let d = le_of_mul-le-mul_right {m = x} {n = 0} (omega arith) u.some in
     omega arith
 
-pub radians_of_under : (f p k x rest a b : ℕ) → k * 2 ^ f ≡ 2 ^ 64 → 0xc90fdaa22168c234 * 10 ^ 39 ≤ p * 2 ^ 62 → p * 2 ^ 62 ≤ 0xc90fdaa22168c235 * 10 ^ 39 → rest ≡ x * k → rest ≤ 2 ^ 63
-    → a ≡ rest → b ≡ 0xc90fdaa22168c234 → IsUnder 2 (a * b / 2 ^ 63) (radians p x f)
-radians_of_under f p k x rest a b u low high is small e d =
-    let c : a * b ≡ rest * 0xc90fdaa22168c234 = rw (e, d) refl in
+pub radians_of_under : (f p k x rest r : ℕ) → k * 2 ^ f ≡ 2 ^ 64 → 0xc90fdaa22168c234 * 10 ^ 39 ≤ p * 2 ^ 62 → p * 2 ^ 62 ≤ 0xc90fdaa22168c235 * 10 ^ 39 → rest ≡ x * k → rest ≤ 2 ^ 63
+    → r ≡ rest * 0xc90fdaa22168c234 / 2 ^ 63 → IsUnder 2 r (radians p x f)
+radians_of_under f p k x rest r u low high is small e =
     let n = rest * 0xc90fdaa22168c234 in
-    let o : 0 < 2 ^ 63 = omega arith in
-    rw c (radians_under f p k x rest (n / 2 ^ 63) u low high is small (quotient_low n (2 ^ 63)) (quotient_high n (2 ^ 63) o))
+    rw e (radians_under f p k x rest (n / 2 ^ 63) u low high is small (quotient_low n (2 ^ 63)) (quotient_high n (2 ^ 63) (omega arith)))
 
 pub nothing_squared : (x t : ℕ) → x ≡ 0 → t * 2 ^ 64 ≤ x * x → t ≡ 0
 nothing_squared x t none h =

@@ -18,6 +18,7 @@ mod points;
 mod radians;
 mod saturating;
 mod series;
+mod signed;
 mod sines;
 mod strict;
 mod unwrapped;

@@ -1,6 +1,6 @@
 //! Sines and cosines of angles in radians.
 
-ghost use Rattle.std.specs.Prelude.{◌≡◌, ◌≤◌, ◌<◌, ◌+◌, ◌*◌, ◌^◌, ℕ, ℤ};
+ghost use Rattle.std.specs.Prelude.{◌≡◌, ◌≤◌, ◌<◌, ◌+◌, ◌*◌, ◌^◌, ℕ, ℤ, if◌then◌else◌};
 ghost use Rattle.fixed_word.specs.Standing.{StandsFor};
 ghost use Rattle.fixed_turns.specs.Radians.{IsRadianCosine, IsRadianSine};
 ghost use Rattle.fixed_turns.specs.Sines.{sine_room};
@@ -9,7 +9,7 @@ ghost use Rattle.fixed_turns.specs.inside.Rests.{IsBesidePi, IsReducedTo, IsSpli
 use crate::angles::Angle;
 use crate::constants::{QUARTERS, QUARTERS_MORE, RADIANS, RADIANS_MORE};
 use crate::series::high;
-use crate::sines::{outcome_at, outcomes_at};
+use crate::sines::outcome_at;
 use fixed_word::{Outcome, RawWord};
 
 /// Returns the product of words of 64 bits.
@@ -20,10 +20,19 @@ pub(crate) fn product(a: u64, b: u64) -> u128
     u128::from(a) * u128::from(b)
 }
 
-/// Returns how many quarter turns `x 2^-64` radians are, to the nearest or hardly further: what is left is at most
-/// `0xc90fffff00000000` units of `2^-64` radians, where an eighth of a turn is some `0xc90fdaa22168c234`.
+/// Does what `quarters_in` does, for angles below `2^32` radians.
 #[inline(always)]
-fn quarters_in(x: u128) -> u64
+fn few_quarters_in(x: u128) -> u64
+    requires { x < 2 ^ 96 }
+    ensures most { result * 0xc90fdaa22168c234c4c6628b80dc1cd1 ≤ (x + 0xc90fffff00000000) * 2 ^ 63 }
+    ensures least { x * 2 ^ 63 ≤ result * 0xc90fdaa22168c234c4c6628b80dc1cd1 + 0xc90fffff00000000 * 2 ^ 63 }
+{
+    ((product((x >> 32) as u64, QUARTERS) + (1 << 95)) >> 96) as u64
+}
+
+/// Does what `quarters_in` does, for all angles.
+#[inline(always)]
+fn many_quarters_in(x: u128) -> u64
     requires { x + 2 ^ 64 ≤ 2 ^ 128 }
     ensures most { result * 0xc90fdaa22168c234c4c6628b80dc1cd1 ≤ (x + 0xc90fffff00000000) * 2 ^ 63 }
     ensures least { x * 2 ^ 63 ≤ result * 0xc90fdaa22168c234c4c6628b80dc1cd1 + 0xc90fffff00000000 * 2 ^ 63 }
@@ -34,6 +43,21 @@ fn quarters_in(x: u128) -> u64
     ((product(whole, QUARTERS) + finer + (1 << 63)) >> 64) as u64
 }
 
+/// Returns how many quarter turns `x 2^-64` radians are, to the nearest or hardly further: what is left is at most
+/// `0xc90fffff00000000` units of `2^-64` radians, where an eighth of a turn is some `0xc90fdaa22168c234`.
+#[inline(always)]
+fn quarters_in(x: u128) -> u64
+    requires { x + 2 ^ 64 ≤ 2 ^ 128 }
+    ensures most { result * 0xc90fdaa22168c234c4c6628b80dc1cd1 ≤ (x + 0xc90fffff00000000) * 2 ^ 63 }
+    ensures least { x * 2 ^ 63 ≤ result * 0xc90fdaa22168c234c4c6628b80dc1cd1 + 0xc90fffff00000000 * 2 ^ 63 }
+{
+    if x < 1 << 96 {
+        few_quarters_in(x)
+    } else {
+        many_quarters_in(x)
+    }
+}
+
 /// Returns how many units of `2^-64` radians quarter turns are, rounded down.
 #[inline(always)]
 fn radians_in(quarters: u64) -> u128
@@ -42,6 +66,14 @@ fn radians_in(quarters: u64) -> u128
     ensures above { quarters * 0xc90fdaa22168c234c4c6628b80dc1cd1 < (result + 1) * 2 ^ 63 }
 {
     2 * product(quarters, RADIANS) + (product(quarters, RADIANS_MORE) >> 63)
+}
+
+/// Returns `first` if `is_first`, and otherwise `second`. As a function of its own it compiles to one selection.
+#[inline]
+fn either(is_first: bool, first: u64, second: u64) -> u64
+    ensures { result ≡ (if is_first then first else second) }
+{
+    if is_first { first } else { second }
 }
 
 /// Splits `x 2^-64` radians into quarter turns and a rest in units of `2^-64` radians. The rest is at most 2 units too
@@ -57,18 +89,12 @@ pub(crate) fn split_units(x: u128) -> Angle
 {
     let quarter = quarters_in(x);
     let whole = radians_in(quarter);
-    if whole < x {
-        Angle {
-            quarter,
-            below: false,
-            rest: ((x - whole) as u64).saturating_sub(2),
-        }
-    } else {
-        Angle {
-            quarter,
-            below: true,
-            rest: (whole - x) as u64,
-        }
+    let ahead = (x.wrapping_sub(whole) % (1 << 64)) as u64;
+    let below = x <= whole;
+    Angle {
+        quarter,
+        below,
+        rest: either(below, ahead.wrapping_neg(), ahead.saturating_sub(2)),
     }
 }
 
@@ -154,5 +180,9 @@ pub fn sin_cos_of<T: RawWord>(a: T, frac: u32) -> (Outcome<T>, Outcome<T>)
         × StandsFor T.value T.SIGNED T.BITS r result.1 }
 {
     let angle = reduced(a, frac);
-    outcomes_at(angle.quarter, angle.below, angle.rest, frac)
+    let sine = outcome_at(angle.quarter, angle.below, angle.rest, frac);
+    (
+        sine,
+        outcome_at(angle.quarter + 1, angle.below, angle.rest, frac),
+    )
 }

@@ -1,11 +1,36 @@
 //! The series of sine and cosine at an angle of up to an eighth of a turn. Numbers are in units of `2^-64`.
 
-ghost use Rattle.std.specs.Prelude.{◌≡◌, ◌≤◌, ◌<◌, ◌+◌, ◌-◌, ◌*◌, ◌^◌, ℕ};
+ghost use Rattle.std.specs.Prelude.{◌≡◌, ◌≤◌, ◌<◌, ◌+◌, ◌-◌, ◌*◌, ◌/◌, ◌^◌, ℕ};
 ghost use Rattle.fixed_turns.specs.Series.{Fraction, cosine_series, sine_series};
 ghost use Rattle.fixed_turns.specs.Sines.{radians};
-ghost use Rattle.fixed_turns.specs.inside.Rests.{IsClose, IsLessened, IsNestedTo, IsRounded, IsUnder, quotients, reach};
+ghost use Rattle.fixed_turns.specs.inside.Rests.{IsClose, IsLessened, IsNestedTo, IsRounded, IsUnder, factorial, quotients, reach};
 
 use crate::constants::RADIANS;
+
+/// The factorials of 0 to 20.
+const FACTORIALS: [u64; 21] = [
+    1,
+    1,
+    2,
+    6,
+    24,
+    120,
+    720,
+    5_040,
+    40_320,
+    362_880,
+    3_628_800,
+    39_916_800,
+    479_001_600,
+    6_227_020_800,
+    87_178_291_200,
+    1_307_674_368_000,
+    20_922_789_888_000,
+    355_687_428_096_000,
+    6_402_373_705_728_000,
+    121_645_100_408_832_000,
+    2_432_902_008_176_640_000,
+];
 
 /// Returns the higher half of a product.
 #[inline(always)]
@@ -32,23 +57,44 @@ fn quotients(bits: u32) -> u64
     if bits <= 32 { 6 } else { 9 }
 }
 
+/// Returns the reciprocal of a factorial, rounded down. That of 2 is a unit less. Precondition: n is at most 20.
+#[inline(always)]
+fn reciprocal(n: u64) -> u64
+    requires { n ≤ 20 }
+    ensures { result ≡ (2 ^ 64 - 1) / factorial n }
+{
+    u64::MAX / FACTORIALS[n as usize]
+}
+
 /// Returns `q (1 - r (1 - ..))`, where q, r and so on are `count` quotients of `square`. The first is by
-/// `first (first + 1)`, the next by `(first + 2) (first + 3)`. `first` is 1 for the cosine and 2 for the sine.
+/// `first (first + 1)`, the next by `(first + 2) (first + 3)`. `first` is 1 for the cosine and 2 for the sine. It is
+/// computed as `square (c - square (d - ..))`, where c, d and so on are reciprocals of factorials.
 #[inline(always)]
 fn nested(square: u64, first: u64, count: u64) -> u64
     requires least { 1 ≤ first }
     requires most { first ≤ 2 }
-    requires count { count ≤ 10 }
-    requires square { 8 * square ≤ 5 * 2 ^ 64 }
+    requires count { count ≤ 9 }
+    requires square { 8 * (square + 5) ≤ 5 * 2 ^ 64 }
     ensures value { IsNestedTo square first count count result }
     ensures none { square ≡ 0 → result ≡ 0 }
 {
     let mut less = 0;
     for i in 0..count {
         let place = first + 2 * (count - 1 - i);
-        less = lessened(square / (place * (place + 1)), less);
+        less = high(square, reciprocal(place + 1) - less);
     }
     less
+}
+
+/// Returns the product by a factor in units of `2^-63`, rounded down. Precondition: the number is at most `2^63`.
+#[inline(always)]
+fn scaled(number: u64, factor: u64) -> u64
+    requires { number ≤ 2 ^ 63 }
+    ensures { result ≡ number * factor / 2 ^ 63 }
+{
+    let product = u128::from(number) * u128::from(factor);
+    // by halves, so that the compiler sees a number of 64 bits
+    2 * ((product >> 64) as u64) + ((product >> 63) % 2) as u64
 }
 
 /// Converts an angle from quarter turns to radians. The result is at most 2 units too small, and never too large.
@@ -62,7 +108,7 @@ pub(crate) fn radians_of(rest: u64) -> u64
     ensures most { result ≤ 0xc90fdaa22168c234 }
     ensures none { rest ≡ 0 → result ≡ 0 }
 {
-    ((u128::from(rest) * u128::from(RADIANS)) >> 63) as u64
+    scaled(rest, RADIANS)
 }
 
 /// Returns the sine of `x` radians. If an exact angle is from `x` to `x + 2` units, the result differs from its sine by
@@ -96,5 +142,9 @@ pub(crate) fn rounded(units: u128, shift: u32) -> u128
     requires shift { shift ≤ 64 }
     ensures { IsRounded units shift result }
 {
-    (units + ((1 << shift) >> 1)) >> shift
+    if shift == 0 {
+        units
+    } else {
+        ((units >> (shift - 1)) + 1) >> 1
+    }
 }

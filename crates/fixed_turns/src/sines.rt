@@ -1,6 +1,7 @@
 //! Sines and cosines of angles in turns.
 
 ghost use Rattle.std.specs.Prelude.{◌≡◌, ◌≤◌, ◌+◌, ◌/◌, ◌^◌, ℤ, not};
+ghost use Rattle.fixed_word.specs.Format.{with_sign};
 ghost use Rattle.fixed_word.specs.Standing.{StandsFor};
 ghost use Rattle.fixed_turns.specs.Series.{Fraction, cosine_series, sine_series};
 ghost use Rattle.fixed_turns.specs.Sines.{IsCosine, IsSine, IsSumAt, sine_room};
@@ -8,7 +9,8 @@ ghost use Rattle.fixed_turns.specs.inside.Rests.{IsSineNear, IsUnder};
 
 use crate::angles::{part_of_turn, parted};
 use crate::series::{cosine, radians_of, rounded, sine};
-use fixed_word::{Outcome, RawWord, outcome_of_magnitude};
+use crate::signed::{Signed, outcome_of_signed};
+use fixed_word::{Outcome, RawWord};
 
 /// Returns the sine of `x 2^-64` radians, in units of `2^-frac`, rounded to the nearest.
 #[inline(always)]
@@ -41,8 +43,29 @@ fn turned(quarter: u64, below: bool) -> bool
     (quarter / 2 == 1) != below
 }
 
-/// Returns the sine of quarter turns and `x 2^-64` radians, which are subtracted if `below`. If x is 0, it may stand for
-/// a small angle of either sign.
+/// Returns the sine of quarter turns and `x 2^-64` radians, which are subtracted if `below`, in units of `2^-frac`. If x
+/// is 0, it may stand for a small angle of either sign.
+#[inline(always)]
+fn sine_at(quarter: u64, below: bool, x: u64, bits: u32, frac: u32) -> Signed
+    requires quarter { quarter ≤ 4 }
+    requires small { x ≤ 0xc910000000000000 }
+    requires frac { frac ≤ 64 }
+    ensures { IsSineNear (sine_room bits) quarter below x frac (with_sign result.below_zero result.magnitude) }
+{
+    if quarter % 2 == 0 {
+        Signed {
+            below_zero: turned(quarter, below),
+            magnitude: sine_of(x, bits, frac),
+        }
+    } else {
+        Signed {
+            below_zero: turned(quarter, false),
+            magnitude: cosine_of(x, bits, frac),
+        }
+    }
+}
+
+/// Returns the outcome of that sine.
 #[inline(always)]
 pub(crate) fn outcome_at<T: RawWord>(quarter: u64, below: bool, x: u64, frac: u32) -> Outcome<T>
     requires quarter { quarter ≤ 4 }
@@ -50,11 +73,7 @@ pub(crate) fn outcome_at<T: RawWord>(quarter: u64, below: bool, x: u64, frac: u3
     requires frac { frac ≤ 64 }
     ensures { (r : ℤ) × IsSineNear (sine_room T.BITS) quarter below x frac r × StandsFor T.value T.SIGNED T.BITS r result }
 {
-    if quarter % 2 == 0 {
-        outcome_of_magnitude(turned(quarter, below), sine_of(x, T::BITS, frac))
-    } else {
-        outcome_of_magnitude(turned(quarter, false), cosine_of(x, T::BITS, frac))
-    }
+    outcome_of_signed(sine_at(quarter, below, x, T::BITS, frac))
 }
 
 /// Returns the sine of `a 2^-frac` turns, in units of `2^-frac`, rounded to the nearest. The result differs from the
@@ -82,35 +101,6 @@ pub fn cos_turns_of<T: RawWord>(a: T, frac: u32) -> Outcome<T>
     outcome_at(angle.quarter + 1, angle.below, radians_of(angle.rest), frac)
 }
 
-/// Returns the sine and the cosine of quarter turns and `x 2^-64` radians, which are subtracted if `below`. If x is 0,
-/// it may stand for a small angle of either sign.
-#[inline(always)]
-pub(crate) fn outcomes_at<T: RawWord>(
-    quarter: u64,
-    below: bool,
-    x: u64,
-    frac: u32,
-) -> (Outcome<T>, Outcome<T>)
-    requires quarter { quarter ≤ 3 }
-    requires small { x ≤ 0xc910000000000000 }
-    requires frac { frac ≤ 64 }
-    ensures sine { (r : ℤ) × IsSineNear (sine_room T.BITS) quarter below x frac r
-        × StandsFor T.value T.SIGNED T.BITS r result.0 }
-    ensures cosine { (r : ℤ) × IsSineNear (sine_room T.BITS) (quarter + 1) below x frac r
-        × StandsFor T.value T.SIGNED T.BITS r result.1 }
-{
-    let sine = sine_of(x, T::BITS, frac);
-    let cosine = cosine_of(x, T::BITS, frac);
-    let next = quarter + 1;
-    if quarter % 2 == 0 {
-        let first = outcome_of_magnitude(turned(quarter, below), sine);
-        (first, outcome_of_magnitude(turned(next, false), cosine))
-    } else {
-        let first = outcome_of_magnitude(turned(quarter, false), cosine);
-        (first, outcome_of_magnitude(turned(next, below), sine))
-    }
-}
-
 /// Returns the sine and the cosine of `a 2^-frac` turns, in units of `2^-frac`, both rounded to the nearest. Each
 /// result differs from its exact value by at most half a unit plus `2^-k`, where k is 41 on words of up to 32 bits and
 /// 61 on words of 64 bits. The results at whole quarter turns are exact, and none is above 1 or below -1. Precondition:
@@ -124,5 +114,7 @@ pub fn sin_cos_turns_of<T: RawWord>(a: T, frac: u32) -> (Outcome<T>, Outcome<T>)
         × StandsFor T.value T.SIGNED T.BITS r result.1 }
 {
     let angle = parted(part_of_turn(a, frac));
-    outcomes_at(angle.quarter, angle.below, radians_of(angle.rest), frac)
+    let x = radians_of(angle.rest);
+    let sine = outcome_at(angle.quarter, angle.below, x, frac);
+    (sine, outcome_at(angle.quarter + 1, angle.below, x, frac))
 }

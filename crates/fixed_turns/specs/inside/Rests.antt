@@ -1,7 +1,7 @@
 -- The rest of an angle, and the series at it, in units of 2^-64.
 use Rattle.std.specs.Prelude.{◌≡◌, ◌⊎◌, ◌+◌, ◌-◌, ◌*◌, ◌/◌, ◌^◌, ◌≤◌, ◌<◌, ◌+ℤ◌, ◌*ℤ◌, ℕ, zero, suc, ℤ, Bool, pos, nat_le, if◌then◌else◌}
 use Rattle.fixed_word.specs.Format.{with_sign}
-use Rattle.fixed_turns.specs.Series.{Fraction, nested}
+use Rattle.fixed_turns.specs.Series.{Fraction, nested, over}
 use Rattle.fixed_turns.specs.RadianAngles.{IsLeftBy, IsRightBy, IsSide}
 use Rattle.fixed_turns.specs.Sines.{IsSineBy, pi}
 use Rattle.fixed_turns.specs.Radians.{IsReduced, parts}
@@ -35,18 +35,25 @@ quotients n = if nat_le n 32 then 6 else 9
 abbrev pub reach : ℕ → ℕ
 reach n = if nat_le n 32 then 2 ^ 23 else 2 ^ 3
 
+-- 1 2 .. n
+unfoldable pub factorial : ℕ → ℕ
+factorial zero = 1
+factorial (suc n) = suc n * factorial n
+
 -- m of the i-th quotient from the last
 abbrev pub place : ℕ → ℕ → ℕ → ℕ
 place first count i = first + 2 * (count - 1 - i)
 
--- how far off i quotients are, by a number that is 5/8 at most; the quotients after them are left out
+-- how far off i quotients are, over the numbers that divide them, by a square of 5/8 at most; the quotients after them are
+-- left out
 unfoldable pub slack : ℕ → ℕ → ℕ → ℕ
-slack first count zero = 4 + 5 * 2 ^ 64 / (8 * ((first + 2 * count) * (first + 2 * count + 1)))
-slack first count (suc i) = 4 + 5 * slack first count i / (8 * (place first count i * (place first count i + 1)))
+slack first count zero = 1 + 5 * 2 ^ 64 / (8 * factorial (first + 2 * count + 1))
+slack first count (suc i) = (5 * slack first count i + 40 / factorial (place first count i + 1) + 21) / 8
 
--- less is close to i quotients and n more
+-- less is close to i quotients and n more, over the numbers that divide them
 abbrev pub IsNestedTo : ℕ → ℕ → ℕ → ℕ → ℕ → Type 0
-IsNestedTo square first count i less = (y : Fraction) (n : ℕ) → IsUnder 5 square y → IsClose (slack first count i) less (nested y (first + 2 * (count - i)) (n + i))
+IsNestedTo square first count i less = (y : Fraction) (n : ℕ) → IsUnder 5 square y
+    → IsClose (slack first count i) less (over (nested y (first + 2 * (count - i)) (n + i)) (factorial (first + 2 * (count - i) - 1)))
 
 -- four times an angle of p units of 2^-64 turns are quarters and a rest
 pub record IsParted (p q : ℕ) (below : Bool) (rest : ℕ) : Type 0 where

@@ -1,22 +1,11 @@
-use Rattle.std.proofs.Common.{rules, ◌≤◌, ◌+◌, ◌-◌, ◌^◌, ℕ, false, subst, sym, arith}
-use Rattle.fixed_turns.specs.inside.Rests.{IsSplit}
-use Rattle.fixed_turns.proofs.Splits.{ahead, behind, whole_is}
+use Rattle.std.proofs.Common.{rules, arith}
+use Rattle.fixed_turns.proofs.Splits.{on_a_side, whole_is}
 use Rattle.fixed_turns.proofs.radians.split_units.Goals as goal
 
-pub returns-then-whole-x-clause-value : goal.returns-then-whole-x-clause-value
-returns-then-whole-x-clause-value c = λ p m f k i u least most.
-    let n = c.quarters_in-quarter.result in
-    let r = c.radians_in-whole.result in
-    let x = c.args.x in
-    let w = whole_is m f n x r k u least most (search rules) c.radians_in-whole.ensures.below c.radians_in-whole.ensures.above in
-    let far : x - r ≤ 2 ^ 64 = omega (arith, c.quarters_in-quarter.ensures.least, c.radians_in-whole.ensures.above) in
-    subst (λ (t : ℕ). IsSplit p m f n false t) (sym c.saturating_sub.ensures) (ahead p m f n x r w i c.if-whole-x.true far)
-
-pub returns-else-whole-x-clause-value : goal.returns-else-whole-x-clause-value
-returns-else-whole-x-clause-value c = λ p m f k i u least most.
-    let n = c.quarters_in-quarter.result in
-    let r = c.radians_in-whole.result in
-    let x = c.args.x in
-    let w = whole_is m f n x r k u least most (search rules) c.radians_in-whole.ensures.below c.radians_in-whole.ensures.above in
-    let far : r - x + 2 ≤ 2 ^ 64 = omega (arith, c.quarters_in-quarter.ensures.most, c.radians_in-whole.ensures.below) in
-    behind p m f n x r w i (omega (arith, c.if-whole-x.false)) far
+pub returns-clause-value : goal.returns-clause-value
+returns-clause-value c = λ p m f k i u least most.
+    let n = c.quarters_in-quarter in
+    let r = c.radians_in-whole in
+    let w = whole_is m f n.result c.args.x r.result k u least most (search rules) r.ensures.below r.ensures.above in
+    on_a_side p m f n.result c.args.x r.result c.wrapping_neg.result c.saturating_sub.result c.either.result w i c.ranges.x.fits r.type_inv (omega (arith, n.ensures.least, r.ensures.above))
+    (omega (arith, n.ensures.most, r.ensures.below)) c.wrapping_neg.ensures c.wrapping_neg.type_inv c.saturating_sub.ensures c.either.ensures
