@@ -24,18 +24,17 @@ fn moved(magnitude: u64, frac: u32) -> u64
     ((u128::from(magnitude) << (64 - frac)) % (1 << 64)) as u64
 }
 
-/// Returns the angle `a 2^-frac` without its whole turns, in units of `2^-64` turns. The result is not below 0.
-/// Precondition: `frac` is at most the width.
+/// Returns the angle `a 2^-frac` without its whole turns, in units of `2^-64` turns. The result is not below 0. Each
+/// branch asks for the magnitude anew, so that both compile to one shift. Precondition: `frac` is at most the width.
 #[inline(always)]
 pub(crate) fn part_of_turn<T: RawWord>(a: T, frac: u32) -> u64
     requires { frac ≤ T.BITS }
     ensures { Congruent (2 ^ 64) (T.value a *ℤ pos (2 ^ (64 - frac))) (pos result) }
 {
-    let part = moved(a.magnitude(), frac);
     if a.is_below_zero() {
-        part.wrapping_neg()
+        moved(a.magnitude(), frac).wrapping_neg()
     } else {
-        part
+        moved(a.magnitude(), frac)
     }
 }
 

@@ -57,7 +57,8 @@ fn quotients(bits: u32) -> u64
     if bits <= 32 { 6 } else { 9 }
 }
 
-/// Returns the reciprocal of a factorial, rounded down. That of 2 is a unit less. Precondition: n is at most 20.
+/// Returns the reciprocal of a factorial in units of `2^-64`, rounded down, or a unit less if it is exact. Precondition:
+/// n is at most 20.
 #[inline(always)]
 fn reciprocal(n: u64) -> u64
     requires { n ≤ 20 }
