@@ -5,12 +5,12 @@ ghost use Rattle.fixed_word.specs.Format.{InRange};
 ghost use Rattle.fixed_word.specs.Policies.{checked, overflowing, saturating, wrapping};
 ghost use Rattle.fixed_convert.specs.WholeNumber.{exact_ceil, exact_floor, exact_frac, exact_round, exact_round_ties_even};
 
-use crate::numbers::strict_number;
-use fixed_convert::{Castable, ceil_of, floor_of, frac_of, round_of, round_ties_even_of};
-use fixed_num::{
-    Fixed, Number, checked_number, exact_number, overflowing_number, saturating_number,
-    wrapping_number,
+use crate::beside::{
+    Beside, checked_whole, exact_whole, overflowing_whole, saturating_whole, strict_whole,
+    wrapping_frac, wrapping_whole,
 };
+use fixed_convert::Castable;
+use fixed_num::{Fixed, Number};
 use fixed_word::Word;
 
 /// Rounding to whole numbers of the number's own format, by each policy. Precondition of each call: the fraction is
@@ -201,151 +201,151 @@ pub trait ToWhole: Number {
 impl<T: Castable + Word, const F: u32> ToWhole for Fixed<T, F> {
     #[inline]
     fn int(self) -> Self {
-        self.wrapping_floor()
+        wrapping_whole(self, Beside::Floor)
     }
 
     #[inline]
     fn frac(self) -> Self {
-        wrapping_number(frac_of(self.bits, F))
+        wrapping_frac(self)
     }
 
     #[inline]
     fn floor(self) -> Self {
-        exact_number(floor_of(self.bits, F))
+        exact_whole(self, Beside::Floor)
     }
 
     #[inline]
     fn ceil(self) -> Self {
-        exact_number(ceil_of(self.bits, F))
+        exact_whole(self, Beside::Ceil)
     }
 
     #[inline]
     fn round(self) -> Self {
-        exact_number(round_of(self.bits, F))
+        exact_whole(self, Beside::Round)
     }
 
     #[inline]
     fn round_ties_even(self) -> Self {
-        exact_number(round_ties_even_of(self.bits, F))
+        exact_whole(self, Beside::RoundTiesEven)
     }
 
     #[inline]
     fn checked_floor(self) -> Option<Self> {
-        checked_number(floor_of(self.bits, F))
+        checked_whole(self, Beside::Floor)
     }
 
     #[inline]
     fn checked_ceil(self) -> Option<Self> {
-        checked_number(ceil_of(self.bits, F))
+        checked_whole(self, Beside::Ceil)
     }
 
     #[inline]
     fn checked_round(self) -> Option<Self> {
-        checked_number(round_of(self.bits, F))
+        checked_whole(self, Beside::Round)
     }
 
     #[inline]
     fn checked_round_ties_even(self) -> Option<Self> {
-        checked_number(round_ties_even_of(self.bits, F))
+        checked_whole(self, Beside::RoundTiesEven)
     }
 
     #[inline]
     fn overflowing_floor(self) -> (Self, bool) {
-        overflowing_number(floor_of(self.bits, F))
+        overflowing_whole(self, Beside::Floor)
     }
 
     #[inline]
     fn overflowing_ceil(self) -> (Self, bool) {
-        overflowing_number(ceil_of(self.bits, F))
+        overflowing_whole(self, Beside::Ceil)
     }
 
     #[inline]
     fn overflowing_round(self) -> (Self, bool) {
-        overflowing_number(round_of(self.bits, F))
+        overflowing_whole(self, Beside::Round)
     }
 
     #[inline]
     fn overflowing_round_ties_even(self) -> (Self, bool) {
-        overflowing_number(round_ties_even_of(self.bits, F))
+        overflowing_whole(self, Beside::RoundTiesEven)
     }
 
     #[inline]
     fn wrapping_floor(self) -> Self {
-        wrapping_number(floor_of(self.bits, F))
+        wrapping_whole(self, Beside::Floor)
     }
 
     #[inline]
     fn wrapping_ceil(self) -> Self {
-        wrapping_number(ceil_of(self.bits, F))
+        wrapping_whole(self, Beside::Ceil)
     }
 
     #[inline]
     fn wrapping_round(self) -> Self {
-        wrapping_number(round_of(self.bits, F))
+        wrapping_whole(self, Beside::Round)
     }
 
     #[inline]
     fn wrapping_round_ties_even(self) -> Self {
-        wrapping_number(round_ties_even_of(self.bits, F))
+        wrapping_whole(self, Beside::RoundTiesEven)
     }
 
     #[inline]
     fn saturating_floor(self) -> Self {
-        saturating_number(floor_of(self.bits, F))
+        saturating_whole(self, Beside::Floor)
     }
 
     #[inline]
     fn saturating_ceil(self) -> Self {
-        saturating_number(ceil_of(self.bits, F))
+        saturating_whole(self, Beside::Ceil)
     }
 
     #[inline]
     fn saturating_round(self) -> Self {
-        saturating_number(round_of(self.bits, F))
+        saturating_whole(self, Beside::Round)
     }
 
     #[inline]
     fn saturating_round_ties_even(self) -> Self {
-        saturating_number(round_ties_even_of(self.bits, F))
+        saturating_whole(self, Beside::RoundTiesEven)
     }
 
     #[inline]
     fn strict_floor(self) -> Self {
-        strict_number(floor_of(self.bits, F))
+        strict_whole(self, Beside::Floor)
     }
 
     #[inline]
     fn strict_ceil(self) -> Self {
-        strict_number(ceil_of(self.bits, F))
+        strict_whole(self, Beside::Ceil)
     }
 
     #[inline]
     fn strict_round(self) -> Self {
-        strict_number(round_of(self.bits, F))
+        strict_whole(self, Beside::Round)
     }
 
     #[inline]
     fn strict_round_ties_even(self) -> Self {
-        strict_number(round_ties_even_of(self.bits, F))
+        strict_whole(self, Beside::RoundTiesEven)
     }
 
     #[inline]
     fn unwrapped_floor(self) -> Self {
-        self.strict_floor()
+        strict_whole(self, Beside::Floor)
     }
 
     #[inline]
     fn unwrapped_ceil(self) -> Self {
-        self.strict_ceil()
+        strict_whole(self, Beside::Ceil)
     }
 
     #[inline]
     fn unwrapped_round(self) -> Self {
-        self.strict_round()
+        strict_whole(self, Beside::Round)
     }
 
     #[inline]
     fn unwrapped_round_ties_even(self) -> Self {
-        self.strict_round_ties_even()
+        strict_whole(self, Beside::RoundTiesEven)
     }
 }
