@@ -12,6 +12,7 @@ use Rattle.fixed_word.specs.Policies.{checked}
 use Rattle.fixed_word.specs.Standing.{StandsFor}
 use Rattle.fixed_word.proofs.Sides.{side_fits}
 use Rattle.fixed_word.proofs.Nearest.{fits_is}
+use Rattle.fixed_word.proofs.Standings.{checked_same}
 use Rattle.fixed_float.specs.Rows.{saturated_float}
 
 is_some_if : (b : Bool) (x : ℤ) → IsSome (if b then Some x else None) → b ≡ true
@@ -21,6 +22,14 @@ is_some_if false x h = absurd (false≢true h)
 -- a number that the checked policy keeps is in range
 pub in_range : (s : Bool) (n : ℕ) (x : ℤ) → IsSome (checked s n (Some x)) → InRange s n x
 in_range s n x f = (fits_is s n x).0 (is_some_if (fits s n x) x f)
+
+-- and the other way
+pub kept : (s : Bool) (n : ℕ) (x : ℤ) → InRange s n x → IsSome (checked s n (Some x))
+kept s n x r = rw (checked_same s n x r) refl
+
+-- numbers are equal where rows of them are
+pub same_number : (x y : ℤ) → Some x ≡ Some y → x ≡ y
+same_number x y e = cc
 
 -- an outcome of a number that the checked policy keeps fits
 pub kept_side : {T : Type 0} (value : T → ℤ) (s : Bool) (n : ℕ) (o : Outcome T) → (x : ℤ) × (StandsFor value s n x o × IsSome (checked s n (Some x))) → o.side ≡ Fits

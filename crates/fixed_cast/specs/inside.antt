@@ -1,2 +1,3 @@
--- What laws of impls alone cite.
+-- What laws of impls and private functions alone cite.
 pub mod Saturated
+pub mod WholeBeside

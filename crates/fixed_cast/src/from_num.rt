@@ -94,7 +94,7 @@ pub trait FromNum: Numeric {
 impl<N: Numeric> FromNum for N {
     #[inline]
     fn from_num<S: Source>(source: S) -> Self {
-        exact_num(source.outcome(Self::FRACTION, S::DEFAULT).unwrap())
+        Self::from_num_round(source, S::DEFAULT)
     }
 
     #[inline]
@@ -104,27 +104,27 @@ impl<N: Numeric> FromNum for N {
 
     #[inline]
     fn overflowing_from_num<S: Source>(source: S) -> (Self, bool) {
-        overflowing_num(source.outcome(Self::FRACTION, S::DEFAULT).unwrap())
+        Self::overflowing_from_num_round(source, S::DEFAULT)
     }
 
     #[inline]
     fn wrapping_from_num<S: Source>(source: S) -> Self {
-        wrapping_num(source.outcome(Self::FRACTION, S::DEFAULT).unwrap())
+        Self::wrapping_from_num_round(source, S::DEFAULT)
     }
 
     #[inline]
     fn saturating_from_num<S: Source>(source: S) -> Self {
-        Self::from_word(source.saturated(Self::FRACTION, S::DEFAULT))
+        Self::saturating_from_num_round(source, S::DEFAULT)
     }
 
     #[inline]
     fn strict_from_num<S: Source>(source: S) -> Self {
-        strict_num(source.outcome(Self::FRACTION, S::DEFAULT).unwrap())
+        Self::strict_from_num_round(source, S::DEFAULT)
     }
 
     #[inline]
     fn unwrapped_from_num<S: Source>(source: S) -> Self {
-        strict_num(source.outcome(Self::FRACTION, S::DEFAULT).unwrap())
+        Self::strict_from_num_round(source, S::DEFAULT)
     }
 
     #[inline]
@@ -159,6 +159,6 @@ impl<N: Numeric> FromNum for N {
 
     #[inline]
     fn unwrapped_from_num_round<S: Source>(source: S, rounding: Rounding) -> Self {
-        strict_num(source.outcome(Self::FRACTION, rounding).unwrap())
+        Self::strict_from_num_round(source, rounding)
     }
 }

@@ -5,10 +5,10 @@
 //! says that it does not have the call. No function allocates.
 #![tactic(auto)]
 
+mod beside;
 mod floats;
 mod from_num;
 mod mul_into;
-mod numbers;
 mod numeric;
 mod order;
 mod policies;

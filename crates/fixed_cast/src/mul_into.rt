@@ -135,7 +135,7 @@ pub trait MulInto: Numeric {
 impl<A: Numeric> MulInto for A {
     #[inline]
     fn mul_into<B: Numeric, D: Numeric>(self, rhs: B) -> D {
-        exact_num(product::<A, B, D>(self, rhs, Rounding::Down))
+        self.mul_into_round(rhs, Rounding::Down)
     }
 
     #[inline]

@@ -5,7 +5,6 @@ ghost use Rattle.fixed_word.specs.Policies.{checked, overflowing, wrapping};
 
 use crate::from_num::FromNum;
 use crate::numeric::Numeric;
-use crate::policies::{exact_num, overflowing_num, strict_num, wrapping_num};
 use crate::source::Source;
 use crate::target::Target;
 use fixed_word::Rounding;
@@ -138,31 +137,31 @@ impl<S: Source> ToNum for S {
 
     #[inline]
     fn overflowing_to_num_round<N: Numeric>(self, rounding: Rounding) -> (N, bool) {
-        overflowing_num(self.outcome(N::FRACTION, rounding).unwrap())
+        N::overflowing_from_num_round(self, rounding)
     }
 
     #[inline]
     fn wrapping_to_num_round<N: Numeric>(self, rounding: Rounding) -> N {
-        wrapping_num(self.outcome(N::FRACTION, rounding).unwrap())
+        N::wrapping_from_num_round(self, rounding)
     }
 
     #[inline]
     fn saturating_to_num_round<N: Numeric>(self, rounding: Rounding) -> N {
-        N::from_word(self.saturated(N::FRACTION, rounding))
+        N::saturating_from_num_round(self, rounding)
     }
 
     #[inline]
     fn to_num_round<N: Numeric>(self, rounding: Rounding) -> N {
-        exact_num(self.outcome(N::FRACTION, rounding).unwrap())
+        N::from_num_round(self, rounding)
     }
 
     #[inline]
     fn strict_to_num_round<N: Numeric>(self, rounding: Rounding) -> N {
-        strict_num(self.outcome(N::FRACTION, rounding).unwrap())
+        N::strict_from_num_round(self, rounding)
     }
 
     #[inline]
     fn unwrapped_to_num_round<N: Numeric>(self, rounding: Rounding) -> N {
-        self.strict_to_num_round(rounding)
+        N::strict_from_num_round(self, rounding)
     }
 }
