@@ -235,7 +235,7 @@ pub use turns::{
     SaturatingTurns, StrictRadians, StrictTurns, UnwrappedRadians, UnwrappedTurns, WrappingRadians,
     WrappingTurns,
 };
-pub use word::{RawWord, SignedWord, UnsignedWord, Word};
+pub use word::{Ordered, RawWord, SignedWord, UnsignedWord, Word};
 
 /// What most programs import: the numbers, and the traits of their calls. The traits whose names std has too, such as
 /// `Wrapping`, stay in scope beside `use std::num::Wrapping`.
@@ -268,7 +268,7 @@ pub mod prelude {
         OverflowingUnsigned,
     };
     pub use crate::{Plain, PlainMulAdd, PlainProducts, PlainSigned, PlainUnsigned};
-    pub use crate::{RawWord, SignedWord, UnsignedWord, Word};
+    pub use crate::{Ordered, RawWord, SignedWord, UnsignedWord, Word};
     pub use crate::{
         Saturating, SaturatingMulAdd, SaturatingProducts, SaturatingRounded, SaturatingSigned,
         SaturatingUnsigned,

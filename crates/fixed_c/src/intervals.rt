@@ -11,7 +11,7 @@ ghost use Rattle.fixed_c.specs.Intervals.{EndsAnswers, difference_in, from_to, i
 
 use crate::answer::Code;
 use fixed_interval::{Interval, add_in, div_in, mul_in, sqrt_in, sub_in};
-use fixed_word::{RawWord, Word};
+use fixed_word::{Ordered, RawWord, Word};
 
 /// Writes the ends of the sums of a number in `a` and one in `b`. Nothing is rounded. Fails with `EndsExchanged` if the
 /// low end of an operand is greater than its high end, and with `OutOfRange` if an end of the result does not fit.
@@ -157,7 +157,7 @@ pub(crate) fn sqrt<T: Word>(a_low: T, a_high: T, frac: u32, low: &mut T, high: &
 
 /// Returns whether the low end is greater than the high end.
 #[inline]
-fn are_exchanged<T: RawWord>(low: T, high: T) -> bool
+fn are_exchanged<T: Ordered>(low: T, high: T) -> bool
     ensures { result ≡ int_lt (T.value high) (T.value low) }
 {
     high < low
@@ -168,12 +168,12 @@ fn are_exchanged<T: RawWord>(low: T, high: T) -> bool
 fn is_below_zero<T: RawWord>(a: T) -> bool
     ensures { result ≡ int_lt (T.value a) (pos 0) }
 {
-    are_exchanged(T::ZERO, a)
+    a.is_below_zero()
 }
 
 /// Returns whether 0 lies between these ends, or is one of them.
 #[inline]
-fn holds_zero<T: RawWord>(low: T, high: T) -> bool
+fn holds_zero<T: RawWord + Ordered>(low: T, high: T) -> bool
     ensures { result ≡ has_zero (from_to (T.value low) (T.value high)) }
 {
     is_at_most(low, T::ZERO) && is_at_most(T::ZERO, high)
@@ -181,7 +181,7 @@ fn holds_zero<T: RawWord>(low: T, high: T) -> bool
 
 /// Returns whether the first number is at most the second.
 #[inline]
-fn is_at_most<T: RawWord>(a: T, b: T) -> bool
+fn is_at_most<T: Ordered>(a: T, b: T) -> bool
     ensures { result ≡ int_le (T.value a) (T.value b) }
 {
     a <= b

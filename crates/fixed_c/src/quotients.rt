@@ -18,7 +18,7 @@ use fixed_word::{Outcome, RawWord, Word};
 pub(crate) fn is_zero<T: RawWord>(b: T) -> bool
     ensures { result ≡ int_eq (T.value b) (pos 0) }
 {
-    b == T::ZERO
+    b.magnitude() == 0
 }
 
 /// Returns `a 2^frac / b`, rounded toward zero. Fails with `FractionPastWidth` if `frac` is greater than the width, and

@@ -34,6 +34,6 @@ fn beside<T: Castable>(word: T, outcome: Outcome<T>) -> Ordering
     match outcome.side {
         Side::Above => Ordering::Less,
         Side::Below => Ordering::Greater,
-        Side::Fits => word.cmp(&outcome.wrapped),
+        Side::Fits => word.to_wide().cmp(&outcome.wrapped.to_wide()),
     }
 }

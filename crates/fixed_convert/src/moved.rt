@@ -43,7 +43,7 @@ fn side_of_sign<S: Castable>(a: S) -> Side
     ensures below { S.value a <ℤ pos 0 → result ≡ Below }
     ensures above { pos 0 <ℤ S.value a → result ≡ Above }
 {
-    if a == S::ZERO {
+    if a.magnitude() == 0 {
         Side::Fits
     } else if a.is_below_zero() {
         Side::Below

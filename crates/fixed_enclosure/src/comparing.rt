@@ -6,9 +6,9 @@ ghost use Rattle.fixed_enclosure.specs.Sets.{ForAll, ForSome};
 
 use crate::enclosure::Enclosure;
 use crate::order::{is_at_most, is_less};
-use fixed_word::RawWord;
+use fixed_word::{Ordered, RawWord};
 
-impl<T: RawWord, const F: u32> Enclosure<T, F> {
+impl<T: RawWord + Ordered, const F: u32> Enclosure<T, F> {
     /// Returns whether each number of this enclosure is less than each number of the other.
     pub fn certainly_lt(self, other: Self) -> bool
         ensures { IsTrue result ↔ ForAll (λ x y. x <ℤ y) (ends_of T.value self) (ends_of T.value other) }

@@ -6,7 +6,7 @@ ghost use Rattle.fixed_interval.specs.Ends.{ends_of};
 use crate::order::is_at_most;
 use fixed_interval::Interval;
 use fixed_num::Fixed;
-use fixed_word::{RawWord, Word};
+use fixed_word::{Ordered, RawWord, Word};
 use std::alloc::AllocError;
 use std::marker::Model;
 
@@ -40,7 +40,7 @@ impl<T: RawWord, const F: u32> Clone for Enclosure<T, F> {
     }
 }
 
-impl<T: RawWord, const F: u32> Enclosure<T, F> {
+impl<T: RawWord + Ordered, const F: u32> Enclosure<T, F> {
     /// Returns the enclosure from `low` to `high`, both included, or `None` if `low` is above `high`.
     pub fn new(low: Fixed<T, F>, high: Fixed<T, F>) -> Option<Self>
         ensures { MatchOption result (T.value high.bits <ℤ T.value low.bits)

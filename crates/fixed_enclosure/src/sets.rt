@@ -9,9 +9,9 @@ ghost use Rattle.fixed_enclosure.specs.Sets.{Contains, common_of, hull_of};
 use crate::enclosure::Enclosure;
 use crate::order::{greater, is_at_most, lesser};
 use fixed_num::Fixed;
-use fixed_word::RawWord;
+use fixed_word::{Ordered, RawWord};
 
-impl<T: RawWord, const F: u32> Enclosure<T, F> {
+impl<T: RawWord + Ordered, const F: u32> Enclosure<T, F> {
     /// Returns the enclosure of a single number.
     pub fn point(number: Fixed<T, F>) -> Self
         ensures { result ≡ record { lo = number.bits; hi = number.bits } }

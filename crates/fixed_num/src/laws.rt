@@ -6,7 +6,7 @@ ghost use Rattle.fixed_word.specs.Format.{InRange, IsWidth, wrap};
 ghost use Rattle.fixed_num.specs.Sizes.{mean_of};
 
 use crate::format::Fixed;
-use fixed_word::RawWord;
+use fixed_word::{Ordered, RawWord};
 use std::hash::Hash;
 
 /// If two numbers are moved by the same amount, their mean moves by that amount.
@@ -15,7 +15,7 @@ pub fn mean_law()
 {}
 
 /// Equality, order and hash of numbers of one format are those of their bits as integers.
-pub fn order_law<T: RawWord, const F: u32>(x: Fixed<T, F>, y: Fixed<T, F>)
+pub fn order_law<T: RawWord + Ordered, const F: u32>(x: Fixed<T, F>, y: Fixed<T, F>)
     ensures equal { IsTrue (⟦<Fixed<T, F> as PartialEq>⟧.eq x y)
         ↔ (T.value x.bits ≡ T.value y.bits) }
     ensures order { ⟦<Fixed<T, F> as Ord>⟧.cmp x y ≡ int_cmp (T.value x.bits) (T.value y.bits) }

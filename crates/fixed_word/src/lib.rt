@@ -29,4 +29,4 @@ pub use policies::{
     checked_of, clamped_of, nearest_of, overflowing_of, saturating_of, strict_of, wrapping_of,
 };
 pub use rounding::Rounding;
-pub use word::{RawWord, SignedWord, UnsignedWord, Valued, Word};
+pub use word::{Ordered, RawWord, SignedWord, UnsignedWord, Valued, Word};

@@ -21,11 +21,11 @@ returns-in-NextPowerOfTwo g c = λ y z h k. rw c.in-NextPowerOfTwo.is (_, refl, 
 
 pub returns-then-eq : goal.returns-then-eq
 unfolding exact
-returns-then-eq g c = λ y z h k. rw c.in-Recip.is (no_row _ _ ((g.met.T.RawWord.eq_law _ _).0 (sym c.eq.ensures ∙ c.if-eq.true) ∙ ap g.T.Valued.value c.ZERO.ensures ∙ g.met.T.RawWord.zero_law))
+returns-then-eq g c = λ y z h k. rw c.in-Recip.is (no_row _ _ ((g.met.T.Ordered.eq_law _ _).0 (sym c.eq.ensures ∙ c.if-eq.true) ∙ ap g.T.Valued.value c.ZERO.ensures ∙ g.met.T.RawWord.zero_law))
 
 pub returns-else-eq : goal.returns-else-eq
 unfolding exact
 returns-else-eq g c = λ y z h k.
     let zero_is : g.T.Valued.value c.ZERO.result ≡ pos 0 = ap g.T.Valued.value c.ZERO.ensures ∙ g.met.T.RawWord.zero_law in
-    let some = not_zero _ _ _ (g.met.T.RawWord.eq_law _ _) zero_is (sym c.eq.ensures ∙ c.if-eq.false) in
+    let some = not_zero _ _ _ (g.met.T.Ordered.eq_law _ _) zero_is (sym c.eq.ensures ∙ c.if-eq.false) in
     rw c.in-Recip.is (divided _ _ _ _ _ _ some c.recip_of.ensures)
