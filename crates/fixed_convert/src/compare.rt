@@ -34,6 +34,14 @@ fn beside<T: Castable>(word: T, outcome: Outcome<T>) -> Ordering
     match outcome.side {
         Side::Above => Ordering::Less,
         Side::Below => Ordering::Greater,
-        Side::Fits => word.to_wide().cmp(&outcome.wrapped.to_wide()),
+        Side::Fits => order_of(word, outcome.wrapped),
     }
+}
+
+/// Returns the order of two words.
+#[inline(always)]
+fn order_of<T: Castable>(a: T, b: T) -> Ordering
+    ensures { result ≡ int_cmp (T.value a) (T.value b) }
+{
+    a.to_wide().cmp(&b.to_wide())
 }
