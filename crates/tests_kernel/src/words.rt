@@ -1,6 +1,6 @@
 //! The eight words through their bounds, outcomes at the ends, and the calls of `Digits` under a count.
 
-use fixed_word::{Count, Digits, RawWord, Side, Silent, Steps, Word, outcome_of};
+use fixed_word::{Count, Digits, Ordered, RawWord, Side, Silent, Steps, Word, outcome_of};
 use std::process::Abort;
 
 /// Whether the value is below 0, and its magnitude.
@@ -19,7 +19,7 @@ fn all_equal(rt: &impl Abort, bits: u32, values: &[Value]) {
 
 /// The constants and the order of a word whose least number is `-least` and whose greatest is
 /// `greatest`.
-fn constants<T: RawWord>(rt: &impl Abort, bits: u32, least: u64, greatest: u64) {
+fn constants<T: RawWord + Ordered>(rt: &impl Abort, bits: u32, least: u64, greatest: u64) {
     let values = [
         (
             "width",
@@ -159,7 +159,7 @@ fn all_counted(rt: &impl Abort, counts: &[Counted]) {
 }
 
 /// Each of the eight calls raises the count by one.
-fn counted<D: Digits<Count> + RawWord>(rt: &impl Abort, greatest: u64) {
+fn counted<D: Digits<Count> + RawWord + Ordered>(rt: &impl Abort, greatest: u64) {
     let mut steps = Steps::new(Count::new());
     let one = <D as RawWord>::ONE;
     let three = D::add(D::add(one, one, &mut steps), one, &mut steps);
