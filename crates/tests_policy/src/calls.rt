@@ -71,11 +71,18 @@ fn checked_by_integer<N: Checked>(op: Op, a: N, k: N::Bits) -> Option<N>
     }
 }
 
+/// Whether the bits are those of 0.
+fn is_zero_bits<T: RawWord>(bits: T) -> bool
+    ensures { IsTrue result ↔ (T.value bits ≡ pos 0) }
+{
+    bits.magnitude() == 0
+}
+
 /// Whether the number is 0.
 fn is_zero<N: Number>(a: N) -> bool
     ensures { IsTrue result ↔ (N.number a ≡ pos 0) }
 {
-    a.to_bits() == <N::Bits as RawWord>::ZERO
+    is_zero_bits(a.to_bits())
 }
 
 /// Whether the number is at least 0.
@@ -162,7 +169,7 @@ fn kept_by_integer<N: Overflowing + Wrapping + Saturating>(
 ) -> Option<((N, bool), N, N)>
     requires { N.FRACTION ≤ N.BITS }
 {
-    if k == <N::Bits as RawWord>::ZERO {
+    if is_zero_bits(k) {
         return None;
     }
     match op {
