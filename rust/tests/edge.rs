@@ -159,6 +159,17 @@ fn generic_numbers() {
     assert_eq!(greatest::<FixedU8<8>>(&[]), (FixedU8::ZERO, 0));
 }
 
+/// The greater bits of two numbers, and whether they have the same bits. Bits are ordered without a bound that says so.
+fn greater_bits<N: Number>(a: N, b: N) -> (N::Bits, bool) {
+    (a.to_bits().max(b.to_bits()), a.to_bits() == b.to_bits())
+}
+
+#[test]
+fn generic_bits() {
+    assert_eq!(greater_bits(GAIN, Format::ZERO), (98304, false));
+    assert_eq!(greater_bits(FixedU8::<8>::MAX, FixedU8::MAX), (255, true));
+}
+
 fn is_plain<T: Clone + Eq + Hash + Debug>(value: T) {
     let values = HashSet::from([value.clone(), value]);
     assert_eq!(values.len(), 1);
