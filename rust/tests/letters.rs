@@ -13,7 +13,7 @@ use std::fs;
 const WRITTEN: &str = include_str!(concat!(env!("OUT_DIR"), "/library.rs"));
 
 /// Forms of sources, and what Rust has in their place.
-const FORMS: [(&str, &str); 12] = [
+const FORMS: [(&str, &str); 13] = [
     ("use std::alloc::AllocError;", ""),
     ("std::alloc", "crate::memory"),
     ("std::num::{nearest_i64_to_f32", "crate::casts::{nearest_i64_to_f32"),
@@ -22,6 +22,7 @@ const FORMS: [(&str, &str); 12] = [
     ("Binary: Copy {", "Binary: Copy + crate::sealed::Sealed {"),
     ("type Unsigned: RawWord", "type Unsigned: UnsignedWord"),
     ("type Signed: RawWord;", "type Signed: SignedWord;"),
+    ("RawWord: Valued {", "RawWord: Valued + Eq + Ord + Hash {"),
     ("use std::marker::Model;", ""),
     ("use thiserror::Error;", ""),
     ("<W: fmt::Write>(", "("),
