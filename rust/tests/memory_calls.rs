@@ -53,6 +53,7 @@ fn kernels<T: Word>() {
         rem_euclid_of(a, b),
     ]);
     black_box([rem_euclid_int_of(a, k, 2), sqrt_of(a, 2)]);
+    black_box([mul_nearest_of(a, b, 2), div_nearest_of(a, b, 2)]);
     black_box([
         overflowing_mul(a, b, 2),
         overflowing_div(a, b, 2),

@@ -244,8 +244,11 @@ fn entries_that_match_nothing() {
         item,
         "rust/script/added.txt:4: nothing matches num/from_outcome::exact_number"
     );
-    let strict = "fixed_kernel/src/powers.rt";
-    let form = without("form", strict, "requires { T.SIGNED ≡ false }", "");
+    let powers = "fixed_kernel/src/powers.rt";
+    let clause = (powers, "requires { T.SIGNED ≡ false }", "");
+    let form = with_changes("form", &[clause, clause])
+        .err()
+        .unwrap_or_default();
     assert!(form.ends_with("nothing matches T.SIGNED ≡ false"), "{form}");
 }
 

@@ -7,7 +7,7 @@ ghost use Rattle.fixed_word.specs.Quotient.{floor_quotient};
 ghost use Rattle.fixed_bits.specs.Digits.{IsRotated, bit_list, byte_list, complement, differ, zip_with};
 
 use crate::pattern::{pattern_of, rotated, word_of};
-use fixed_word::{RawWord, Valued, Word};
+use fixed_word::{Arithmetic, Integer, RawWord, Valued, Word};
 
 /// A word of n bits, seen as its bit list of n digits 0 or 1, and as its byte list of n/8 digits from 0 to 255. Both
 /// lists have the least significant digit first. The calls are those of std with the same names; `and`, `or`, `xor`,
@@ -57,7 +57,7 @@ pub trait BitWord: Word {
         requires { by < Self.BITS }
         ensures { Self.value result ≡ wrap Self.SIGNED Self.BITS (Self.value self *ℤ pos (2 ^ by)) }
     {
-        Self::residue(self.is_below_zero(), (self.magnitude() as u128) << by)
+        Self::cut(self.whole().scaled(by))
     }
 
     /// Returns the value over `2^by`, rounded down. Precondition: `by` is below n.
@@ -65,12 +65,7 @@ pub trait BitWord: Word {
         requires { by < Self.BITS }
         ensures { Self.value result ≡ floor_quotient (Self.value self) (2 ^ by) }
     {
-        let magnitude = self.magnitude();
-        if self.is_below_zero() {
-            Self::residue(true, ((magnitude - 1) >> by) as u128 + 1)
-        } else {
-            Self::residue(false, (magnitude >> by) as u128)
-        }
+        Self::cut(self.whole().floored(by))
     }
 
     /// Returns the bits rotated left: bit i moves to position `i + by` modulo n.

@@ -1,11 +1,17 @@
 -- The power of two over a number meets its equations, and nothing else does.
-use Rattle.std.proofs.Common.{◌≡◌, ◌*◌, ◌/◌, ◌^◌, ◌<◌, ◌≤◌, ℕ, zero, suc, Bool, true, false, max, refl, ap, arith, inl, inr, if◌then◌else◌, nat_le}
+use Rattle.std.proofs.Common.{◌≡◌, ◌+◌, ◌-◌, ◌*◌, ◌/◌, ◌^◌, ◌<◌, ◌≤◌, ◌-ℤ◌, ◌≤ℤ◌, ◌<ℤ◌, ℕ, ℤ, zero, suc, Bool, true, false, max, pos, negsuc, refl, ap, sym, ◌∙◌, arith, inl, inr, if◌then◌else◌, nat_le}
 use Rattle.std.specs.Int.{IsPowerOfTwo}
-use Rattle.std.proofs.lemmas.Nat.{pow_pos}
+use Rattle.std.proofs.lemmas.Int.{ints}
+use Rattle.std.proofs.lemmas.Nat.{div-mul-add, pow-add, pow_pos}
 use Rattle.std.proofs.Math.Nat.{pow-le-pow_right}
 use Rattle.std.proofs.lemmas.Bool.{cases_lt}
 use Rattle.std.proofs.lemmas.Bool.Decides.{nat_tests}
-use Rattle.fixed_kernel.specs.Rows.{power_over}
+use Rattle.fixed_word.specs.Digit.{IsLeadingZeros}
+use Rattle.fixed_word.specs.Format.{InRange, highest, wrap}
+use Rattle.fixed_word.specs.Quotient.{floor_quotient}
+use Rattle.fixed_word.proofs.Wraps.{wrap-wrap, wrap_same}
+use Rattle.fixed_kernel.specs.Rows.{exact_next_power_of_two, power_over}
+use Rattle.fixed_kernel.proofs.WholeRoom.{less_times}
 
 -- the facts of a power over n
 pub record IsOver (n p : ℕ) : Type 0 where
@@ -45,7 +51,7 @@ power_below n p q a b lt =
           omega (arith, m, p_is, q_is)
     ]
 
-pub power_unique : (n p : ℕ) → IsOver n p → p ≡ power_over n
+power_unique : (n p : ℕ) → IsOver n p → p ≡ power_over n
 power_unique n p h =
     let is = power_meets n in
     elim (cases_lt p (power_over n)) [
@@ -55,3 +61,61 @@ power_unique n p h =
         | inr g2 ↦ omega arith
       ]
     ]
+
+-- ---- 1 less than the power over the number of an unsigned word
+
+pub low_power : (a : ℤ) → pos 0 ≤ℤ a → a ≤ℤ pos 1 → pos 0 ≡ exact_next_power_of_two a -ℤ pos 1
+unfolding power_over
+low_power (pos zero) h l = refl
+low_power (pos (suc zero)) h l = refl
+low_power (pos (suc (suc a))) h l = absurd (omega (arith, ints))
+low_power (negsuc a) h l = absurd (omega (arith, ints))
+
+-- the word of 1 less
+pub one_less : (s : Bool) (n : ℕ) (a one b u : ℤ) → 0 < n → one ≡ pos 1 → b ≡ wrap s n (a -ℤ one) → u ≡ wrap false n b → pos 1 <ℤ a → InRange false n a → u ≡ a -ℤ pos 1
+one_less s n a one b u h e f g l r =
+    let low = r.0 in
+    let high = r.1 in
+    let is : u ≡ wrap false n (wrap s n (a -ℤ pos 1)) = g ∙ ap (wrap false n) f ∙ ap (λ z. wrap false n (wrap s n (a -ℤ z))) e in
+    is ∙ wrap-wrap false s n (a -ℤ pos 1) h ∙ wrap_same false n (a -ℤ pos 1) h (omega (arith, ints), omega (arith, ints))
+
+-- it has a digit that is not 0
+pub some_digit : (n k : ℕ) (a u : ℤ) → u ≡ a -ℤ pos 1 → pos 1 <ℤ a → IsLeadingZeros n u k → k < n
+some_digit n k a u e l z = elim (cases_lt k n) [
+  | inl less ↦ less
+  | inr more ↦
+      let none : n - k ≡ 0 = omega arith in
+      let small = rw none at z.1 in
+      absurd (omega (arith, ints))
+]
+
+zeros_over : (n k : ℕ) (a u : ℤ) → u ≡ a -ℤ pos 1 → pos 1 <ℤ a → IsLeadingZeros n u k → exact_next_power_of_two a ≡ pos (2 ^ (n - k))
+zeros_over n k (pos a) u e l z =
+    let less = z.1 in
+    let more = z.2 in
+    let lower : a ≤ 2 ^ (n - k) = omega (arith, ints) in
+    let upper : 2 ^ (n - k) / 2 < max 1 a = omega (arith, ints) in
+    ap pos (sym (power_unique a (2 ^ (n - k)) (record { power = (n - k, refl); lower = lower; upper = upper })))
+zeros_over n k (negsuc a) u e l z = absurd (omega (arith, ints))
+
+full_shifted : (n k : ℕ) → k ≤ n → (2 ^ n - 1) / 2 ^ k ≡ 2 ^ (n - k) - 1
+full_shifted n k l =
+    let some = pow_pos k in
+    let more = pow_pos (n - k) in
+    let e : n - k + k ≡ n = omega arith in
+    let p : 2 ^ n ≡ 2 ^ (n - k) * 2 ^ k = ap (λ (i : ℕ). 2 ^ i) (sym e) ∙ pow-add 2 (n - k) k in
+    let t = less_times (2 ^ (n - k)) (2 ^ k) more in
+    let d : 2 ^ n - 1 ≡ (2 ^ (n - k) - 1) * 2 ^ k + (2 ^ k - 1) = omega arith in
+    ap (λ (i : ℕ). i / 2 ^ k) d ∙ div-mul-add (2 ^ (n - k) - 1) (2 ^ k) (2 ^ k - 1) (omega arith)
+
+-- what is left of the greatest word m, moved down by the leading zeros of 1 less
+pub high_power : (s : Bool) (n k : ℕ) (a u m f r : ℤ) → s ≡ false → 0 < n → u ≡ a -ℤ pos 1 → pos 1 <ℤ a → IsLeadingZeros n u k → m ≡ wrap false n (highest s n) → f ≡ floor_quotient m (2 ^ k) → r ≡ wrap s n f → r ≡ exact_next_power_of_two a -ℤ pos 1
+high_power s n k a u m f r unsigned h e l z greatest moved left =
+    let some = pow_pos (n - k) in
+    let all = pow_pos n in
+    let p = pow-le-pow_right {n = 2} (omega arith) {i = n - k} {j = n} (omega arith) in
+    let top : m ≡ pos (2 ^ n - 1) = greatest ∙ rw unsigned (wrap_same false n (pos (2 ^ n - 1)) h (omega (arith, ints), omega (arith, ints))) in
+    let down : f ≡ pos (2 ^ (n - k) - 1) = moved ∙ rw top (ap pos (full_shifted n k z.0)) in
+    let same : r ≡ pos (2 ^ (n - k) - 1) = left ∙ rw (down, unsigned) (wrap_same false n (pos (2 ^ (n - k) - 1)) h (omega (arith, ints), omega (arith, ints))) in
+    let less : pos (2 ^ (n - k) - 1) ≡ pos (2 ^ (n - k)) -ℤ pos 1 = omega (arith, ints) in
+    same ∙ less ∙ ap (λ (x : ℤ). x -ℤ pos 1) (sym (zeros_over n k a u e l z))

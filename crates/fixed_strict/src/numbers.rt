@@ -1,11 +1,12 @@
 //! Saturation of an outcome, as a number of a format.
 
-ghost use Rattle.std.specs.Prelude.{◌≡◌, ℤ, Some};
+ghost use Rattle.std.specs.Prelude.{◌≡◌, ◌^◌, ◌≤ℤ◌, ◌<ℤ◌, ℤ, Some, pos};
+ghost use Rattle.std.specs.Int.{int_min};
 ghost use Rattle.fixed_word.specs.Standing.{StandsFor};
 ghost use Rattle.fixed_word.specs.Policies.{saturating};
 
 use fixed_num::{Fixed, saturating_number};
-use fixed_word::{Outcome, RawWord, Valued, Word, clamped_of};
+use fixed_word::{Digits, Outcome, RawWord, Silent, Steps, Valued, Word, clamped_of};
 
 /// Returns the nearest number that fits, by a choice at each end of the range.
 pub(crate) fn clamped_number<T: Word, const F: u32>(outcome: Outcome<T>) -> Fixed<T, F>
@@ -17,8 +18,8 @@ pub(crate) fn clamped_number<T: Word, const F: u32>(outcome: Outcome<T>) -> Fixe
     }
 }
 
-/// Returns the nearest number that fits to a product or a distance. It chooses at each end of the range for the words
-/// whose loops are faster that way.
+/// Returns the nearest number that fits to a product. It chooses at each end of the range for the words whose loops are
+/// faster that way.
 pub(crate) fn held_number<T: Word, const F: u32>(outcome: Outcome<T>) -> Fixed<T, F>
     ensures { (x : ℤ) → StandsFor T.value T.SIGNED T.BITS x outcome
         → Some (T.value result.bits) ≡ saturating T.SIGNED T.BITS (Some x) }
@@ -28,4 +29,29 @@ pub(crate) fn held_number<T: Word, const F: u32>(outcome: Outcome<T>) -> Fixed<T
     } else {
         saturating_number(outcome)
     }
+}
+
+/// Returns the nearest number that fits to a number from 0 to `2^n - 1`. Loops over words of 8 and 16 bits find the
+/// lesser of two unsigned words in one or two instructions.
+pub(crate) fn capped_number<T: Word, const F: u32>(outcome: Outcome<T>) -> Fixed<T, F>
+    ensures { (x : ℤ) → pos 0 ≤ℤ x → x <ℤ pos (2 ^ T.BITS)
+        → StandsFor T.value T.SIGNED T.BITS x outcome
+        → Some (T.value result.bits) ≡ saturating T.SIGNED T.BITS (Some x) }
+{
+    if T::BITS < 32 {
+        Fixed {
+            bits: T::from_unsigned(lesser(outcome.wrapped.to_unsigned(), T::MAX.to_unsigned())),
+        }
+    } else {
+        held_number(outcome)
+    }
+}
+
+/// Returns the lesser of two unsigned words. LLVM knows it as such where the second one is asked for first.
+#[inline]
+fn lesser<D: Digits<Silent>>(a: D, b: D) -> D
+    ensures { D.value result ≡ int_min (D.value a) (D.value b) }
+{
+    let mut steps = Steps::new(Silent::new());
+    if b.at_most(a, &mut steps) { b } else { a }
 }

@@ -6,11 +6,11 @@ ghost use Rattle.fixed_word.specs.Quotient.{euclidean_remainder, truncated_quoti
 ghost use Rattle.fixed_kernel.specs.Root.{root_of};
 ghost use Rattle.fixed_kernel.specs.Rows.{exact_abs, exact_div, exact_div_euclid, exact_mul, exact_next_multiple_of, exact_recip, exact_signum, units};
 
-use crate::numbers::{clamped_number, held_number};
+use crate::numbers::{capped_number, clamped_number, held_number};
 use fixed_kernel::{
-    abs_of, add_of, dist_of, div_euclid_int_of, div_euclid_of, div_int_of, div_of, mixed_add_of,
-    mixed_sub_of, mul_int_of, mul_of, neg_of, next_multiple_of_of, recip_of, rem_euclid_int_of,
-    signum_of, sqrt_of, sub_of,
+    abs_of, add_of, dist_of, div_euclid_int_of, div_euclid_of, div_int_of, div_nearest_of,
+    mixed_add_of, mixed_sub_of, mul_int_of, mul_nearest_of, mul_of, neg_of, next_multiple_of_of,
+    recip_of, rem_euclid_int_of, signum_of, sqrt_of, sub_of,
 };
 use fixed_num::{Fixed, Held, Number, saturating_number};
 use fixed_word::{RawWord, SignedWord, UnsignedWord, Word};
@@ -121,11 +121,18 @@ impl<T: Word, const F: u32> Saturating for Fixed<T, F> {
     }
 
     fn saturating_mul(self, rhs: Self) -> Self {
+        if T::BITS == 8 {
+            return Fixed {
+                bits: mul_nearest_of(self.bits, rhs.bits, F),
+            };
+        }
         held_number(mul_of(self.bits, rhs.bits, F))
     }
 
     fn saturating_div(self, rhs: Self) -> Self {
-        saturating_number(div_of(self.bits, rhs.bits, F))
+        Fixed {
+            bits: div_nearest_of(self.bits, rhs.bits, F),
+        }
     }
 
     fn saturating_recip(self) -> Self {
@@ -137,7 +144,9 @@ impl<T: Word, const F: u32> Saturating for Fixed<T, F> {
     }
 
     fn saturating_dist(self, other: Self) -> Self {
-        held_number(dist_of(self.bits, other.bits))
+        // That both are in range bounds their distance.
+        let _signs = (self.bits.is_below_zero(), other.bits.is_below_zero());
+        capped_number(dist_of(self.bits, other.bits))
     }
 
     fn saturating_next_multiple_of(self, other: Self) -> Self {
@@ -191,7 +200,9 @@ pub trait SaturatingSigned: Saturating {
 
 impl<T: SignedWord, const F: u32> SaturatingSigned for Fixed<T, F> {
     fn saturating_abs(self) -> Self {
-        clamped_number(abs_of(self.bits))
+        // That it is in range bounds its magnitude.
+        let _sign = self.bits.is_below_zero();
+        capped_number(abs_of(self.bits))
     }
 
     fn saturating_signum(self) -> Self {

@@ -26,7 +26,8 @@ pub use outcome::{
     Outcome, Side, outcome_of, outcome_of_kept, outcome_of_magnitude, outcome_of_whole,
 };
 pub use policies::{
-    checked_of, clamped_of, nearest_of, overflowing_of, saturating_of, strict_of, wrapping_of,
+    checked_of, clamped_of, nearest_of, nearest_of_whole, overflowing_of, saturating_of, strict_of,
+    wrapping_of,
 };
 pub use rounding::Rounding;
 pub use word::{Ordered, RawWord, SignedWord, UnsignedWord, Valued, Word};

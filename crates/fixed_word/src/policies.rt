@@ -1,11 +1,13 @@
 //! What each policy makes of the number that an outcome stands for.
 
-ghost use Rattle.std.specs.Prelude.{◌≡◌, ℤ, Some, option_map};
+ghost use Rattle.std.specs.Prelude.{◌≡◌, ℤ, Some, option_map, int_lt, if◌then◌else◌};
 ghost use Rattle.fixed_word.specs.declared.outcome.Side.TheVariants.{Above, Below};
 ghost use Rattle.fixed_word.specs.Format.{clamp, highest, lowest};
 ghost use Rattle.fixed_word.specs.Standing.{StandsFor};
 ghost use Rattle.fixed_word.specs.Policies.{checked, overflowing, wrapping, saturating};
 
+use crate::arithmetic::Arithmetic;
+use crate::integer::Integer;
 use crate::outcome::{Outcome, Side};
 use crate::word::{RawWord, Word};
 
@@ -68,6 +70,29 @@ fn end_on<T: RawWord>(side: Side) -> T
     match side {
         Side::Below => T::MIN,
         _ => T::MAX,
+    }
+}
+
+/// Returns the word nearest to an integer.
+#[inline]
+pub fn nearest_of_whole<T: Word>(whole: T::Whole) -> T
+    ensures { T.value result ≡ clamp T.SIGNED T.BITS (T.Whole.value whole) }
+{
+    T::cut(between(T::MIN.whole(), T::MAX.whole(), whole))
+}
+
+/// Returns the number from `least` to `greatest` that is nearest to an integer.
+#[inline]
+fn between<I: Integer>(least: I, greatest: I, number: I) -> I
+    ensures { I.value result ≡ (if int_lt (I.value number) (I.value least) then I.value least
+        else (if int_lt (I.value greatest) (I.value number) then I.value greatest else I.value number)) }
+{
+    if number.is_below(least) {
+        least
+    } else if greatest.is_below(number) {
+        greatest
+    } else {
+        number
     }
 }
 

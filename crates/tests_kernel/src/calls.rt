@@ -132,6 +132,18 @@ pub fn ratio<T: Word>(lhs: T, rhs: T, frac: u32) -> Option<(T, bool)> {
     }
 }
 
+/// The words nearest to `lhs rhs` and to `lhs / rhs`.
+pub fn nearest<T: Word>(lhs: T, rhs: T, frac: u32) -> Option<(T, T)> {
+    if frac <= T::BITS && rhs.magnitude() != 0 {
+        Some((
+            mul_nearest_of(lhs, rhs, frac),
+            div_nearest_of(lhs, rhs, frac),
+        ))
+    } else {
+        None
+    }
+}
+
 /// `lhs mul + add`, with its verdict, at a length from minus the width to twice the width.
 pub fn sum_of_product<T: Word>(lhs: T, mul: T, add: T, length: i32) -> Option<(T, bool)> {
     let width = T::BITS;

@@ -1,8 +1,9 @@
 //! What the policies make of a number on both sides of each end, through the bound.
 
+use super::calls::nearest;
 use fixed_word::{
-    Side, Word, checked_of, clamped_of, outcome_of, overflowing_of, saturating_of, strict_of,
-    wrapping_of,
+    Side, Word, checked_of, clamped_of, nearest_of_whole, outcome_of, overflowing_of,
+    saturating_of, strict_of, wrapping_of,
 };
 
 /// What checked, overflowing, wrapping and both forms of saturating make of a number, and strict where the
@@ -59,4 +60,62 @@ fn unsigned_ends(rt: HostRuntime) {
         let wanted = (exact, (wrapped, !fits), wrapped, (nearest, nearest), exact);
         assert!(rt; found == wanted, "{below_zero} {magnitude}");
     }
+}
+
+#[test]
+fn nearest_bytes(rt: HostRuntime) {
+    for (a, b, product, quotient) in [
+        (24_i8, 36, 54, 10),
+        (64, 32, 127, 32),
+        (-128, 127, -128, -16),
+        (-128, -1, 8, 127),
+        (1, -3, -1, -5),
+        (-1, 127, -8, 0),
+    ] {
+        assert!(rt; nearest(a, b, 4) == Some((product, quotient)), "{a} {b}");
+    }
+    for (a, b, product, quotient) in [(24_u8, 36, 54, 10), (255, 255, 255, 16), (255, 1, 15, 255)] {
+        assert!(rt; nearest(a, b, 4) == Some((product, quotient)), "{a} {b}");
+    }
+}
+
+#[test]
+fn nearest_words(rt: HostRuntime) {
+    let least = i64::MIN;
+    let most = u64::MAX;
+    assert!(rt;
+        nearest(-32768_i16, -32768, 15) == Some((32767, 32767)),
+        "i16"
+    );
+    assert!(rt;
+        nearest(-32768_i16, -32768, 16) == Some((16384, 32767)),
+        "i16, without integer bits"
+    );
+    assert!(rt;
+        nearest(65535_u16, 65535, 16) == Some((65534, 65535)),
+        "u16"
+    );
+    assert!(rt;
+        nearest(1_i32 << 30, -4, 0) == Some((-2147483648, -268435456)),
+        "i32"
+    );
+    assert!(rt; nearest(7_u32, 2, 1) == Some((7, 7)), "u32");
+    assert!(rt; nearest(least, -1, 0) == Some((i64::MAX, i64::MAX)), "i64");
+    assert!(rt; nearest(most, most, 64) == Some((most - 1, most)), "u64");
+}
+
+#[test]
+fn nearest_to_integers(rt: HostRuntime) {
+    for (whole, word) in [
+        (-32768_i16, -128_i8),
+        (-129, -128),
+        (-128, -128),
+        (127, 127),
+        (128, 127),
+    ] {
+        assert!(rt; nearest_of_whole::<i8>(whole) == word, "{whole}");
+    }
+    assert!(rt; nearest_of_whole::<u8>(256) == 255, "u8");
+    assert!(rt; nearest_of_whole::<i64>(-1 << 100) == i64::MIN, "i64");
+    assert!(rt; nearest_of_whole::<u64>(1 << 100) == u64::MAX, "u64");
 }
