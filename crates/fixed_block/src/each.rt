@@ -1,10 +1,12 @@
 //! Loops over one block.
 
-ghost use Rattle.std.specs.Prelude.{◌↔◌, IsTrue, ◌≡◌, ℤ, map};
+ghost use Rattle.std.specs.Prelude.{◌↔◌, IsTrue, ◌≡◌, ◌≤◌, ℤ, length, map};
+ghost use Rattle.std.specs.List.{list_all};
+ghost use Rattle.fixed_word.specs.Format.{clamp, fits, wrap};
 ghost use Rattle.fixed_word.specs.Standing.{StandsFor};
-ghost use Rattle.fixed_block.specs.Blocks.{checked_block, misfit, saturating_block, wrapping_block};
+ghost use Rattle.fixed_block.specs.Blocks.{checked_block, fitting, misfit, saturating_block, wrapping_block};
 
-use fixed_word::{Outcome, Word, checked_of, saturating_of};
+use fixed_word::{Outcome, Word, checked_of, nearest_of, overflowing_of};
 
 /// An operation on one number, with what it needs besides the number, such as a factor.
 pub trait Each<T: Word> {
@@ -22,6 +24,32 @@ pub trait Each<T: Word> {
     fn outcome(&self, x: T) -> Outcome<T>
         requires { each_ready self.now }
         ensures { StandsFor T.value T.SIGNED T.BITS (exact self.now (T.value x)) result };
+
+    /// Returns whether checked loops are faster where they test many numbers before they write them. The answer changes
+    /// nothing else.
+    #[inline(always)]
+    fn is_tested_first(&self) -> bool {
+        T::BITS <= 16
+    }
+
+    /// Returns the number of the word that differs from the exact result by a multiple of `2^n` units, where n is the
+    /// width. Precondition: the operation is ready.
+    #[inline(always)]
+    fn wrapped(&self, x: T) -> T
+        requires { each_ready self.now }
+        ensures { T.value result ≡ wrap T.SIGNED T.BITS (exact self.now (T.value x)) }
+    {
+        self.outcome(x).wrapped
+    }
+
+    /// Returns the number of the word that is nearest to the exact result. Precondition: the operation is ready.
+    #[inline(always)]
+    fn nearest(&self, x: T) -> T
+        requires { each_ready self.now }
+        ensures { T.value result ≡ clamp T.SIGNED T.BITS (exact self.now (T.value x)) }
+    {
+        nearest_of(self.outcome(x))
+    }
 }
 
 /// Replaces each number by the number of the word that is nearest to the exact result. Precondition: the operation is
@@ -32,7 +60,7 @@ pub fn saturating_each<T: Word, O: Each<T>>(operation: &O, block: &mut [T])
         ≡ saturating_block T.SIGNED T.BITS (map (O.exact operation.now) (map T.value block.old)) }
 {
     for item in block.iter_mut() {
-        *item = saturating_of(operation.outcome(*item));
+        *item = operation.nearest(*item);
     }
 }
 
@@ -44,7 +72,7 @@ pub fn wrapping_each<T: Word, O: Each<T>>(operation: &O, block: &mut [T])
         ≡ wrapping_block T.SIGNED T.BITS (map (O.exact operation.now) (map T.value block.old)) }
 {
     for item in block.iter_mut() {
-        *item = operation.outcome(*item).wrapped;
+        *item = operation.wrapped(*item);
     }
 }
 
@@ -57,6 +85,21 @@ pub fn checked_each<T: Word, O: Each<T>>(operation: &O, block: &mut [T]) -> Opti
     ensures block { map T.value block.new
         ≡ checked_block T.SIGNED T.BITS (map (O.exact operation.now) (map T.value block.old)) (map T.value block.old) }
 {
+    if operation.is_tested_first() {
+        checked_after_test(operation, block)
+    } else {
+        checked_singly(operation, block)
+    }
+}
+
+/// Does what `checked_each` does, and writes each number before it looks at the next.
+#[inline(always)]
+fn checked_singly<T: Word, O: Each<T>>(operation: &O, block: &mut [T]) -> Option<usize>
+    requires { O.each_ready operation.now }
+    ensures place { result ≡ misfit T.SIGNED T.BITS (map (O.exact operation.now) (map T.value block.old)) }
+    ensures block { map T.value block.new
+        ≡ checked_block T.SIGNED T.BITS (map (O.exact operation.now) (map T.value block.old)) (map T.value block.old) }
+{
     for at in 0..block.len() {
         match checked_of(operation.outcome(block[at])) {
             Some(number) => block[at] = number,
@@ -64,4 +107,68 @@ pub fn checked_each<T: Word, O: Each<T>>(operation: &O, block: &mut [T]) -> Opti
         }
     }
     None
+}
+
+/// Does what `checked_each` does, and writes all numbers after the tests.
+#[inline(always)]
+fn checked_after_test<T: Word, O: Each<T>>(operation: &O, block: &mut [T]) -> Option<usize>
+    requires { O.each_ready operation.now }
+    ensures place { result ≡ misfit T.SIGNED T.BITS (map (O.exact operation.now) (map T.value block.old)) }
+    ensures block { map T.value block.new
+        ≡ checked_block T.SIGNED T.BITS (map (O.exact operation.now) (map T.value block.old)) (map T.value block.old) }
+{
+    let fit = fitting_of(operation, block);
+    wrapping_each(operation, &mut block[..fit]);
+    if fit == block.len() { None } else { Some(fit) }
+}
+
+/// Returns how many exact results at the front of a block fit. It tests 64 numbers at once, since a loop that stops at
+/// none of them takes many in one instruction. Precondition: the operation is ready.
+#[inline(always)]
+fn fitting_of<T: Word, O: Each<T>>(operation: &O, block: &[T]) -> usize
+    requires { O.each_ready operation.now }
+    ensures value { result ≡ fitting T.SIGNED T.BITS (map (O.exact operation.now) (map T.value block.now)) }
+    ensures within { result ≤ length block.now }
+{
+    let mut at = 0;
+    while block.len() - at >= 64 && all_fit(operation, &block[at..at + 64]) {
+        at += 64;
+    }
+    at + fitting_singly(operation, &block[at..])
+}
+
+/// Returns whether the exact results of all numbers of a block fit. Precondition: the operation is ready.
+#[inline(always)]
+fn all_fit<T: Word, O: Each<T>>(operation: &O, block: &[T]) -> bool
+    requires { O.each_ready operation.now }
+    ensures { result ≡ list_all (fits T.SIGNED T.BITS) (map (O.exact operation.now) (map T.value block.now)) }
+{
+    let mut all = true;
+    for x in block {
+        all &= fits_of(operation.outcome(*x));
+    }
+    all
+}
+
+/// Does what `fitting_of` does, number by number.
+#[inline]
+fn fitting_singly<T: Word, O: Each<T>>(operation: &O, block: &[T]) -> usize
+    requires { O.each_ready operation.now }
+    ensures value { result ≡ fitting T.SIGNED T.BITS (map (O.exact operation.now) (map T.value block.now)) }
+    ensures within { result ≤ length block.now }
+{
+    for at in 0..block.len() {
+        if !fits_of(operation.outcome(block[at])) {
+            return at;
+        }
+    }
+    block.len()
+}
+
+/// Returns whether the exact result of an outcome fits.
+#[inline(always)]
+pub(crate) fn fits_of<T: Word>(outcome: Outcome<T>) -> bool
+    ensures { (x : ℤ) → StandsFor T.value T.SIGNED T.BITS x outcome → result ≡ fits T.SIGNED T.BITS x }
+{
+    !overflowing_of(outcome).1
 }

@@ -1,6 +1,6 @@
 //! The operations on blocks.
 
-ghost use Rattle.std.specs.Prelude.{◌≤◌, ◌+ℤ◌, ◌-ℤ◌, ◌*ℤ◌, neg_ℤ};
+ghost use Rattle.std.specs.Prelude.{◌≡◌, ◌≤◌, ◌+ℤ◌, ◌-ℤ◌, ◌*ℤ◌, neg_ℤ};
 ghost use Rattle.fixed_convert.specs.Convert.{rounded_convert};
 ghost use Rattle.fixed_kernel.specs.Rows.{exact_abs, exact_mul, exact_mul_add};
 
@@ -8,7 +8,32 @@ use crate::each::Each;
 use crate::pairs::Pairs;
 use fixed_convert::{Castable, convert_round_of};
 use fixed_kernel::{abs_of, add_of, dist_of, mul_add_of, mul_int_of, mul_of, neg_of, sub_of};
-use fixed_word::{Arithmetic, Integer, Outcome, Rounding, SignedWord, Word, outcome_of_whole};
+use fixed_word::{
+    Arithmetic, Integer, Outcome, RawWord, Rounding, SignedWord, Valued, Word, nearest_of,
+    nearest_of_whole, outcome_of_whole,
+};
+
+/// Returns a factor whose product with `x` is that of `by`. For signed words of 16 bits it is 0 if `x` is 0. A factor
+/// that is chosen for each number stays a word of 16 bits in a loop, which multiplies such words in half the steps: one
+/// that never changes would be made an integer of 32 bits before the loop.
+#[inline(always)]
+fn factor_for<T: Word>(x: T, by: T) -> T
+    ensures { T.value x *ℤ T.value result ≡ T.value x *ℤ T.value by }
+{
+    if T::SIGNED && T::BITS == 16 && x == T::ZERO {
+        T::ZERO
+    } else {
+        by
+    }
+}
+
+/// Returns the product of two words. Loops over short words take many such products in one instruction.
+#[inline(always)]
+fn whole_product<T: Word>(x: T, k: T) -> T::Whole
+    ensures { T.Whole.value result ≡ T.value x *ℤ T.value k }
+{
+    x.whole().times(k.whole())
+}
 
 /// The negative of `x`.
 #[derive(Clone, Copy, Debug)]
@@ -27,6 +52,11 @@ impl<T: Word> Each<T> for Neg {
     #[inline(always)]
     fn outcome(&self, x: T) -> Outcome<T> {
         neg_of(x)
+    }
+
+    #[inline(always)]
+    fn is_tested_first(&self) -> bool {
+        T::BITS <= 32
     }
 }
 
@@ -47,6 +77,11 @@ impl<T: SignedWord> Each<T> for Abs {
     #[inline(always)]
     fn outcome(&self, x: T) -> Outcome<T> {
         abs_of(x)
+    }
+
+    #[inline(always)]
+    fn is_tested_first(&self) -> bool {
+        T::BITS <= 32
     }
 }
 
@@ -73,6 +108,21 @@ impl<T: Word> Each<T> for Scale<T> {
     fn outcome(&self, x: T) -> Outcome<T> {
         mul_of(x, self.by, self.frac)
     }
+
+    #[inline(always)]
+    fn is_tested_first(&self) -> bool {
+        T::BITS <= 16 || (T::BITS == 32 && !T::SIGNED)
+    }
+
+    #[inline(always)]
+    fn wrapped(&self, x: T) -> T {
+        mul_of(x, factor_for(x, self.by), self.frac).wrapped
+    }
+
+    #[inline(always)]
+    fn nearest(&self, x: T) -> T {
+        nearest_of(mul_of(x, factor_for(x, self.by), self.frac))
+    }
 }
 
 /// The product `x k`, for an integer `k`.
@@ -94,7 +144,20 @@ impl<T: Word> Each<T> for MulInt<T> {
 
     #[inline(always)]
     fn outcome(&self, x: T) -> Outcome<T> {
-        mul_int_of(x, self.k)
+        if T::BITS > 16 {
+            mul_int_of(x, self.k)
+        } else {
+            outcome_of_whole(whole_product(x, self.k))
+        }
+    }
+
+    #[inline(always)]
+    fn nearest(&self, x: T) -> T {
+        if T::BITS > 16 {
+            nearest_of(mul_int_of(x, self.k))
+        } else {
+            nearest_of_whole(whole_product(x, factor_for(x, self.k)))
+        }
     }
 }
 
@@ -123,6 +186,11 @@ impl<T: Castable + Word> Each<T> for Convert {
     fn outcome(&self, x: T) -> Outcome<T> {
         convert_round_of(x, self.from, self.to, self.rounding)
     }
+
+    #[inline(always)]
+    fn is_tested_first(&self) -> bool {
+        T::BITS <= 32 || !T::SIGNED
+    }
 }
 
 /// A conversion to at least as many fraction bits, which rounds nothing: each number is shifted left by `to - from`.
@@ -146,6 +214,11 @@ impl<T: Castable + Word> Each<T> for Raise {
     #[inline(always)]
     fn outcome(&self, x: T) -> Outcome<T> {
         outcome_of_whole(x.whole().scaled(self.convert.to - self.convert.from))
+    }
+
+    #[inline(always)]
+    fn is_tested_first(&self) -> bool {
+        T::BITS <= 32 || !T::SIGNED
     }
 }
 
@@ -254,5 +327,10 @@ impl<T: Word> Pairs<T> for MulAdd<T> {
     #[inline(always)]
     fn outcome(&self, x: T, y: T) -> Outcome<T> {
         mul_add_of(y, self.by, x, self.frac)
+    }
+
+    #[inline(always)]
+    fn wrapped(&self, x: T, y: T) -> T {
+        mul_add_of(y, factor_for(y, self.by), x, self.frac).wrapped
     }
 }

@@ -1,5 +1,4 @@
-use Rattle.std.proofs.Common.{get_or, arith}
-use Rattle.std.proofs.lemmas.Option.{same_Some}
+use Rattle.std.proofs.Common.{arith}
 use Rattle.fixed_word.specs.Format.{clamp}
 use Rattle.fixed_block.proofs.Fronts.{each_step}
 use Rattle.fixed_block.proofs.each.saturating_each.Goals as goal
@@ -11,5 +10,5 @@ loop-item-preserved g c =
     let now = c.loop-item.block in
     let i = c.loop-item.item-index in
     let x = c.item-item.result in
-    each_step value (clamp g.T.RawWord.SIGNED g.T.Valued.BITS) exact c.args.block.now now i x c.saturating_of.result c.loop-item.invariant (omega arith)
-    (same_Some _ _ (c.saturating_of.ensures (exact (value (get_or now i x))) c.outcome.ensures))
+    each_step value (clamp g.T.RawWord.SIGNED g.T.Valued.BITS) exact c.args.block.now now i x c.nearest.result c.loop-item.invariant (omega arith)
+    c.nearest.ensures

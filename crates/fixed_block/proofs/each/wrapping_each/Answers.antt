@@ -5,5 +5,5 @@ use Rattle.fixed_block.proofs.each.wrapping_each.Goals as goal
 
 pub loop-item-preserved : goal.loop-item-preserved
 loop-item-preserved g c =
-    each_step g.T.Valued.value (wrap g.T.RawWord.SIGNED g.T.Valued.BITS) (g.O.Each.exact c.args.operation.now) c.args.block.now c.loop-item.block c.loop-item.item-index c.item-item.result c.outcome.result.wrapped
-    c.loop-item.invariant (omega arith) c.outcome.ensures.wrapped
+    each_step g.T.Valued.value (wrap g.T.RawWord.SIGNED g.T.Valued.BITS) (g.O.Each.exact c.args.operation.now) c.args.block.now c.loop-item.block c.loop-item.item-index c.item-item.result c.wrapped.result
+    c.loop-item.invariant (omega arith) c.wrapped.ensures

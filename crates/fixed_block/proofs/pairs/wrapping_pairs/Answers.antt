@@ -11,8 +11,8 @@ loop-at-preserved g c =
     let exact = g.O.Pairs.exact c.args.operation.now in
     let x = c.index-block-at.result in
     let o = c.index-others-at.result in
-    pair_step value (wrap g.T.RawWord.SIGNED g.T.Valued.BITS) exact c.args.block.now c.args.others.now c.loop-at.block c.loop-at.at x o c.outcome.result.wrapped c.requires.lengths c.index-block-at.is c.index-others-at.is c.loop-at.invariant (omega arith)
-    c.outcome.ensures.wrapped
+    pair_step value (wrap g.T.RawWord.SIGNED g.T.Valued.BITS) exact c.args.block.now c.args.others.now c.loop-at.block c.loop-at.at x o c.wrapped.result c.requires.lengths c.index-block-at.is c.index-others-at.is c.loop-at.invariant (omega arith)
+    c.wrapped.ensures
 
 pub returns : goal.returns
 returns g c =

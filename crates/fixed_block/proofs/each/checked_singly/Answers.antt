@@ -2,7 +2,7 @@ use Rattle.std.proofs.Common.{map, ◌∙◌, sym, ap, arith}
 use Rattle.std.specs.Option.{option_map}
 use Rattle.std.proofs.lemmas.List.{length-map}
 use Rattle.fixed_block.proofs.Fronts.{each_here, each_long, ends, goes_on, stops, written}
-use Rattle.fixed_block.proofs.each.checked_each.Goals as goal
+use Rattle.fixed_block.proofs.each.checked_singly.Goals as goal
 
 pub returns-in-None-clause-place : goal.returns-in-None-clause-place
 returns-in-None-clause-place g c =

@@ -3,7 +3,7 @@ use Rattle.std.specs.Option.{option_map}
 use Rattle.std.proofs.lemmas.List.{length-map}
 use Rattle.fixed_block.specs.Blocks.{of_pairs}
 use Rattle.fixed_block.proofs.Fronts.{ends, goes_on, pair_here, pairs_long, stops, written}
-use Rattle.fixed_block.proofs.pairs.checked_pairs.Goals as goal
+use Rattle.fixed_block.proofs.pairs.checked_singly.Goals as goal
 
 pub returns-in-None-clause-place : goal.returns-in-None-clause-place
 returns-in-None-clause-place g c =
