@@ -23,5 +23,5 @@ pub use names::{WordName, word_of};
 pub use numbers::{fitting, read_natural, read_numbered, read_only_number, read_word, read_words};
 pub use output::Output;
 pub use pieces::{body_of, piece_end};
-pub use running::{Run, open, run_lines};
+pub use running::{InWord, Run, open, run_lines};
 pub use tokens::{Tokens, cut};

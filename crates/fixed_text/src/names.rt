@@ -1,7 +1,7 @@
 //! The names of words in a script.
 
 ghost use Rattle.std.specs.Prelude.{◌≡◌};
-ghost use Rattle.fixed_text.specs.Words.{word_named};
+ghost use Rattle.fixed_text.specs.Words.{is_signed, width, word_named};
 
 /// A word of a script. The names are `i8 i16 i32 i64 u8 u16 u32 u64`.
 #[derive(Clone, Copy, Debug, PartialEq, Eq)]
@@ -14,6 +14,30 @@ pub enum WordName {
     U16,
     U32,
     U64,
+}
+
+impl WordName {
+    /// Returns whether the word has values below 0.
+    pub fn is_signed(self) -> bool
+        ensures { result ≡ is_signed self }
+    {
+        match self {
+            WordName::I8 | WordName::I16 | WordName::I32 | WordName::I64 => true,
+            WordName::U8 | WordName::U16 | WordName::U32 | WordName::U64 => false,
+        }
+    }
+
+    /// Returns how many bits the word has.
+    pub fn width(self) -> u32
+        ensures { result ≡ width self }
+    {
+        match self {
+            WordName::I8 | WordName::U8 => 8,
+            WordName::I16 | WordName::U16 => 16,
+            WordName::I32 | WordName::U32 => 32,
+            WordName::I64 | WordName::U64 => 64,
+        }
+    }
 }
 
 /// Returns the word with this name, or `None` if there is none.

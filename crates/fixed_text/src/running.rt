@@ -1,14 +1,17 @@
 //! The loop that all runs share.
 
-ghost use Rattle.std.specs.Prelude.{◌≡◌, List, MatchOption, None, Some, ℕ};
+ghost use Rattle.std.specs.Prelude.{◌≡◌, Bool, List, MatchOption, None, Some, ℕ};
 ghost use Rattle.fixed_word.specs.Pieces.{body, pieces};
-ghost use Rattle.fixed_text.specs.Runs.{Reading, lines_from, opened, piece_by};
+ghost use Rattle.fixed_text.specs.Runs.{Ending, Reading, lines_from, opened, piece_by};
 ghost use Rattle.fixed_text.specs.Answers.{IsAnswerOfRun, IsStepOfLine};
+ghost use Rattle.fixed_text.specs.Words.{is_signed, width};
 ghost use Rattle.fixed_text.specs.inside.Pieces.{IsStepOfPiece};
 
 use crate::fault::{Refusal, RunFault};
+use crate::names::WordName;
 use crate::output::Output;
 use crate::pieces::{body_of, piece_end};
+use fixed_word::{RawWord, Valued, Word};
 use std::alloc::Global;
 
 /// The state of a run, which each line changes.
@@ -78,4 +81,37 @@ pub fn run_lines<R: Run>(alloc: Global, mut run: R, lines: &[u8]) -> Result<Outp
         number += 1;
     }
     Ok(output)
+}
+
+/// A header, by which a run goes on in the word that it names.
+pub trait InWord {
+    // How the lines after the header end, in a word that is signed or not and has so many bits.
+    ghost ending: { Self → List ℕ → Bool → ℕ → Ending };
+
+    /// Returns what the lines after the header print in this word, or the first fault.
+    fn run_in<T: Word>(self, alloc: Global, lines: &[u8]) -> Result<Output, RunFault>
+        ensures { IsAnswerOfRun (ending self lines.now T.SIGNED T.BITS) result };
+}
+
+impl WordName {
+    /// Returns what the lines after the header print in the word with this name, or the first fault.
+    pub fn in_word<H: InWord>(
+        self,
+        header: H,
+        alloc: Global,
+        lines: &[u8],
+    ) -> Result<Output, RunFault>
+        ensures { IsAnswerOfRun (H.ending header lines.now (is_signed self) (width self)) result }
+    {
+        match self {
+            WordName::I8 => header.run_in::<i8>(alloc, lines),
+            WordName::I16 => header.run_in::<i16>(alloc, lines),
+            WordName::I32 => header.run_in::<i32>(alloc, lines),
+            WordName::I64 => header.run_in::<i64>(alloc, lines),
+            WordName::U8 => header.run_in::<u8>(alloc, lines),
+            WordName::U16 => header.run_in::<u16>(alloc, lines),
+            WordName::U32 => header.run_in::<u32>(alloc, lines),
+            WordName::U64 => header.run_in::<u64>(alloc, lines),
+        }
+    }
 }
