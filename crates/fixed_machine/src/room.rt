@@ -23,22 +23,11 @@ use fixed_word::Word;
 use std::alloc::{AllocError, Global};
 use std::marker::Model;
 
-fn width(word: WordName) -> u128
-    ensures { result ≡ width_in word }
-{
-    match word {
-        WordName::I8 | WordName::U8 => 8,
-        WordName::I16 | WordName::U16 => 16,
-        WordName::I32 | WordName::U32 => 32,
-        WordName::I64 | WordName::U64 => 64,
-    }
-}
-
 /// Returns whether a number of fraction bits exceeds the width.
 fn has_wide(header: &Header<'_>) -> bool
     ensures { result ≡ is_wide header.now.word header.now.fractions }
 {
-    let width = width(header.word());
+    let width = u128::from(header.word().width());
     let mut fractions = header.fractions();
     while let Some(fraction) = fractions.next() {
         if width < fraction {

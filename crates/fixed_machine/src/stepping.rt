@@ -48,16 +48,6 @@ fn is_shaped(line: &Line) -> bool
     }
 }
 
-#[inline(always)]
-fn is_signed(word: WordName) -> bool
-    ensures { result ≡ signed word }
-{
-    match word {
-        WordName::I8 | WordName::I16 | WordName::I32 | WordName::I64 => true,
-        WordName::U8 | WordName::U16 | WordName::U32 | WordName::U64 => false,
-    }
-}
-
 /// Returns whether the operation is offered under that policy on the word.
 #[inline(always)]
 #[tactic(auto, unfolding(crate::specs::Offered::is_offered))]
@@ -65,13 +55,13 @@ pub(crate) fn is_offered(word: WordName, policy: Policy, op: Op) -> bool
     ensures { result ≡ offered (signed word) policy op }
 {
     match op {
-        Op::Abs | Op::Signum => is_signed(word),
+        Op::Abs | Op::Signum => word.is_signed(),
         Op::Rem | Op::RemInt | Op::RemEuclid => match policy {
             Policy::Checked | Policy::Strict => true,
             Policy::Saturating | Policy::Wrapping | Policy::Overflowing => false,
         },
         Op::NextPowerOfTwo => match policy {
-            Policy::Checked | Policy::Wrapping | Policy::Strict => !is_signed(word),
+            Policy::Checked | Policy::Wrapping | Policy::Strict => !word.is_signed(),
             Policy::Saturating | Policy::Overflowing => false,
         },
         _ => true,
