@@ -6,8 +6,9 @@
                                              counts of docs/DEFINITIONS.md are those counted; otherwise it names each
                                              that is not so and ends with 1
 
-A definition is reached where a clause cites it, or the body of a definition that is reached. What the public clauses of
-any crate reach has its place outside of specs/inside/; what private functions alone cite, or proofs alone, inside.
+A definition is reached where a clause cites it, or the body of a definition that is reached; `do` cites `>>=`. What the
+public clauses of any crate reach has its place outside of specs/inside/; what private functions alone cite, or proofs
+alone, inside.
 
 A count is of lines without imports, comments and blank lines. There are three: of what the clauses of `calc_main`
 reach, with those of the traits that bound its source and its sinks; of what the public clauses of the library's crates
@@ -40,6 +41,7 @@ NAME = re.compile(r"(?<![^\s(){}\[\],;:λ∷→≡×])[^\s(){}\[\],;.:λ∷→�
 DEFINED = re.compile(r"(?:abbrev |unfoldable )?(?:pub )?(?:record |data )?([^\s(]+)")
 FIRST_LINE = re.compile(r"(?:abbrev |unfoldable |pub |record |data )|\S+ : ")
 CONSTRUCTOR = re.compile(r"\s+(\S+) :")
+IMPLIED = {"do": "◌>>=◌"}
 SKIPPED = ("use ", "pub use ", "mod ", "pub mod ", "infix")
 VISIBLE = r"(?:pub(?:\([\w ]+\))? )?"
 
@@ -134,7 +136,7 @@ class Reading:
         """The places that a text cites, by what its file imports or its module defines."""
         found = set()
         for word in NAME.findall(text):
-            for name in (word, f"◌{word}◌"):
+            for name in (word, f"◌{word}◌", IMPLIED.get(word)):
                 found.add(self.place(*imports.get(name, (module, name))))
         return found - {None}
 

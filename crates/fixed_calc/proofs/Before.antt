@@ -15,9 +15,11 @@ use Rattle.fixed_script.specs.declared.names.Op.{Op}
 use Rattle.fixed_script.specs.declared.names.Op.TheVariants.{Neg, Add, Sub, Mul, Div, Recip, MulAdd, AddProd, MulInt, DivInt, DivEuclid, DivEuclidInt, RemEuclidInt, NextMultipleOf, Dist, Sqrt, Abs, Signum, Rem, RemInt, RemEuclid, NextPowerOfTwo}
 use Rattle.fixed_script.specs.Names.{policy_name, op_name, rounding_name}
 use Rattle.fixed_script.specs.Text.{ScriptHeader, ScriptLine, SetTo, Apply, Operands, IsLine, register_text, operand_tokens, line_text}
-use Rattle.fixed_script.specs.Lines.{line_in, if_its_text, line_of, line_of_piece, header_of_piece}
+use Rattle.fixed_text.specs.Inverse.{if_its_text}
+use Rattle.fixed_script.specs.Lines.{line_in, line_of, line_of_piece, header_of_piece}
 use Rattle.fixed_script.proofs.Joined.{tokens_of_line}
-use Rattle.fixed_script.proofs.TextsRead.{line_back, line_is, its_text, has_text}
+use Rattle.fixed_text.proofs.Inverses.{its_text, has_text}
+use Rattle.fixed_script.proofs.TextsRead.{line_back, line_is}
 use Rattle.fixed_machine.specs.Answers.{answer_text}
 use Rattle.fixed_machine.specs.Projection.{project}
 use Rattle.fixed_machine.specs.Rows.{exact}

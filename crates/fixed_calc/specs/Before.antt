@@ -12,7 +12,8 @@ use Rattle.fixed_script.specs.declared.names.Op.{Op}
 use Rattle.fixed_script.specs.declared.names.Op.TheVariants.{Mul, Div, Recip, MulAdd, AddProd, DivInt}
 use Rattle.fixed_script.specs.Names.{rounding_name}
 use Rattle.fixed_script.specs.Text.{ScriptHeader, ScriptLine, SetTo, Apply, IsLine, line_text}
-use Rattle.fixed_script.specs.Lines.{line_in, if_its_text, header_of_piece}
+use Rattle.fixed_text.specs.Inverse.{if_its_text}
+use Rattle.fixed_script.specs.Lines.{line_in, header_of_piece}
 use Rattle.fixed_machine.specs.declared.answer.Answer.{Answer}
 use Rattle.fixed_machine.specs.declared.answer.Answer.TheVariants.{Bits}
 use Rattle.fixed_machine.specs.declared.cause.Cause.{Cause}

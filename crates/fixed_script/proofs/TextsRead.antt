@@ -1,9 +1,8 @@
 -- A piece is read as the line whose text it is.
-use Rattle.std.proofs.Common.{◌≡◌, ℕ, ◌-◌, ℤ, suc, pos, negsuc, neg_ℤ, List, [], ◌∷◌, ◌++◌, map, length, drop, Option, Some, None, Bool, true, false, if◌then◌else◌, refl, sym, ap, subst, rules, IfNone, IfSome, ◌∙◌, codes}
+use Rattle.std.proofs.Common.{◌≡◌, ℕ, ◌-◌, List, [], ◌∷◌, ◌++◌, map, length, drop, Option, Some, None, Bool, true, false, if◌then◌else◌, refl, sym, ap, subst, IfNone, IfSome, ◌∙◌, codes}
 use Rattle.std.specs.Option.{option_map, option_and_then}
 use Rattle.std.specs.Str.{bytes_eq}
 use Rattle.std.specs.Str.Parse.{digits_value}
-use Rattle.std.proofs.lemmas.Slice.Eq.{bytes_eq-Decides}
 use Rattle.std.proofs.lemmas.Bool.{false≢true}
 use Rattle.std.proofs.lemmas.Option.{same_Some}
 use Rattle.fixed_word.specs.declared.rounding.Rounding.{Rounding}
@@ -11,14 +10,14 @@ use Rattle.fixed_script.specs.declared.names.Policy.{Policy}
 use Rattle.fixed_script.specs.declared.names.Op.{Op}
 use Rattle.fixed_script.specs.declared.line.Shape.{Shape}
 use Rattle.fixed_script.specs.declared.line.Shape.TheVariants.{Unary, Binary, ByInteger, Ternary}
-use Rattle.fixed_word.specs.Decimal.{natural_text, whole_text}
+use Rattle.fixed_word.specs.Decimal.{natural_text}
 use Rattle.fixed_script.specs.Names.{policy_named, op_named, rounding_named, shape}
 use Rattle.fixed_script.specs.Text.{ScriptHeader, header_text, header_tokens, ScriptLine, SetTo, Apply, Operands, OneRegister, TwoRegisters, RegisterAndInt, ThreeRegisters, takes_rounding, may_round, IsLine, line_text, line_tokens, operand_tokens, shape_of}
 use Rattle.fixed_script.proofs.RoundingTokens.{rounding_tokens}
+use Rattle.fixed_text.specs.Inverse.{token, whole_value, numbered_value}
 use Rattle.fixed_text.specs.Tokens.{tokens_of}
-use Rattle.fixed_digits.proofs.Decimals.{decimal_of_text}
+use Rattle.fixed_text.proofs.Inverses.{natural_back, whole_back, its_text, has_text}
 use Rattle.fixed_script.proofs.Readers.{policy_again, op_again}
-use Rattle.fixed_digits.proofs.Capping.{no_minus}
 use Rattle.fixed_script.proofs.Joined.{tokens_of_line}
 use Rattle.fixed_script.proofs.Lines.{not_set}
 use Rattle.fixed_script.proofs.OneText.{register_names_none, whole_names_none, rounding_again}
@@ -27,17 +26,10 @@ use Rattle.fixed_script.specs.declared.line.Line.{Line}
 use Rattle.fixed_script.specs.Capped.{capped, checked_script_line}
 use Rattle.fixed_word.specs.Pieces.{body}
 use Rattle.fixed_script.specs.Headers.{CappedHeader, capped_header}
-use Rattle.fixed_script.specs.Lines.{line_of_piece, header_of_piece, register_in, whole_in, operands_in, rounding_in, apply_in, line_in, header_in, if_its_text, line_of, header_of, ReadsLines, ReadsHeaders, token}
+use Rattle.fixed_script.specs.Lines.{line_of_piece, header_of_piece, operands_in, rounding_in, apply_in, line_in, header_in, line_of, header_of, ReadsLines, ReadsHeaders}
 use Rattle.fixed_script.specs.ReadPieces.{ReadsLine, ReadsHeader}
 
 -- ---- what is read back
-natural_back : (n : ℕ) → digits_value 10 (natural_text n) ≡ n
-natural_back n = (decimal_of_text n).1
-
-whole_back : (k : ℤ) → whole_in (whole_text k) ≡ k
-whole_back (pos n) = ap (λ (b : Bool). if b then neg_ℤ (pos (digits_value 10 (drop 1 (natural_text n)))) else pos (digits_value 10 (natural_text n))) (no_minus (natural_text n) (decimal_of_text n).0) ∙ ap pos (natural_back n)
-whole_back (negsuc n) = ap (λ (m : ℕ). neg_ℤ (pos m)) (natural_back (suc n))
-
 operands_back : (op : Op) (xs : Operands) (r : Option Rounding) → shape op ≡ shape_of xs → operands_in (shape op) (operand_tokens xs ++ rounding_tokens r) ≡ xs
 operands_back op (OneRegister a) r is = rw (is, natural_back a) refl
 operands_back op (TwoRegisters a b) r is = rw (is, natural_back a, natural_back b) refl
@@ -102,7 +94,7 @@ pub line_is : (ts : List (List ℕ)) (l : ScriptLine) → line_in ts ≡ Some l 
 line_is ts l e = by_name (bytes_eq (token ts 1) (codes "set")) e
   where
     dest : ℕ
-    dest = register_in (token ts 0)
+    dest = numbered_value (token ts 0)
 
     applied : Option Policy → Option Op → Option ScriptLine
     applied p o = option_and_then (λ policy. option_map (λ op. apply_in dest policy op (drop 3 ts)) o) p
@@ -112,24 +104,9 @@ line_is ts l e = by_name (bytes_eq (token ts 1) (codes "set")) e
     by_parts (Some p) None e = cc
     by_parts (Some p) (Some o) e = subst IsLine (same_Some (apply_in dest p o (drop 3 ts)) l e) (apply_is dest p o (drop 3 ts))
 
-    by_name : (b : Bool) → (if b then Some (SetTo dest (whole_in (token ts 2))) else applied (policy_named (token ts 1)) (op_named (token ts 2))) ≡ Some l → IsLine l
-    by_name true e = subst IsLine (same_Some (SetTo dest (whole_in (token ts 2))) l e) tt
+    by_name : (b : Bool) → (if b then Some (SetTo dest (whole_value (token ts 2))) else applied (policy_named (token ts 1)) (op_named (token ts 2))) ≡ Some l → IsLine l
+    by_name true e = subst IsLine (same_Some (SetTo dest (whole_value (token ts 2))) l e) tt
     by_name false e = by_parts (policy_named (token ts 1)) (op_named (token ts 2)) e
-
--- ---- what has the text of the piece
-pub its_text : {A : Type 0} (text : A → List ℕ) (piece : List ℕ) (read : Option A) (x : A) → if_its_text text piece read ≡ Some x → (read ≡ Some x) × (text x ≡ piece)
-its_text text piece None x e = cc
-its_text text piece (Some y) x e = by_test (bytes_eq (text y) piece) refl e
-  where
-    by_test : (b : Bool) → bytes_eq (text y) piece ≡ b → (if b then Some y else None) ≡ Some x → (Some y ≡ Some x) × (text x ≡ piece)
-    by_test false is e = cc
-    by_test true is e = (e, ap text (sym (same_Some y x e)) ∙ (bytes_eq-Decides (text y) piece).0 is)
-
-pub has_text : {A : Type 0} (text : A → List ℕ) (piece : List ℕ) (read : Option A) (x : A) → read ≡ Some x → text x ≡ piece → if_its_text text piece read ≡ Some x
-has_text text piece read x is e = ap (if_its_text text piece) is ∙ ap (λ (b : Bool). if b then Some x else None) (same (text x) piece e)
-  where
-    same : (xs ys : List ℕ) → xs ≡ ys → bytes_eq xs ys ≡ true
-    same xs ys e = search (rules, bytes_eq-Decides)
 
 pub reads_lines : ReadsLines
 unfolding line_of

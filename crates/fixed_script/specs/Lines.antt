@@ -1,5 +1,5 @@
 -- The line, and the header, whose text some bytes are: a piece without its newline. And those of a piece.
-use Rattle.std.specs.Prelude.{◌≡◌, ◌↔◌, ℕ, ◌-◌, ℤ, pos, neg_ℤ, List, [], length, drop, slice_index_or, map, Option, Some, None, if◌then◌else◌, codes}
+use Rattle.std.specs.Prelude.{◌≡◌, ◌↔◌, ℕ, ◌-◌, List, length, drop, map, Option, Some, None, if◌then◌else◌, codes}
 use Rattle.std.specs.Option.{option_map, option_and_then}
 use Rattle.std.specs.Str.{bytes_eq}
 use Rattle.std.specs.Str.Parse.{digits_value}
@@ -12,25 +12,15 @@ use Rattle.fixed_text.specs.Words.{word_named}
 use Rattle.fixed_script.specs.Names.{policy_named, op_named, rounding_named, shape}
 use Rattle.fixed_script.specs.Text.{ScriptHeader, header_text, ScriptLine, SetTo, Apply, Operands, OneRegister, TwoRegisters, RegisterAndInt, ThreeRegisters, IsLine, line_text, takes_rounding}
 use Rattle.fixed_word.specs.Pieces.{body}
+use Rattle.fixed_text.specs.Inverse.{token, whole_value, numbered_value, if_its_text}
 use Rattle.fixed_text.specs.Tokens.{tokens_of}
-use Rattle.fixed_digits.specs.Numerals.{has_minus}
 
 -- ---- the only line that can have these tokens, if any has
-abbrev pub token : List (List ℕ) → ℕ → List ℕ
-token tokens i = slice_index_or tokens i []
-
--- (without its `r`)
-abbrev pub register_in : List ℕ → ℕ
-register_in token = digits_value 10 (drop 1 token)
-
-abbrev pub whole_in : List ℕ → ℤ
-whole_in token = if has_minus token then neg_ℤ (pos (digits_value 10 (drop 1 token))) else pos (digits_value 10 token)
-
 abbrev pub operands_in : Shape → List (List ℕ) → Operands
-operands_in Unary ts = OneRegister (register_in (token ts 0))
-operands_in Binary ts = TwoRegisters (register_in (token ts 0)) (register_in (token ts 1))
-operands_in ByInteger ts = RegisterAndInt (register_in (token ts 0)) (whole_in (token ts 1))
-operands_in Ternary ts = ThreeRegisters (register_in (token ts 0)) (register_in (token ts 1)) (register_in (token ts 2))
+operands_in Unary ts = OneRegister (numbered_value (token ts 0))
+operands_in Binary ts = TwoRegisters (numbered_value (token ts 0)) (numbered_value (token ts 1))
+operands_in ByInteger ts = RegisterAndInt (numbered_value (token ts 0)) (whole_value (token ts 1))
+operands_in Ternary ts = ThreeRegisters (numbered_value (token ts 0)) (numbered_value (token ts 1)) (numbered_value (token ts 2))
 
 -- (the last token names it)
 abbrev pub rounding_in : Op → List (List ℕ) → Option Rounding
@@ -41,17 +31,13 @@ apply_in dest policy op ts = Apply dest policy op (operands_in (shape op) ts) (r
 
 abbrev pub line_in : List (List ℕ) → Option ScriptLine
 line_in ts =
-    if bytes_eq (token ts 1) (codes "set") then Some (SetTo (register_in (token ts 0)) (whole_in (token ts 2)))
-    else option_and_then (λ policy. option_map (λ op. apply_in (register_in (token ts 0)) policy op (drop 3 ts)) (op_named (token ts 2))) (policy_named (token ts 1))
+    if bytes_eq (token ts 1) (codes "set") then Some (SetTo (numbered_value (token ts 0)) (whole_value (token ts 2)))
+    else option_and_then (λ policy. option_map (λ op. apply_in (numbered_value (token ts 0)) policy op (drop 3 ts)) (op_named (token ts 2))) (policy_named (token ts 1))
 
 abbrev pub header_in : List (List ℕ) → Option ScriptHeader
 header_in ts = option_map (λ w. record { word = w; first = digits_value 10 (token ts 1); others = map (digits_value 10) (drop 2 ts) }) (word_named (token ts 0))
 
 -- ---- the line whose text the bytes are
--- what was read, if its text is these bytes again
-abbrev pub if_its_text : {A : Type 0} → (A → List ℕ) → List ℕ → Option A → Option A
-if_its_text text piece found = option_and_then (λ x. if bytes_eq (text x) piece then Some x else None) found
-
 unfoldable pub line_of : List ℕ → Option ScriptLine
 line_of piece = if_its_text line_text piece (line_in (tokens_of piece))
 

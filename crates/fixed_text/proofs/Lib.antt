@@ -9,3 +9,4 @@ pub mod Caps
 pub mod Turns
 pub mod Gathered
 pub mod Readers
+pub mod Inverses

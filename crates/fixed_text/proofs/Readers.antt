@@ -94,7 +94,7 @@ abbrev pub are_tokens : List (List ℕ) → Bool
 are_tokens [] = false
 are_tokens (t ∷ ts) = list_all no_space (t ∷ ts)
 
-cut_again : (ts : List (List ℕ)) → are_tokens ts ≡ true → tokens_of (spaced ts) ≡ ts
+pub cut_again : (ts : List (List ℕ)) → are_tokens ts ≡ true → tokens_of (spaced ts) ≡ ts
 cut_again [] e = absurd (cc)
 cut_again (t ∷ ts) e = split_joined t ts e
 

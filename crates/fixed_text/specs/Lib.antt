@@ -3,6 +3,7 @@ pub mod Words
 pub mod Numbers
 pub mod Decimals
 pub mod Texts
+pub mod Inverse
 pub mod Runs
 pub mod Answers
 pub mod inside
