@@ -1,24 +1,28 @@
 -- The text of a header or a line is read as it, and only that.
 use Rattle.std.proofs.Common.{◌≡◌, ℕ, List, [], ◌∷◌, Some, None, Bool, true, false, cond, codes, refl, sym, ap, ◌∙◌}
 use Rattle.std.specs.Str.{bytes_eq}
+use Rattle.std.specs.Option.{option_map}
 use Rattle.std.specs.Cmp.Derive.{both_true}
 use Rattle.std.specs.List.{list_all}
 use Rattle.std.proofs.lemmas.Option.{same_Some}
 use Rattle.std.proofs.lemmas.Slice.Eq.{bytes_eq-Decides}
 use Rattle.fixed_word.specs.Decimal.{natural_text, whole_text}
+use Rattle.fixed_text.specs.Inverse.{numbered_value}
 use Rattle.fixed_text.specs.Numbers.{natural_in, whole_in}
 use Rattle.fixed_text.specs.Texts.{IsReader, no_space}
-use Rattle.fixed_text.specs.Tokens.{◌>>=◌, next_by, at_end}
+use Rattle.fixed_text.specs.Tokens.{◌>>=◌, tokens_of, next_by, at_end}
 use Rattle.fixed_text.specs.Words.{word_name, word_named}
 use Rattle.fixed_text.proofs.Joined.{natural_no_space, whole_no_space}
 use Rattle.fixed_text.proofs.Readers.{are_tokens, reader, word_no_space, word_again, word_only, numbered_again, numbered_only}
+use Rattle.fixed_text.proofs.Inverses.{natural_back, whole_back, inverse_reader, one_reader}
 use Rattle.fixed_text.proofs.Naturals.{in_again, in_only}
 use Rattle.fixed_text.proofs.Steps.{bind_some, guard_some, named_takes, next_some, end_some}
 use Rattle.fixed_text.proofs.Wholes.{whole_again, whole_only}
 use Rattle.fixed_interval.specs.declared.op.Op.{Op}
 use Rattle.fixed_interval.specs.declared.op.Op.TheVariants.{Add, Sub, Mul, Div}
 use Rattle.fixed_interval.specs.Text.{IntervalHeader, IntervalRequest, IntervalLine, SetTo, OfTwo, RootOf, op_name, register_text, header_tokens, header_text, request_tokens, line_tokens, line_text}
-use Rattle.fixed_interval.specs.Parser.{all_ops, op_in, register_in, format_at, header_at, header_of, set_at, two_at, root_at, request_by, request_at, line_at, line_of}
+use Rattle.fixed_interval.specs.Lines.{all_ops, op_in, header_in, header_of, request_in, line_in, line_of}
+use Rattle.fixed_interval.specs.inside.Parser.{register_in, format_at, header_at, set_at, two_at, root_at, request_by, request_at, line_at}
 
 -- ---- a header
 header_fine : (h : IntervalHeader) → are_tokens (header_tokens h) ≡ true
@@ -49,8 +53,15 @@ header_only ts h e =
     let name : codes "interval" ≡ t.token = sym ((bytes_eq-Decides t.value (codes "interval")).0 named.0) ∙ sym (same_Some t.token t.value t.reads) in
     ap (λ rest. codes "interval" ∷ rest) (format_only t.rest h named.1) ∙ ap (λ name. name ∷ t.rest) name ∙ sym t.is
 
+header_back : (h : IntervalHeader) → header_in (header_tokens h) ≡ Some h
+header_back h = rw (word_again h.word, natural_back h.frac, natural_back h.count) refl
+
 pub header_reader : IsReader header_text header_of
-header_reader = reader header_tokens header_at header_fine header_again header_only
+unfolding header_of
+header_reader = inverse_reader header_tokens header_in header_fine header_back
+
+pub header_parsed : (piece : List ℕ) → header_of piece ≡ header_at (tokens_of piece)
+header_parsed piece = one_reader header_text header_of (λ p. header_at (tokens_of p)) header_reader (reader header_tokens header_at header_fine header_again header_only) piece
 
 -- ---- what a line asks for
 op_no_space : (op : Op) → no_space (op_name op) ≡ true
@@ -139,5 +150,22 @@ line_only ts l e =
     ∙ ap (λ dest. dest ∷ request_tokens r.0) (numbered_only 105 t.token t.value t.reads)
     ∙ ap (λ rest. t.token ∷ rest) (request_only t.rest r.0 r.1) ∙ sym t.is
 
+request_back : (dest : ℕ) (r : IntervalRequest) → request_in (register_text dest ∷ request_tokens r) ≡ Some r
+request_back dest (SetTo low high) = rw (whole_back low, whole_back high) refl
+request_back dest (RootOf a) = rw (natural_back a) refl
+request_back dest (OfTwo Add a b) = rw (natural_back a, natural_back b) refl
+request_back dest (OfTwo Sub a b) = rw (natural_back a, natural_back b) refl
+request_back dest (OfTwo Mul a b) = rw (natural_back a, natural_back b) refl
+request_back dest (OfTwo Div a b) = rw (natural_back a, natural_back b) refl
+
+line_back : (l : IntervalLine) → line_in (line_tokens l) ≡ Some l
+line_back l =
+    let made = λ (n : ℕ) (r : IntervalRequest). let m : IntervalLine = record { dest = n; request = r } in m in
+    ap (option_map (made (numbered_value (register_text l.dest)))) (request_back l.dest l.request) ∙ ap (λ (n : ℕ). Some (made n l.request)) (natural_back l.dest)
+
 pub line_reader : IsReader line_text line_of
-line_reader = reader line_tokens line_at line_fine line_again line_only
+unfolding line_of
+line_reader = inverse_reader line_tokens line_in line_fine line_back
+
+pub line_parsed : (piece : List ℕ) → line_of piece ≡ line_at (tokens_of piece)
+line_parsed piece = one_reader line_text line_of (λ p. line_at (tokens_of p)) line_reader (reader line_tokens line_at line_fine line_again line_only) piece

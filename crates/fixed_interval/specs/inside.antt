@@ -2,3 +2,4 @@
 pub mod Capped
 pub mod WholeValue
 pub mod OffZero
+pub mod Parser

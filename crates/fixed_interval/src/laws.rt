@@ -4,7 +4,7 @@ ghost use Rattle.std.specs.Prelude.{◌≡◌, ◌↔◌, ◌≤ℤ◌, ◌<ℤ�
 ghost use Rattle.fixed_text.specs.Texts.{IsReader};
 ghost use Rattle.fixed_interval.specs.Ends.{ceiling_over, ceiling_root, difference_ends, floor_over, magnitude_ends, negation_ends, product_ends, quotient_ends, root_ends, square_ends, sum_ends};
 ghost use Rattle.fixed_interval.specs.Containment.{HoldsDifferences, HoldsMagnitudes, HoldsNegations, HoldsProducts, HoldsQuotients, HoldsRoots, HoldsSquares, HoldsSums, IsCeilingRoot, IsMonotone, IsMonotoneOfOne, IsTight, IsTightOfOne};
-ghost use Rattle.fixed_interval.specs.Parser.{header_of, line_of};
+ghost use Rattle.fixed_interval.specs.Lines.{header_of, line_of};
 ghost use Rattle.fixed_interval.specs.Text.{header_text, line_text};
 
 /// The numbers that are at most a quotient that is rounded down, and those that are at least one that is rounded up. If

@@ -3,7 +3,8 @@
 ghost use Rattle.std.specs.Prelude.{◌≡◌};
 ghost use Rattle.std.specs.Option.{option_map};
 ghost use Rattle.fixed_interval.specs.inside.Capped.{capped_line, capped_request};
-ghost use Rattle.fixed_interval.specs.Parser.{line_of, request_at, root_at, set_at, two_at};
+ghost use Rattle.fixed_interval.specs.inside.Parser.{request_at, root_at, set_at, two_at};
+ghost use Rattle.fixed_interval.specs.Lines.{line_of};
 
 use crate::op::{Op, op_of};
 use fixed_text::{Decimal, Tokens, read_decimal, read_numbered};
@@ -24,7 +25,7 @@ pub(crate) struct Line {
 }
 
 /// Returns two given ends.
-#[tactic(auto, unfolding(crate::specs::Parser::set_at))]
+#[tactic(auto, unfolding(crate::specs::inside::Parser::set_at))]
 fn set_of(mut tokens: Tokens<'_>) -> Option<Request>
     ensures { result ≡ option_map capped_request (set_at tokens.entry) }
 {
@@ -38,7 +39,7 @@ fn set_of(mut tokens: Tokens<'_>) -> Option<Request>
 }
 
 /// Returns an operation with the registers that the tokens name.
-#[tactic(auto, unfolding(crate::specs::Parser::two_at))]
+#[tactic(auto, unfolding(crate::specs::inside::Parser::two_at))]
 fn two_of(op: Op, mut tokens: Tokens<'_>) -> Option<Request>
     ensures { result ≡ option_map capped_request (two_at op tokens.entry) }
 {
@@ -52,7 +53,7 @@ fn two_of(op: Op, mut tokens: Tokens<'_>) -> Option<Request>
 }
 
 /// Returns a root with the register that the token names.
-#[tactic(auto, unfolding(crate::specs::Parser::root_at))]
+#[tactic(auto, unfolding(crate::specs::inside::Parser::root_at))]
 fn root_of(mut tokens: Tokens<'_>) -> Option<Request>
     ensures { result ≡ option_map capped_request (root_at tokens.entry) }
 {
@@ -65,7 +66,7 @@ fn root_of(mut tokens: Tokens<'_>) -> Option<Request>
 }
 
 /// Returns what the tokens after the destination request.
-#[tactic(auto, unfolding(crate::specs::Parser::request_at))]
+#[tactic(auto, unfolding(crate::specs::inside::Parser::request_at))]
 fn request_of(mut tokens: Tokens<'_>) -> Option<Request>
     ensures { result ≡ option_map capped_request (request_at tokens.entry) }
 {
@@ -81,7 +82,7 @@ fn request_of(mut tokens: Tokens<'_>) -> Option<Request>
 }
 
 /// Returns the line whose text the piece is, or `None` if no line has that text.
-#[tactic(auto, unfolding(crate::specs::Parser::line_at))]
+#[tactic(auto, unfolding(crate::specs::inside::Parser::line_at), using(crate::proofs::Readers::line_parsed))]
 pub(crate) fn read_line(piece: &[u8]) -> Option<Line>
     ensures { result ≡ option_map capped_line (line_of piece.now) }
 {

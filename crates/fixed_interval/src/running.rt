@@ -7,8 +7,7 @@ ghost use Rattle.fixed_word.specs.Pieces.{pieces};
 ghost use Rattle.fixed_text.specs.Decimals.{decimal_of};
 ghost use Rattle.fixed_digits.specs.Numerals.{cap};
 ghost use Rattle.fixed_text.specs.Runs.{Ending, lines_from, then_by};
-ghost use Rattle.fixed_text.specs.Answers.{EndsBy, IsStepOfLine};
-ghost use Rattle.fixed_text.specs.Words.{is_signed, width};
+ghost use Rattle.fixed_text.specs.Answers.{IsAnswerOfRun, IsStepOfLine};
 ghost use Rattle.fixed_interval.specs.inside.Capped.{capped_request};
 ghost use Rattle.fixed_interval.specs.Ends.{ends_of, fitting};
 ghost use Rattle.fixed_interval.specs.Runs.{IsAnswerOfInterval, answered, ends_by, ends_text, interval_line, interval_output, made_by_root, made_of_two, request_read, set_ends, started, zero_ends};
@@ -23,7 +22,7 @@ use crate::products::mul_in;
 use crate::quotients::div_in;
 use crate::roots::sqrt_in;
 use crate::sums::{add_in, sub_in};
-use fixed_text::{Decimal, Output, Refusal, Run, RunFault, WordName, open, run_lines, value_in};
+use fixed_text::{Decimal, InWord, Output, Refusal, Run, RunFault, open, run_lines, value_in};
 use fixed_word::{Valued, Word};
 use std::alloc::{AllocError, Global};
 use std::marker::Model;
@@ -230,60 +229,36 @@ impl<T: Word> Run for IntervalRun<T> {
     }
 }
 
-/// Returns the fault of a script of intervals.
-fn fault_of(fault: RunFault) -> IntervalFault
-    ensures { (ending : Ending) → EndsBy ending fault → IsAnswerOfInterval ending (Err result) }
+/// Returns the output of a run, or its fault as the fault of a script of intervals.
+fn answer_of(found: Result<Output, RunFault>) -> Result<Output, IntervalFault>
+    ensures { (ending : Ending) → IsAnswerOfRun ending found → IsAnswerOfInterval ending result }
 {
-    match fault {
-        RunFault::Syntax(number) => IntervalFault::Syntax(number),
-        RunFault::OutOfRange(number) => IntervalFault::OutOfRange(number),
-        RunFault::Memory => IntervalFault::Memory,
-    }
-}
-
-/// Runs the lines after the header, on one word.
-fn run_at<T: Word>(
-    alloc: Global,
-    frac: u128,
-    count: u128,
-    lines: &[u8],
-) -> Result<Output, IntervalFault>
-    ensures { IsAnswerOfInterval (then_by 1 (started T.SIGNED T.BITS frac count)
-        (λ state. lines_from interval_line state 2 (pieces lines.now))) result }
-{
-    if frac > u128::from(T::BITS) || count < 1 || count > MOST_REGISTERS {
-        return Err(IntervalFault::OutOfRange(1));
-    }
-    let registers = match zeros(alloc, count as usize) {
-        Ok(registers) => registers,
-        Err(_) => return Err(IntervalFault::Memory),
-    };
-    let run = IntervalRun::<T> {
-        frac: frac as u32,
-        registers,
-    };
-    match run_lines(alloc, run, lines) {
+    match found {
         Ok(output) => Ok(output),
-        Err(fault) => Err(fault_of(fault)),
+        Err(RunFault::Syntax(number)) => Err(IntervalFault::Syntax(number)),
+        Err(RunFault::OutOfRange(number)) => Err(IntervalFault::OutOfRange(number)),
+        Err(RunFault::Memory) => Err(IntervalFault::Memory),
     }
 }
 
-/// Runs the lines after the header, on the word that the header names.
-fn run_word(alloc: Global, header: Header, lines: &[u8]) -> Result<Output, IntervalFault>
-    ensures { IsAnswerOfInterval (then_by 1
-        (started (is_signed header.word) (width header.word) header.frac header.count)
-        (λ state. lines_from interval_line state 2 (pieces lines.now))) result }
-{
-    let Header { word, frac, count } = header;
-    match word {
-        WordName::I8 => run_at::<i8>(alloc, frac, count, lines),
-        WordName::I16 => run_at::<i16>(alloc, frac, count, lines),
-        WordName::I32 => run_at::<i32>(alloc, frac, count, lines),
-        WordName::I64 => run_at::<i64>(alloc, frac, count, lines),
-        WordName::U8 => run_at::<u8>(alloc, frac, count, lines),
-        WordName::U16 => run_at::<u16>(alloc, frac, count, lines),
-        WordName::U32 => run_at::<u32>(alloc, frac, count, lines),
-        WordName::U64 => run_at::<u64>(alloc, frac, count, lines),
+impl InWord for Header {
+    ghost ending = { λ header lines signed bits. then_by 1
+        (started signed bits header.frac header.count)
+        (λ state. lines_from interval_line state 2 (pieces lines)) };
+
+    fn run_in<T: Word>(self, alloc: Global, lines: &[u8]) -> Result<Output, RunFault> {
+        if self.frac > u128::from(T::BITS) || self.count < 1 || self.count > MOST_REGISTERS {
+            return Err(RunFault::OutOfRange(1));
+        }
+        let registers = match zeros(alloc, self.count as usize) {
+            Ok(registers) => registers,
+            Err(_) => return Err(RunFault::Memory),
+        };
+        let run = IntervalRun::<T> {
+            frac: self.frac as u32,
+            registers,
+        };
+        run_lines(alloc, run, lines)
     }
 }
 
@@ -304,7 +279,7 @@ pub fn interval_run(alloc: Global, script: &[u8]) -> Result<Output, IntervalFaul
         return Err(IntervalFault::Syntax(1));
     };
     match read_header(piece) {
-        Some(header) => run_word(alloc, header, lines),
+        Some(header) => answer_of(header.word.in_word(header, alloc, lines)),
         None => Err(IntervalFault::Syntax(1)),
     }
 }

@@ -1,18 +1,12 @@
--- The header and the line whose text a piece is.
-use Rattle.std.specs.Prelude.{ℕ, List, [], ◌∷◌, Option, Some, None, if◌then◌else◌, codes}
+-- What the parser returns, as a function of the tokens.
+use Rattle.std.specs.Prelude.{ℕ, List, Option, Some, None, if◌then◌else◌, codes}
 use Rattle.std.specs.Str.{bytes_eq}
 use Rattle.fixed_text.specs.Numbers.{natural_in, numbered_in, whole_in}
-use Rattle.fixed_text.specs.Tokens.{◌>>=◌, tokens_of, next_by, at_end}
-use Rattle.fixed_text.specs.Words.{named, word_named}
+use Rattle.fixed_text.specs.Tokens.{◌>>=◌, next_by, at_end}
+use Rattle.fixed_text.specs.Words.{word_named}
 use Rattle.fixed_interval.specs.declared.op.Op.{Op}
-use Rattle.fixed_interval.specs.declared.op.Op.TheVariants.{Add, Sub, Mul, Div}
-use Rattle.fixed_interval.specs.Text.{IntervalHeader, IntervalRequest, IntervalLine, SetTo, OfTwo, RootOf, op_name}
-
-abbrev pub all_ops : List Op
-all_ops = Add ∷ Sub ∷ Mul ∷ Div ∷ []
-
-abbrev pub op_in : List ℕ → Option Op
-op_in = named op_name all_ops
+use Rattle.fixed_interval.specs.Lines.{op_in}
+use Rattle.fixed_interval.specs.Text.{IntervalHeader, IntervalRequest, IntervalLine, SetTo, OfTwo, RootOf}
 
 abbrev pub register_in : List ℕ → Option ℕ
 register_in = numbered_in 105
@@ -61,9 +55,3 @@ line_at ts = do
   dest ← next_by register_in ts
   request ← request_at dest.1
   Some (record { dest = dest.0; request = request })
-
-abbrev pub header_of : List ℕ → Option IntervalHeader
-header_of piece = header_at (tokens_of piece)
-
-abbrev pub line_of : List ℕ → Option IntervalLine
-line_of piece = line_at (tokens_of piece)

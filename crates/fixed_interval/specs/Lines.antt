@@ -1,0 +1,36 @@
+-- The header and the line whose text a piece is.
+use Rattle.std.specs.Prelude.{ℕ, List, [], ◌∷◌, Option, Some, if◌then◌else◌, codes}
+use Rattle.std.specs.Option.{option_map}
+use Rattle.std.specs.Str.{bytes_eq}
+use Rattle.std.specs.Str.Parse.{digits_value}
+use Rattle.fixed_text.specs.Inverse.{token, whole_value, numbered_value, if_its_text}
+use Rattle.fixed_text.specs.Tokens.{tokens_of}
+use Rattle.fixed_text.specs.Words.{named, word_named}
+use Rattle.fixed_interval.specs.declared.op.Op.{Op}
+use Rattle.fixed_interval.specs.declared.op.Op.TheVariants.{Add, Sub, Mul, Div}
+use Rattle.fixed_interval.specs.Text.{IntervalHeader, header_text, IntervalRequest, IntervalLine, SetTo, OfTwo, RootOf, line_text, op_name}
+
+abbrev pub all_ops : List Op
+all_ops = Add ∷ Sub ∷ Mul ∷ Div ∷ []
+
+abbrev pub op_in : List ℕ → Option Op
+op_in = named op_name all_ops
+
+-- the only ones that can have these tokens, if any have
+abbrev pub header_in : List (List ℕ) → Option IntervalHeader
+header_in ts = option_map (λ w. record { word = w; frac = digits_value 10 (token ts 2); count = digits_value 10 (token ts 3) }) (word_named (token ts 1))
+
+abbrev pub request_in : List (List ℕ) → Option IntervalRequest
+request_in ts =
+    if bytes_eq (token ts 1) (codes "set") then Some (SetTo (whole_value (token ts 2)) (whole_value (token ts 3)))
+    else (if bytes_eq (token ts 1) (codes "sqrt") then Some (RootOf (numbered_value (token ts 2)))
+    else option_map (λ op. OfTwo op (numbered_value (token ts 2)) (numbered_value (token ts 3))) (op_in (token ts 1)))
+
+abbrev pub line_in : List (List ℕ) → Option IntervalLine
+line_in ts = option_map (λ r. record { dest = numbered_value (token ts 0); request = r }) (request_in ts)
+
+unfoldable pub header_of : List ℕ → Option IntervalHeader
+header_of piece = if_its_text header_text piece (header_in (tokens_of piece))
+
+unfoldable pub line_of : List ℕ → Option IntervalLine
+line_of piece = if_its_text line_text piece (line_in (tokens_of piece))
