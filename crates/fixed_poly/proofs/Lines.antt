@@ -14,7 +14,10 @@ use Rattle.fixed_text.proofs.Caps.{held_alike}
 use Rattle.fixed_text.proofs.Turns.{refused_map}
 use Rattle.fixed_text.specs.Runs.{Reading, Malformed, Misfit, Read, read_map, fitting_number, fitting_numbers}
 use Rattle.fixed_poly.specs.Text.{At}
-use Rattle.fixed_poly.specs.Parser.{coefs_of, line_at}
+use Rattle.fixed_text.specs.Tokens.{tokens_of}
+use Rattle.fixed_poly.specs.Lines.{line_of}
+use Rattle.fixed_poly.specs.inside.Parser.{coefs_of, line_at}
+use Rattle.fixed_poly.proofs.Readers.{line_parsed}
 use Rattle.fixed_poly.specs.Runs.{PolyState, with_coefs, answer_text, line_read, started}
 
 pub coefs_alike : (state : PolyState) (ts : List (List ℕ)) → 0 < length ts → line_read state (coefs_of (wholes_in ts)) ≡ read_map (λ coefs. (with_coefs coefs state, [])) (fitting_numbers state.signed state.bits (wholes_in ts))
@@ -58,23 +61,24 @@ started_in signed n frac le =
     ap (λ (b : Bool). cond b (Read state) Misfit) within
 
 -- ---- the line of a name and what follows it
-pub line_none : (ts : List (List ℕ)) → ts ≡ [] → line_at ts ≡ None
+pub line_none : (piece : List ℕ) → tokens_of piece ≡ [] → line_of piece ≡ None
 unfolding line_at
-line_none ts e = ap line_at e
+line_none piece e = line_parsed piece ∙ ap line_at e
 
-module _ (ts rest : List (List ℕ)) (name : List ℕ) (cut : ts ≡ name ∷ rest) where
-  pub line_coefs : bytes_eq name (codes "coefs") ≡ true → line_at ts ≡ coefs_of (wholes_in rest)
+module _ (piece : List ℕ) (rest : List (List ℕ)) (name : List ℕ) (cut : tokens_of piece ≡ name ∷ rest) where
+  by_name : line_of piece ≡ cond (bytes_eq name (codes "coefs")) (coefs_of (wholes_in rest)) (cond (bytes_eq name (codes "at")) (option_map At (only_number rest)) None)
   unfolding line_at
-  line_coefs e = ap line_at cut ∙ ap (λ b. cond b (coefs_of (wholes_in rest)) (cond (bytes_eq name (codes "at")) (option_map At (only_number rest)) None)) e
+  by_name = line_parsed piece ∙ ap line_at cut
 
-  pub line_number : bytes_eq name (codes "coefs") ≡ false → bytes_eq name (codes "at") ≡ true → line_at ts ≡ option_map At (only_number rest)
-  unfolding line_at
+  pub line_coefs : bytes_eq name (codes "coefs") ≡ true → line_of piece ≡ coefs_of (wholes_in rest)
+  line_coefs e = by_name ∙ ap (λ b. cond b (coefs_of (wholes_in rest)) (cond (bytes_eq name (codes "at")) (option_map At (only_number rest)) None)) e
+
+  pub line_number : bytes_eq name (codes "coefs") ≡ false → bytes_eq name (codes "at") ≡ true → line_of piece ≡ option_map At (only_number rest)
   line_number e f =
-      ap line_at cut ∙ ap (λ b. cond b (coefs_of (wholes_in rest)) (cond (bytes_eq name (codes "at")) (option_map At (only_number rest)) None)) e
+      by_name ∙ ap (λ b. cond b (coefs_of (wholes_in rest)) (cond (bytes_eq name (codes "at")) (option_map At (only_number rest)) None)) e
       ∙ ap (λ b. cond b (option_map At (only_number rest)) None) f
 
-  pub line_other : bytes_eq name (codes "coefs") ≡ false → bytes_eq name (codes "at") ≡ false → line_at ts ≡ None
-  unfolding line_at
+  pub line_other : bytes_eq name (codes "coefs") ≡ false → bytes_eq name (codes "at") ≡ false → line_of piece ≡ None
   line_other e f =
-      ap line_at cut ∙ ap (λ b. cond b (coefs_of (wholes_in rest)) (cond (bytes_eq name (codes "at")) (option_map At (only_number rest)) None)) e
+      by_name ∙ ap (λ b. cond b (coefs_of (wholes_in rest)) (cond (bytes_eq name (codes "at")) (option_map At (only_number rest)) None)) e
       ∙ ap (λ b. cond b (option_map At (only_number rest)) None) f

@@ -1,6 +1,6 @@
 pub mod Horner
 pub mod Exact
 pub mod Text
-pub mod Parser
+pub mod Lines
 pub mod Runs
 pub mod inside

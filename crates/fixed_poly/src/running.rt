@@ -5,19 +5,18 @@ ghost use Rattle.std.specs.Option.{option_map};
 ghost use Rattle.fixed_word.specs.Pieces.{pieces};
 ghost use Rattle.fixed_text.specs.Numbers.{only_number, wholes_in};
 ghost use Rattle.fixed_text.specs.Runs.{Ending, lines_from, then_by};
-ghost use Rattle.fixed_text.specs.Answers.{EndsBy, IsStepOfLine};
-ghost use Rattle.fixed_text.specs.Words.{is_signed, width};
+ghost use Rattle.fixed_text.specs.Answers.{IsAnswerOfRun, IsStepOfLine};
 ghost use Rattle.fixed_poly.specs.Horner.{reply_map};
-ghost use Rattle.fixed_poly.specs.Parser.{coefs_of};
+ghost use Rattle.fixed_poly.specs.inside.Parser.{coefs_of};
 ghost use Rattle.fixed_poly.specs.Runs.{IsAnswerOfPoly, line_read, poly_line, poly_output, reply_text, started};
 ghost use Rattle.fixed_poly.specs.Text.{At};
 
 use crate::evaluation::horner_of;
 use crate::fault::PolyFault;
-use crate::header::read_header;
+use crate::header::{Header, read_header};
 use crate::reply::PolyReply;
 use fixed_text::{
-    Output, Refusal, Run, RunFault, Tokens, WordName, fitting, open, read_only_number, read_words,
+    InWord, Output, Refusal, Run, RunFault, Tokens, fitting, open, read_only_number, read_words,
     run_lines,
 };
 use fixed_word::{RawWord, Valued, Word};
@@ -125,51 +124,32 @@ impl<T: Word> Run for PolyRun<T> {
     }
 }
 
-/// Returns the fault of a run as the fault of a script of polynomials.
-fn fault_of(fault: RunFault) -> PolyFault
-    ensures { (ending : Ending) → EndsBy ending fault → IsAnswerOfPoly ending (Err result) }
+/// Returns the output of a run, or its fault as the fault of a script of polynomials.
+fn answer_of(found: Result<Output, RunFault>) -> Result<Output, PolyFault>
+    ensures { (ending : Ending) → IsAnswerOfRun ending found → IsAnswerOfPoly ending result }
 {
-    match fault {
-        RunFault::Syntax(number) => PolyFault::Syntax(number),
-        RunFault::OutOfRange(number) => PolyFault::OutOfRange(number),
-        RunFault::Memory => PolyFault::Memory,
-    }
-}
-
-/// Returns what the lines after the header print, for a word, or the first fault. Fails with `OutOfRange(1)` if the
-/// number of fraction bits exceeds the width.
-fn run_at<T: Word>(alloc: Global, frac: u128, lines: &[u8]) -> Result<Output, PolyFault>
-    ensures { IsAnswerOfPoly (then_by 1 (started T.SIGNED T.BITS frac)
-        (λ state. lines_from poly_line state 2 (pieces lines.now))) result }
-{
-    if frac > u128::from(T::BITS) {
-        return Err(PolyFault::OutOfRange(1));
-    }
-    let run = PolyRun::<T> {
-        alloc,
-        frac: frac as u32,
-        coefs: Vec::new(alloc),
-    };
-    match run_lines(alloc, run, lines) {
+    match found {
         Ok(output) => Ok(output),
-        Err(fault) => Err(fault_of(fault)),
+        Err(RunFault::Syntax(number)) => Err(PolyFault::Syntax(number)),
+        Err(RunFault::OutOfRange(number)) => Err(PolyFault::OutOfRange(number)),
+        Err(RunFault::Memory) => Err(PolyFault::Memory),
     }
 }
 
-/// Returns what the lines after the header print, for the word with this name, or the first fault.
-fn run_word(alloc: Global, word: WordName, frac: u128, lines: &[u8]) -> Result<Output, PolyFault>
-    ensures { IsAnswerOfPoly (then_by 1 (started (is_signed word) (width word) frac)
-        (λ state. lines_from poly_line state 2 (pieces lines.now))) result }
-{
-    match word {
-        WordName::I8 => run_at::<i8>(alloc, frac, lines),
-        WordName::I16 => run_at::<i16>(alloc, frac, lines),
-        WordName::I32 => run_at::<i32>(alloc, frac, lines),
-        WordName::I64 => run_at::<i64>(alloc, frac, lines),
-        WordName::U8 => run_at::<u8>(alloc, frac, lines),
-        WordName::U16 => run_at::<u16>(alloc, frac, lines),
-        WordName::U32 => run_at::<u32>(alloc, frac, lines),
-        WordName::U64 => run_at::<u64>(alloc, frac, lines),
+impl InWord for Header {
+    ghost ending = { λ header lines signed bits. then_by 1 (started signed bits header.frac)
+        (λ state. lines_from poly_line state 2 (pieces lines)) };
+
+    fn run_in<T: Word>(self, alloc: Global, lines: &[u8]) -> Result<Output, RunFault> {
+        if self.frac > u128::from(T::BITS) {
+            return Err(RunFault::OutOfRange(1));
+        }
+        let run = PolyRun::<T> {
+            alloc,
+            frac: self.frac as u32,
+            coefs: Vec::new(alloc),
+        };
+        run_lines(alloc, run, lines)
     }
 }
 
@@ -190,7 +170,7 @@ pub fn poly_run(alloc: Global, script: &[u8]) -> Result<Output, PolyFault>
         return Err(PolyFault::Syntax(1));
     };
     match read_header(piece) {
-        Some(header) => run_word(alloc, header.word, header.frac, lines),
+        Some(header) => answer_of(header.word.in_word(header, alloc, lines)),
         None => Err(PolyFault::Syntax(1)),
     }
 }

@@ -1,9 +1,9 @@
--- The header, and the line, whose text a piece is.
+-- What the parser returns, as a function of the tokens.
 use Rattle.std.specs.Prelude.{ℕ, ℤ, List, [], ◌∷◌, Option, Some, None, if◌then◌else◌, codes}
 use Rattle.std.specs.Option.{option_map}
 use Rattle.std.specs.Str.{bytes_eq}
 use Rattle.fixed_text.specs.Numbers.{natural_in, only_number, wholes_in}
-use Rattle.fixed_text.specs.Tokens.{◌>>=◌, tokens_of, next_by, at_end}
+use Rattle.fixed_text.specs.Tokens.{◌>>=◌, next_by, at_end}
 use Rattle.fixed_text.specs.Words.{word_named}
 use Rattle.fixed_poly.specs.Text.{PolyHeader, PolyLine, Coefs, At}
 
@@ -27,9 +27,3 @@ unfoldable pub line_at : List (List ℕ) → Option PolyLine
 line_at ts = do
   name ← next_by Some ts
   if bytes_eq name.0 (codes "coefs") then coefs_of (wholes_in name.1) else (if bytes_eq name.0 (codes "at") then option_map At (only_number name.1) else None)
-
-abbrev pub header_of : List ℕ → Option PolyHeader
-header_of piece = header_at (tokens_of piece)
-
-abbrev pub line_of : List ℕ → Option PolyLine
-line_of piece = line_at (tokens_of piece)

@@ -1,0 +1,16 @@
+use Rattle.std.proofs.Common.{◌≤◌, sym, subst, arith}
+use Rattle.fixed_word.specs.Pieces.{pieces}
+use Rattle.fixed_text.specs.Answers.{IsAnswerOfRun}
+use Rattle.fixed_text.specs.Runs.{Reading, lines_from, then_by}
+use Rattle.fixed_poly.specs.Runs.{PolyState, poly_line}
+use Rattle.fixed_poly.proofs.Lines.{started_in}
+use Rattle.fixed_poly.proofs.running.HeaderInWord.run_in.Goals as goal
+
+pub returns : goal.returns
+returns g c =
+    let i = c.if-self-from.false in
+    let j = c.from.ensures in
+    let k = c.BITS.ensures in
+    let within : c.args.self.frac ≤ g.T.Valued.BITS = omega arith in
+    subst (λ (r : Reading PolyState). IsAnswerOfRun (then_by 1 r (λ state. lines_from poly_line state 2 (pieces c.args.lines.now))) c.run_lines.result) (sym (started_in g.T.RawWord.SIGNED g.T.Valued.BITS c.args.self.frac within))
+    (rw c.new.ensures.items at c.run_lines.ensures)
