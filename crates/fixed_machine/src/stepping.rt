@@ -87,25 +87,12 @@ fn greatest_magnitude(word: WordName, below_zero: bool) -> u64
     ensures { with_sign below_zero result
         ≡ (if below_zero then lowest (signed word) (width word) else highest (signed word) (width word)) }
 {
-    if below_zero {
-        match word {
-            WordName::I8 => 1 << 7,
-            WordName::I16 => 1 << 15,
-            WordName::I32 => 1 << 31,
-            WordName::I64 => 1 << 63,
-            WordName::U8 | WordName::U16 | WordName::U32 | WordName::U64 => 0,
-        }
-    } else {
-        match word {
-            WordName::I8 => (1 << 7) - 1,
-            WordName::I16 => (1 << 15) - 1,
-            WordName::I32 => (1 << 31) - 1,
-            WordName::I64 => (1 << 63) - 1,
-            WordName::U8 => (1 << 8) - 1,
-            WordName::U16 => (1 << 16) - 1,
-            WordName::U32 => (1 << 32) - 1,
-            WordName::U64 => u64::MAX,
-        }
+    let width = word.width();
+    match (word.is_signed(), below_zero) {
+        (true, true) => 1 << (width - 1),
+        (true, false) => (1 << (width - 1)) - 1,
+        (false, true) => 0,
+        (false, false) => u64::MAX >> (64 - width),
     }
 }
 
