@@ -7,6 +7,6 @@ pub mod Past
 pub mod Counted
 pub mod Simulated
 pub mod Viewed
-pub mod Lines
 pub mod Readers
+pub mod Lines
 pub mod Scripts

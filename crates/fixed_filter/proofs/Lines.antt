@@ -12,7 +12,10 @@ use Rattle.fixed_text.specs.Numbers.{numbered_in, only_number, whole_in, wholes_
 use Rattle.fixed_text.specs.Runs.{Reading, Malformed, Misfit, Read, in_range, read_map, fitting_number, fitting_numbers}
 use Rattle.fixed_text.proofs.Caps.{held_alike}
 use Rattle.fixed_filter.specs.declared.shape.Shape.{Shape}
-use Rattle.fixed_filter.specs.Parser.{line_at, sample_of, taps_of}
+use Rattle.fixed_text.specs.Tokens.{tokens_of}
+use Rattle.fixed_filter.specs.Lines.{line_of}
+use Rattle.fixed_filter.specs.inside.Parser.{line_at, sample_of, taps_of}
+use Rattle.fixed_filter.proofs.Readers.{line_parsed}
 use Rattle.fixed_filter.specs.Runs.{shape_fits, start, started}
 use Rattle.fixed_filter.specs.inside.Kept.{KeptState, kept_read, kept_sample, kept_taps, kept_text}
 
@@ -69,19 +72,21 @@ module _ (state : KeptState) (s : Bool) (n j place : ℕ) (d : Decimal) (w : IsW
   sampled o v held e = sample_alike o held ∙ ap (read_map (λ x. (kept_sample place x state, kept_text state place x))) e
 
 -- ---- the line of a name and what follows it
-pub line_none : (ts : List (List ℕ)) → ts ≡ [] → line_at ts ≡ None
+pub line_none : (piece : List ℕ) → tokens_of piece ≡ [] → line_of piece ≡ None
 unfolding line_at
-line_none ts e = ap line_at e
+line_none piece e = line_parsed piece ∙ ap line_at e
 
-module _ (ts rest : List (List ℕ)) (name : List ℕ) (cut : ts ≡ name ∷ rest) where
-  pub line_taps : bytes_eq name (codes "taps") ≡ true → line_at ts ≡ taps_of (wholes_in rest)
+module _ (piece : List ℕ) (rest : List (List ℕ)) (name : List ℕ) (cut : tokens_of piece ≡ name ∷ rest) where
+  by_name : line_of piece ≡ cond (bytes_eq name (codes "taps")) (taps_of (wholes_in rest)) (sample_of (numbered_in 99 name) (only_number rest))
   unfolding line_at
-  line_taps e = ap line_at cut ∙ ap (λ b. cond b (taps_of (wholes_in rest)) (sample_of (numbered_in 99 name) (only_number rest))) e
+  by_name = line_parsed piece ∙ ap line_at cut
 
-  pub line_sample : bytes_eq name (codes "taps") ≡ false → (o : Option ℕ) → numbered_in 99 name ≡ o → line_at ts ≡ sample_of o (only_number rest)
-  unfolding line_at
+  pub line_taps : bytes_eq name (codes "taps") ≡ true → line_of piece ≡ taps_of (wholes_in rest)
+  line_taps e = by_name ∙ ap (λ b. cond b (taps_of (wholes_in rest)) (sample_of (numbered_in 99 name) (only_number rest))) e
+
+  pub line_sample : bytes_eq name (codes "taps") ≡ false → (o : Option ℕ) → numbered_in 99 name ≡ o → line_of piece ≡ sample_of o (only_number rest)
   line_sample e o f =
-      ap line_at cut ∙ ap (λ b. cond b (taps_of (wholes_in rest)) (sample_of (numbered_in 99 name) (only_number rest))) e
+      by_name ∙ ap (λ b. cond b (taps_of (wholes_in rest)) (sample_of (numbered_in 99 name) (only_number rest))) e
       ∙ ap (λ o. sample_of o (only_number rest)) f
 
 pub found : (o : Option ℕ) (m : ℕ) → Some m ≡ option_map cap o → (j : ℕ) × (o ≡ Some j) × (m ≡ cap j)

@@ -8,15 +8,17 @@ use Rattle.fixed_word.specs.Decimal.{natural_text, whole_text}
 use Rattle.fixed_text.specs.declared.names.WordName.{WordName}
 use Rattle.fixed_text.specs.Numbers.{natural_in, numbered_in, only_number, whole_in, wholes_in}
 use Rattle.fixed_text.specs.Texts.{IsReader}
-use Rattle.fixed_text.specs.Tokens.{◌>>=◌, next_by, at_end}
+use Rattle.fixed_text.specs.Tokens.{◌>>=◌, tokens_of, next_by, at_end}
 use Rattle.fixed_text.specs.Words.{word_name, word_named}
 use Rattle.fixed_text.proofs.Joined.{natural_no_space, whole_no_space}
 use Rattle.fixed_text.proofs.Readers.{are_tokens, reader, word_no_space, wholes_no_space, word_again, word_only, wholes_again, wholes_only, numbered_again, numbered_only}
+use Rattle.fixed_text.proofs.Inverses.{natural_back, whole_back, wholes_back, inverse_reader, one_reader}
 use Rattle.fixed_text.proofs.Naturals.{in_again, in_only}
 use Rattle.fixed_text.proofs.Steps.{guard_some, next_some, end_some}
 use Rattle.fixed_text.proofs.Wholes.{whole_again, whole_only}
 use Rattle.fixed_filter.specs.Text.{FilterHeader, FilterLine, Taps, Sample, header_tokens, header_text, line_tokens, line_text}
-use Rattle.fixed_filter.specs.Parser.{format_at, header_at, header_of, taps_of, sample_of, line_at, line_of}
+use Rattle.fixed_filter.specs.Lines.{header_in, header_of, line_in, line_of}
+use Rattle.fixed_filter.specs.inside.Parser.{format_at, header_at, taps_of, sample_of, line_at}
 
 -- ---- a header
 header_fine : (h : FilterHeader) → are_tokens (header_tokens h) ≡ true
@@ -54,8 +56,15 @@ header_only ts h e =
     let name : codes "filter" ≡ t.token = sym ((bytes_eq-Decides t.value (codes "filter")).0 named.0) ∙ sym (same_Some t.token t.value t.reads) in
     ap (λ rest. codes "filter" ∷ rest) (format_only t.rest h named.1) ∙ ap (λ name. name ∷ t.rest) name ∙ sym t.is
 
+header_back : (h : FilterHeader) → header_in (header_tokens h) ≡ Some h
+header_back h = rw (word_again h.word, natural_back h.out, natural_back h.coef, natural_back h.sample) refl
+
 pub header_reader : IsReader header_text header_of
-header_reader = reader header_tokens header_at header_fine header_again header_only
+unfolding header_of
+header_reader = inverse_reader header_tokens header_in header_fine header_back
+
+pub header_parsed : (piece : List ℕ) → header_of piece ≡ header_at (tokens_of piece)
+header_parsed piece = one_reader header_text header_of (λ p. header_at (tokens_of p)) header_reader (reader header_tokens header_at header_fine header_again header_only) piece
 
 -- ---- a line
 line_fine : (l : FilterLine) → are_tokens (line_tokens l) ≡ true
@@ -97,5 +106,13 @@ line_only ts l e =
     by_name t.value t.rest l (bytes_eq t.value (codes "taps")) refl t.goes_on
     ∙ ap (λ name. name ∷ t.rest) (sym (same_Some t.token t.value t.reads)) ∙ sym t.is
 
+line_back : (l : FilterLine) → line_in (line_tokens l) ≡ l
+line_back (Taps c cs) = rw (whole_back c, wholes_back cs) refl
+line_back (Sample channel x) = rw (natural_back channel, whole_back x) refl
+
 pub line_reader : IsReader line_text line_of
-line_reader = reader line_tokens line_at line_fine line_again line_only
+unfolding line_of
+line_reader = inverse_reader line_tokens (λ ts. Some (line_in ts)) line_fine (λ l. ap Some (line_back l))
+
+pub line_parsed : (piece : List ℕ) → line_of piece ≡ line_at (tokens_of piece)
+line_parsed piece = one_reader line_text line_of (λ p. line_at (tokens_of p)) line_reader (reader line_tokens line_at line_fine line_again line_only) piece

@@ -11,7 +11,7 @@ use Rattle.fixed_filter.specs.Banks.{Filter, change_at, fresh, places_of, with_s
 use Rattle.fixed_filter.specs.Replies.{filter_reply}
 use Rattle.fixed_filter.specs.Outputs.{own, past_of, reply_after, taps_at}
 use Rattle.fixed_filter.specs.Text.{FilterLine, Taps, Sample}
-use Rattle.fixed_filter.specs.Parser.{line_of}
+use Rattle.fixed_filter.specs.Lines.{line_of}
 use Rattle.fixed_filter.specs.Runs.{FilterState, with_taps, with_own, has_begun, reply_text, answer_text, taps_read, sample_read, line_read, filter_line}
 use Rattle.fixed_filter.specs.inside.Kept.{KeptState, lane_at, kept_taps, kept_sample, kept_text, kept_taps_read, kept_sample_read, kept_read, kept_line}
 use Rattle.fixed_filter.proofs.Past.{one_more_sample}

@@ -4,7 +4,7 @@ pub mod Outputs
 pub mod Blocks
 pub mod Sections
 pub mod Text
-pub mod Parser
+pub mod Lines
 pub mod Runs
 pub mod Scripts
 pub mod inside

@@ -3,7 +3,8 @@
 ghost use Rattle.std.specs.Prelude.{◌≡◌};
 ghost use Rattle.std.specs.Option.{option_map};
 ghost use Rattle.fixed_filter.specs.inside.Capped.{capped_header};
-ghost use Rattle.fixed_filter.specs.Parser.{format_at, header_of};
+ghost use Rattle.fixed_filter.specs.inside.Parser.{format_at};
+ghost use Rattle.fixed_filter.specs.Lines.{header_of};
 
 use fixed_text::{Tokens, WordName, read_natural, word_of};
 
@@ -17,7 +18,7 @@ pub(crate) struct Header {
 }
 
 /// Returns the word and the numbers of fraction bits that the tokens write, or `None` if the tokens are malformed.
-#[tactic(auto, unfolding(crate::specs::Parser::format_at))]
+#[tactic(auto, unfolding(crate::specs::inside::Parser::format_at))]
 fn format_of(mut tokens: Tokens<'_>) -> Option<Header>
     ensures { result ≡ option_map capped_header (format_at tokens.entry) }
 {
@@ -38,7 +39,7 @@ fn format_of(mut tokens: Tokens<'_>) -> Option<Header>
 }
 
 /// Returns the header whose text the piece is, or `None` if the piece is malformed.
-#[tactic(auto, unfolding(crate::specs::Parser::header_at))]
+#[tactic(auto, unfolding(crate::specs::inside::Parser::header_at), using(crate::proofs::Readers::header_parsed))]
 pub(crate) fn read_header(piece: &[u8]) -> Option<Header>
     ensures { result ≡ option_map capped_header (header_of piece.now) }
 {

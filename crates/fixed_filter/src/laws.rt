@@ -7,7 +7,7 @@ ghost use Rattle.fixed_text.specs.Words.{is_signed, width};
 ghost use Rattle.fixed_filter.specs.Banks.{places_of};
 ghost use Rattle.fixed_policy.specs.DotProduct.{products};
 ghost use Rattle.fixed_filter.specs.Outputs.{alone, own, replies, taps_at};
-ghost use Rattle.fixed_filter.specs.Parser.{header_of, line_of};
+ghost use Rattle.fixed_filter.specs.Lines.{header_of, line_of};
 ghost use Rattle.fixed_filter.specs.Replies.{filter_reply};
 ghost use Rattle.fixed_filter.specs.Runs.{filter_output, shape_fits, shape_of};
 ghost use Rattle.fixed_filter.specs.Scripts.{all_fit, are_samples, channels_and_samples, reply_texts, script_text, taps_of_channels};

@@ -5,12 +5,11 @@ ghost use Rattle.fixed_word.specs.Pieces.{pieces};
 ghost use Rattle.fixed_digits.specs.Numerals.{cap};
 ghost use Rattle.fixed_text.specs.Numbers.{only_number, wholes_in};
 ghost use Rattle.fixed_text.specs.Runs.{Ending, Read, lines_from, then_by};
-ghost use Rattle.fixed_text.specs.Answers.{EndsBy, IsAnswerOfRun, IsStepOfLine};
-ghost use Rattle.fixed_text.specs.Words.{is_signed, width};
+ghost use Rattle.fixed_text.specs.Answers.{IsAnswerOfRun, IsStepOfLine};
 ghost use Rattle.fixed_filter.specs.Banks.{IsShape, change_at, with_sample};
 ghost use Rattle.fixed_filter.specs.declared.reply.Reply.TheVariants.{Overflow};
 ghost use Rattle.fixed_filter.specs.inside.Kept.{kept_line, kept_read, kept_reply, kept_sample, kept_taps, kept_text, lane_at};
-ghost use Rattle.fixed_filter.specs.Parser.{sample_of, taps_of};
+ghost use Rattle.fixed_filter.specs.inside.Parser.{sample_of, taps_of};
 ghost use Rattle.fixed_filter.specs.Replies.{reply_map};
 ghost use Rattle.fixed_filter.specs.Runs.{IsAnswerOfFilter, filter_line, filter_output, reply_text, start, started};
 
@@ -20,8 +19,8 @@ use crate::header::{Header, read_header};
 use crate::reply::Reply;
 use crate::shape::Shape;
 use fixed_text::{
-    Output, Refusal, Run, RunFault, Tokens, WordName, fitting, open, read_numbered,
-    read_only_number, read_words, run_lines,
+    InWord, Output, Refusal, Run, RunFault, Tokens, fitting, open, read_numbered, read_only_number,
+    read_words, run_lines,
 };
 use fixed_word::{RawWord, Valued, Word};
 use std::alloc::{AllocError, Global};
@@ -210,14 +209,15 @@ impl<T: Word> Run for FilterRun<T> {
     }
 }
 
-/// Returns the fault of a run as the fault of a script of filters.
-fn fault_of(fault: RunFault) -> FilterFault
-    ensures { (ending : Ending) → EndsBy ending fault → IsAnswerOfFilter ending (Err result) }
+/// Returns the output of a run, or its fault as the fault of a script of filters.
+fn answer_of(found: Result<Output, RunFault>) -> Result<Output, FilterFault>
+    ensures { (ending : Ending) → IsAnswerOfRun ending found → IsAnswerOfFilter ending result }
 {
-    match fault {
-        RunFault::Syntax(number) => FilterFault::Syntax(number),
-        RunFault::OutOfRange(number) => FilterFault::OutOfRange(number),
-        RunFault::Memory => FilterFault::Memory,
+    match found {
+        Ok(output) => Ok(output),
+        Err(RunFault::Syntax(number)) => Err(FilterFault::Syntax(number)),
+        Err(RunFault::OutOfRange(number)) => Err(FilterFault::OutOfRange(number)),
+        Err(RunFault::Memory) => Err(FilterFault::Memory),
     }
 }
 
@@ -237,43 +237,22 @@ fn run_shape<T: Word>(alloc: Global, shape: Shape, lines: &[u8]) -> Result<Outpu
     run_lines(alloc, run, lines)
 }
 
-/// Returns what the lines after the header print, for a word, or the first fault. Fails with `OutOfRange(1)` if a
-/// number of fraction bits exceeds the width.
-fn run_at<T: Word>(alloc: Global, header: Header, lines: &[u8]) -> Result<Output, FilterFault>
-    ensures { IsAnswerOfFilter (then_by 1 (started T.SIGNED T.BITS (record
+impl InWord for Header {
+    ghost ending = { λ header lines signed bits. then_by 1 (started signed bits (record
         { out_frac = header.out; coef_frac = header.coef; sample_frac = header.sample }))
-        (λ state. lines_from filter_line state 2 (pieces lines.now))) result }
-{
-    let most = u128::from(T::BITS);
-    if header.out > most || header.coef > most || header.sample > most {
-        return Err(FilterFault::OutOfRange(1));
-    }
-    let shape = Shape {
-        out_frac: header.out as u32,
-        coef_frac: header.coef as u32,
-        sample_frac: header.sample as u32,
-    };
-    match run_shape::<T>(alloc, shape, lines) {
-        Ok(output) => Ok(output),
-        Err(fault) => Err(fault_of(fault)),
-    }
-}
+        (λ state. lines_from filter_line state 2 (pieces lines)) };
 
-/// Returns what the lines after the header print, for the word that the header names, or the first fault.
-fn run_word(alloc: Global, header: Header, lines: &[u8]) -> Result<Output, FilterFault>
-    ensures { IsAnswerOfFilter (then_by 1 (started (is_signed header.word) (width header.word) (record
-        { out_frac = header.out; coef_frac = header.coef; sample_frac = header.sample }))
-        (λ state. lines_from filter_line state 2 (pieces lines.now))) result }
-{
-    match header.word {
-        WordName::I8 => run_at::<i8>(alloc, header, lines),
-        WordName::I16 => run_at::<i16>(alloc, header, lines),
-        WordName::I32 => run_at::<i32>(alloc, header, lines),
-        WordName::I64 => run_at::<i64>(alloc, header, lines),
-        WordName::U8 => run_at::<u8>(alloc, header, lines),
-        WordName::U16 => run_at::<u16>(alloc, header, lines),
-        WordName::U32 => run_at::<u32>(alloc, header, lines),
-        WordName::U64 => run_at::<u64>(alloc, header, lines),
+    fn run_in<T: Word>(self, alloc: Global, lines: &[u8]) -> Result<Output, RunFault> {
+        let most = u128::from(T::BITS);
+        if self.out > most || self.coef > most || self.sample > most {
+            return Err(RunFault::OutOfRange(1));
+        }
+        let shape = Shape {
+            out_frac: self.out as u32,
+            coef_frac: self.coef as u32,
+            sample_frac: self.sample as u32,
+        };
+        run_shape::<T>(alloc, shape, lines)
     }
 }
 
@@ -294,7 +273,7 @@ pub fn filter_run(alloc: Global, script: &[u8]) -> Result<Output, FilterFault>
         return Err(FilterFault::Syntax(1));
     };
     match read_header(piece) {
-        Some(header) => run_word(alloc, header, lines),
+        Some(header) => answer_of(header.word.in_word(header, alloc, lines)),
         None => Err(FilterFault::Syntax(1)),
     }
 }

@@ -9,7 +9,7 @@ use Rattle.fixed_filter.specs.Banks.{Filter, change_at, fresh, places_of, with_s
 use Rattle.fixed_filter.specs.Replies.{filter_reply}
 use Rattle.fixed_filter.specs.Runs.{reply_text}
 use Rattle.fixed_filter.specs.Text.{FilterLine, Taps, Sample}
-use Rattle.fixed_filter.specs.Parser.{line_of}
+use Rattle.fixed_filter.specs.Lines.{line_of}
 
 pub record KeptState : Type 0 where
   pub signed : Bool

@@ -1,8 +1,8 @@
--- The header, and the line, whose text a piece is.
+-- What the parser returns, as a function of the tokens.
 use Rattle.std.specs.Prelude.{ℕ, ℤ, List, [], ◌∷◌, Option, Some, None, if◌then◌else◌, codes}
 use Rattle.std.specs.Str.{bytes_eq}
 use Rattle.fixed_text.specs.Numbers.{natural_in, numbered_in, only_number, wholes_in}
-use Rattle.fixed_text.specs.Tokens.{◌>>=◌, tokens_of, next_by, at_end}
+use Rattle.fixed_text.specs.Tokens.{◌>>=◌, next_by, at_end}
 use Rattle.fixed_text.specs.Words.{word_named}
 use Rattle.fixed_filter.specs.Text.{FilterHeader, FilterLine, Taps, Sample}
 
@@ -33,9 +33,3 @@ unfoldable pub line_at : List (List ℕ) → Option FilterLine
 line_at ts = do
   name ← next_by Some ts
   if bytes_eq name.0 (codes "taps") then taps_of (wholes_in name.1) else sample_of (numbered_in 99 name.0) (only_number name.1)
-
-abbrev pub header_of : List ℕ → Option FilterHeader
-header_of piece = header_at (tokens_of piece)
-
-abbrev pub line_of : List ℕ → Option FilterLine
-line_of piece = line_at (tokens_of piece)
