@@ -5,7 +5,7 @@ use Rattle.std.proofs.Math.Nat.{lt_of_mul-lt-mul_right, mod-lt, mul-le-mul_right
 use Rattle.std.proofs.Math.Dec.{eqb}
 use Rattle.std.proofs.Math.Facts.{eqb_yes}
 use lib.Ieee.Fits.{and_l, and_r}
-use Rattle.fixed_turns.specs.declared.series.TheConstants.{FACTORIALS}
+use Rattle.fixed_turns.specs.declared.series.TheConstants.{RECIPROCALS}
 use Rattle.fixed_turns.specs.inside.Rests.{factorial}
 
 pub quotient_low : (t d : ℕ) → t / d * d ≤ t
@@ -53,26 +53,24 @@ smaller m w h =
     let l = lt_of_mul-lt-mul_right p e in
     omega (arith, l)
 
--- ---- the table: f is k!
-abbrev are_factorials : ℕ → ℕ → List ℕ → Bool
-are_factorials k f [] = true
-are_factorials k f (x ∷ xs) = eqb x f && are_factorials (suc k) (suc k * f) xs
+-- ---- the table: its first number is the reciprocal of n!
+abbrev are_reciprocals : ℕ → List ℕ → Bool
+are_reciprocals n [] = true
+are_reciprocals n (x ∷ xs) = eqb x ((2 ^ 64 - 1) / factorial n) && are_reciprocals (n - 1) xs
 
-factorial_at : (k f : ℕ) (xs : List ℕ) → f ≡ factorial k → T (are_factorials k f xs) → (i : ℕ) → i < length xs → get_or xs i 0 ≡ factorial (k + i)
-unfolding factorial
-factorial_at k f [] e t i l = absurd (omega arith)
-factorial_at k f (x ∷ xs) e t zero l =
-    let none : k + 0 ≡ k = omega arith in
-    rw none (eqb_yes (and_l (eqb x f) (are_factorials (suc k) (suc k * f) xs) t) ∙ e)
-factorial_at k f (x ∷ xs) e t (suc i) l =
-    let next : suc k + i ≡ k + suc i = omega arith in
-    let d : suc k * f ≡ factorial (suc k) = ap (λ (j : ℕ). suc k * j) e in
-    subst (λ (j : ℕ). get_or xs i 0 ≡ factorial j) next (factorial_at (suc k) (suc k * f) xs d (and_r (eqb x f) (are_factorials (suc k) (suc k * f) xs) t) i (omega arith))
+reciprocal_at : (n : ℕ) (xs : List ℕ) → T (are_reciprocals n xs) → (i : ℕ) → i < length xs → get_or xs i 0 ≡ (2 ^ 64 - 1) / factorial (n - i)
+reciprocal_at n [] t i l = absurd (omega arith)
+reciprocal_at n (x ∷ xs) t zero l =
+    let none : n ≡ n - 0 = omega arith in
+    subst (λ (j : ℕ). x ≡ (2 ^ 64 - 1) / factorial j) none (eqb_yes (and_l (eqb x ((2 ^ 64 - 1) / factorial n)) (are_reciprocals (n - 1) xs) t))
+reciprocal_at n (x ∷ xs) t (suc i) l =
+    let next : n - 1 - i ≡ n - suc i = omega arith in
+    subst (λ (j : ℕ). get_or xs i 0 ≡ (2 ^ 64 - 1) / factorial j) next (reciprocal_at (n - 1) xs (and_r (eqb x ((2 ^ 64 - 1) / factorial n)) (are_reciprocals (n - 1) xs) t) i (omega arith))
 
-pub factorial_in : (n : ℕ) → n ≤ 20 → get_or FACTORIALS n 0 ≡ factorial n
+pub reciprocal_in : (n : ℕ) → n ≤ 20 → get_or RECIPROCALS (20 - n) 0 ≡ (2 ^ 64 - 1) / factorial n
 unfolding factorial
-factorial_in n few =
-    let all : length FACTORIALS ≡ 21 = refl in
-    let whole : T (are_factorials 0 1 FACTORIALS) = tt in
-    let e : 0 + n ≡ n = omega arith in
-    subst (λ (j : ℕ). get_or FACTORIALS n 0 ≡ factorial j) e (factorial_at 0 1 FACTORIALS refl whole n (omega arith))
+reciprocal_in n few =
+    let all : length RECIPROCALS ≡ 21 = refl in
+    let whole : T (are_reciprocals 20 RECIPROCALS) = tt in
+    let e : 20 - (20 - n) ≡ n = omega arith in
+    subst (λ (j : ℕ). get_or RECIPROCALS (20 - n) 0 ≡ (2 ^ 64 - 1) / factorial j) e (reciprocal_at 20 RECIPROCALS whole (20 - n) (omega arith))

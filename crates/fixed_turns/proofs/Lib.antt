@@ -3,6 +3,7 @@ pub mod Beside
 pub mod Bisected
 pub mod Coordinates
 pub mod Factorials
+pub mod FewTurns
 pub mod Nesting
 pub mod Pairs
 pub mod Pi

@@ -180,16 +180,16 @@ exact_rest p m f x k o u same few =
     nothing k = omega arith
 
 -- ---- with the sign, and without whole turns
-quarters_left : (n : ℕ) (w : ℕ) → (pos 4 *ℤ pos (n / 4) +ℤ pos (n % 4)) *ℤ pos w ≡ pos (n * w)
+pub quarters_left : (n : ℕ) (w : ℕ) → (pos 4 *ℤ pos (n / 4) +ℤ pos (n % 4)) *ℤ pos w ≡ pos (n * w)
 quarters_left n w =
     let e : pos 4 *ℤ pos (n / 4) +ℤ pos (n % 4) ≡ pos n = let d = div-add-mod' n 4 in omega (arith, ints) in
     ap (λ (z : ℤ). z *ℤ pos w) e
 
-size_up : (a : ℤ) (m : ℕ) → (a <ℤ pos 0 → ⊥) → m ≡ unsigned_abs a → a ≡ pos m
+pub size_up : (a : ℤ) (m : ℕ) → (a <ℤ pos 0 → ⊥) → m ≡ unsigned_abs a → a ≡ pos m
 size_up (pos n) m sign e = ap pos (sym e)
 size_up (negsuc n) m sign e = absurd (sign (omega (arith, ints)))
 
-size_down : (a : ℤ) (m : ℕ) → a <ℤ pos 0 → m ≡ unsigned_abs a → a ≡ neg_ℤ (pos m)
+pub size_down : (a : ℤ) (m : ℕ) → a <ℤ pos 0 → m ≡ unsigned_abs a → a ≡ neg_ℤ (pos m)
 size_down (pos n) m sign e = absurd (omega (arith, ints))
 size_down (negsuc n) m sign e = ap (λ (j : ℕ). neg_ℤ (pos j)) (sym e)
 

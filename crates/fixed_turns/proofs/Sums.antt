@@ -7,23 +7,32 @@ use Rattle.fixed_turns.specs.Series.{Fraction, cosine_series, lessened, nested, 
 use Rattle.fixed_turns.specs.Sines.{IsNear, IsSumAt, radians, sine_room}
 use Rattle.fixed_turns.specs.inside.Rests.{IsClose, IsLessened, IsNestedTo, IsRounded, IsUnder, factorial, quotients, reach, slack}
 use Rattle.fixed_turns.proofs.Factorials.{quotient_high, quotient_low}
-use Rattle.fixed_turns.proofs.Nesting.{lessened_close, nested_part, square_part, square_under}
+use Rattle.fixed_turns.proofs.Nesting.{lessened_close, nested_part, square_close, square_part, square_some}
 use Rattle.fixed_turns.proofs.Reach.{room}
 
 -- ---- how far off
-far : (b : Bool) → ((if b then 6 else 9) ≤ 9) × ((slack 2 (if b then 6 else 9) (if b then 6 else 9) + 2 ≤ (if b then 2 ^ 23 else 2 ^ 3)) × (slack 1 (if b then 6 else 9) (if b then 6 else 9) ≤ (if b then 2 ^ 23 else 2 ^ 3)))
+far : (b : Bool) → ((if b then 6 else 9) ≤ 9) × ((slack 5 2 (if b then 6 else 9) (if b then 6 else 9) + 2 ≤ (if b then 2 ^ 23 else 2 ^ 3)) × (slack 5 1 (if b then 6 else 9) (if b then 6 else 9) ≤ (if b then 2 ^ 23 else 2 ^ 3)))
 unfolding slack factorial
 far true = (omega arith, (omega arith, omega arith))
 far false = (omega arith, (omega arith, omega arith))
 
-by_bits : (n : ℕ) → (quotients n ≤ 9) × ((slack 2 (quotients n) (quotients n) + 2 ≤ reach n) × (slack 1 (quotients n) (quotients n) ≤ reach n))
+by_bits : (n : ℕ) → (quotients n ≤ 9) × ((slack 5 2 (quotients n) (quotients n) + 2 ≤ reach n) × (slack 5 1 (quotients n) (quotients n) ≤ reach n))
 by_bits n = far (nat_le n 32)
 
+far_narrow : (slack (2 ^ 19 + 1) 2 6 6 + 2 ^ 18 + 1 ≤ 2 ^ 23) × (slack (2 ^ 19 + 1) 1 6 6 + 1 ≤ 2 ^ 23)
+unfolding slack factorial
+far_narrow = (omega arith, omega arith)
+
 -- ---- the square
-pub square_small : (q t : ℕ) → q ≤ 0xc910000000000000 → t * 2 ^ 64 ≤ q * q → 8 * (t + 5) ≤ 5 * 2 ^ 64
+pub square_small : (q t : ℕ) → q ≤ 0xca00000000000000 → t * 2 ^ 64 ≤ q * q → 8 * (t + 2 ^ 19 + 1) ≤ 5 * 2 ^ 64
 square_small q t l h =
-    let a = mul-le q q 0xc910000000000000 0xc910000000000000 l l in
+    let a = mul-le q q 0xca00000000000000 0xca00000000000000 l l in
     omega arith
+
+under_close : (x : Fraction) (q : ℕ) → IsUnder 2 q x → IsClose 2 q x
+under_close x q u =
+    let below = u.below in
+    record { below = omega arith; above = u.above }
 
 -- the numbers that divide all quotients
 no_divisor : (first : ℕ) → 1 ≤ first → first ≤ 2 → factorial (first - 1) ≡ 1
@@ -33,56 +42,95 @@ no_divisor (suc zero) least most = refl
 no_divisor (suc (suc zero)) least most = refl
 no_divisor (suc (suc (suc n))) least most = absurd (omega arith)
 
-close_at : (square first count w n : ℕ) (y : Fraction) → 1 ≤ first → first ≤ 2 → count ≤ 9 → IsUnder 5 square y → IsNestedTo square first count count w → IsClose (slack first count count) w (nested y first (n + 10))
-close_at square first count w n y least most few u h =
+close_at : (e square first count w n : ℕ) (y : Fraction) → 1 ≤ first → first ≤ 2 → count ≤ 9 → 0 < y.den → IsClose e square y → IsNestedTo e square first count count w → IsClose (slack e first count count) w (nested y first (n + 10))
+close_at o square first count w n y least most few some u h =
     let e : first + 2 * (count - count) ≡ first = omega arith in
     let d : n + (10 - count) + count ≡ n + 10 = omega arith in
     let z = nested y first (n + 10) in
-    let a = subst (λ (j : ℕ). IsClose (slack first count count) w (over (nested y j (n + (10 - count) + count)) (factorial (j - 1)))) e (h y (n + (10 - count)) u) in
-    let b = subst (λ (j : ℕ). IsClose (slack first count count) w (over (nested y first j) (factorial (first - 1)))) d a in
-    let c = subst (λ (j : ℕ). IsClose (slack first count count) w (over z j)) (no_divisor first least most) b in
-    let below : w * (z.den * 1) ≤ z.num * 2 ^ 64 + slack first count count * (z.den * 1) = c.below in
-    let above : z.num * 2 ^ 64 ≤ (w + slack first count count) * (z.den * 1) = c.above in
+    let a = subst (λ (j : ℕ). IsClose (slack o first count count) w (over (nested y j (n + (10 - count) + count)) (factorial (j - 1)))) e (h y (n + (10 - count)) some u) in
+    let b = subst (λ (j : ℕ). IsClose (slack o first count count) w (over (nested y first j) (factorial (first - 1)))) d a in
+    let c = subst (λ (j : ℕ). IsClose (slack o first count count) w (over z j)) (no_divisor first least most) b in
+    let below : w * (z.den * 1) ≤ z.num * 2 ^ 64 + slack o first count count * (z.den * 1) = c.below in
+    let above : z.num * 2 ^ 64 ≤ (w + slack o first count count) * (z.den * 1) = c.above in
     record { below = omega arith; above = omega arith }
 
+-- the sine of x, which is from q - b to q + e, by a square that is off by o
+sine_by : (x : Fraction) (q t w s count n b e o k : ℕ) → 0 < x.den → q ≤ 2 ^ 64 → 8 * (t + o) ≤ 5 * 2 ^ 64 → count ≤ 9 → q * x.den ≤ x.num * 2 ^ 64 + b * x.den → x.num * 2 ^ 64 ≤ (q + e) * x.den
+    → IsClose o t (squared x) → IsNestedTo o t 2 count count w → IsLessened q w s → slack o 2 count count + 1 + b ≤ k → slack o 2 count count + e ≤ k → IsClose k s (sine_series x (n + 10))
+sine_by x q t w s count n b e o k some few small nine low high v h less below above =
+    let c = slack o 2 count count in
+    let y = squared x in
+    let there = square_some x some in
+    let part = nested_part y 2 (n + 10) there (square_part o y t small v) (omega arith) in
+    let close = close_at o t 2 count w n y (omega arith) (omega arith) nine there v h in
+    let d : q * c ≤ 2 ^ 64 * c = mul-le-mul_right c few in
+    let f : (1 + b + c) * 2 ^ 64 ≤ k * 2 ^ 64 = mul-le-mul_right {m = 1 + b + c} {n = k} (2 ^ 64) (omega arith) in
+    let g : (e + c) * 2 ^ 64 ≤ k * 2 ^ 64 = mul-le-mul_right {m = e + c} {n = k} (2 ^ 64) (omega arith) in
+    lessened_close x (nested y 2 (n + 10)) q w s b c e k low high part.1 close less (omega arith) (omega arith)
+
 pub sine_close : (x : Fraction) (q t w s bits n : ℕ) → IsUnder 2 q x → q ≤ 0xc910000000000000 → t * 2 ^ 64 ≤ q * q → q * q < (t + 1) * 2 ^ 64
-    → IsNestedTo t 2 (quotients bits) (quotients bits) w → IsLessened q w s → IsClose (reach bits) s (sine_series x (n + 10))
+    → ((e : ℕ) → 8 * (t + e) ≤ 5 * 2 ^ 64 → IsNestedTo e t 2 (quotients bits) (quotients bits) w) → IsLessened q w s → IsClose (reach bits) s (sine_series x (n + 10))
 sine_close x q t w s bits n u l low high h less =
     let b = by_bits bits in
-    let c = slack 2 (quotients bits) (quotients bits) in
-    let y = squared x in
-    let v = square_under x q t u (omega arith) low high in
-    let small = square_small q t l low in
-    let part = nested_part y 2 (n + 10) v.some (square_part y t small v) (omega arith) in
-    let close = close_at t 2 (quotients bits) w n y (omega arith) (omega arith) b.0 v h in
-    let d : q * c ≤ 2 ^ 64 * c = mul-le-mul_right c (omega arith) in
-    let e : (2 + c) * 2 ^ 64 ≤ reach bits * 2 ^ 64 = mul-le-mul_right (2 ^ 64) (omega (arith, b.1.0)) in
-    lessened_close x (nested y 2 (n + 10)) q w s c 2 (reach bits) u (omega arith) part.1 close less (omega arith)
+    let few = square_small q t (omega arith) low in
+    let small : 8 * (t + 5) ≤ 5 * 2 ^ 64 = omega arith in
+    let under = u.below in
+    let v = square_close x q t 2 5 (under_close x q u) low high (omega arith) in
+    sine_by x q t w s (quotients bits) n 0 2 5 (reach bits) u.some (omega arith) small b.0 (omega arith) u.above v (h 5 small) less (omega (arith, b.1.0)) (omega (arith, b.1.0))
 
--- w is close to z, so that 1 - w is close to 1 - z
-rest_close : (z : Fraction) (w c k : ℕ) → z.num ≤ z.den → w ≤ 2 ^ 64 → c ≤ k → IsClose c w z → IsClose k (2 ^ 64 - w) (lessened (record { num = 1; den = 1 }) z)
-rest_close z w c k part less far close =
+pub narrow_sine_close : (x : Fraction) (q t w s n : ℕ) → 0 < x.den → IsClose (2 ^ 18) q x → q ≤ 0xca00000000000000 → t * 2 ^ 64 ≤ q * q → q * q < (t + 1) * 2 ^ 64
+    → ((e : ℕ) → 8 * (t + e) ≤ 5 * 2 ^ 64 → IsNestedTo e t 2 6 6 w) → IsLessened q w s → IsClose (2 ^ 23) s (sine_series x (n + 10))
+narrow_sine_close x q t w s n some u l low high h less =
+    let f = far_narrow in
+    let few = square_small q t l low in
+    let small : 8 * (t + (2 ^ 19 + 1)) ≤ 5 * 2 ^ 64 = omega arith in
+    let v = square_close x q t (2 ^ 18) (2 ^ 19 + 1) u low high (omega arith) in
+    sine_by x q t w s 6 n (2 ^ 18) (2 ^ 18) (2 ^ 19 + 1) (2 ^ 23) some (omega arith) small (omega arith) u.below u.above v (h (2 ^ 19 + 1) small) less (omega (arith, f.0)) (omega (arith, f.0))
+
+-- w is close to z, so that 1 - w is close to 1 - z; v may be a unit less
+rest_close : (z : Fraction) (w v c k : ℕ) → z.num ≤ z.den → v + w ≤ 2 ^ 64 → 2 ^ 64 ≤ v + w + (k - c) → c ≤ k → IsClose c w z → IsClose k v (lessened (record { num = 1; den = 1 }) z)
+rest_close z w v c k part less least far close =
     let below = close.below in
     let above = close.above in
-    let v = 2 ^ 64 - w in
-    let is : v + w ≡ 2 ^ 64 = omega arith in
-    let whole = ap (λ (j : ℕ). j * z.den) is in
+    let most = mul-le-mul_right z.den less in
+    let i : 2 ^ 64 + c ≤ v + w + k = omega arith in
+    let whole = mul-le-mul_right z.den i in
     let more = mul-le-mul_right z.den far in
     let all : z.den - z.num + z.num ≡ z.den = omega arith in
     let first : v * (1 * z.den) ≤ 1 * (z.den - z.num) * 2 ^ 64 + k * (1 * z.den) = omega arith in
     let second : 1 * (z.den - z.num) * 2 ^ 64 ≤ (v + k) * (1 * z.den) = omega arith in
     record { below = first; above = second }
 
+-- the cosine of x by a square that is off by o
+cosine_by : (x : Fraction) (t w v count n o k : ℕ) → 0 < x.den → 8 * (t + o) ≤ 5 * 2 ^ 64 → count ≤ 9 → IsClose o t (squared x) → v + w ≤ 2 ^ 64 → 2 ^ 64 ≤ v + w + (k - slack o 1 count count)
+    → IsNestedTo o t 1 count count w → slack o 1 count count ≤ k → IsClose k v (cosine_series x (n + 10))
+cosine_by x t w v count n o k some small nine u less least h far =
+    let y = squared x in
+    let there = square_some x some in
+    let part = nested_part y 1 (n + 10) there (square_part o y t small u) (omega arith) in
+    let close = close_at o t 1 count w n y (omega arith) (omega arith) nine there u h in
+    rest_close (nested y 1 (n + 10)) w v (slack o 1 count count) k part.1 less least far close
+
 pub cosine_close : (x : Fraction) (q t w bits n : ℕ) → IsUnder 2 q x → q ≤ 0xc910000000000000 → t * 2 ^ 64 ≤ q * q → q * q < (t + 1) * 2 ^ 64 → w < 2 ^ 64
-    → IsNestedTo t 1 (quotients bits) (quotients bits) w → IsClose (reach bits) (2 ^ 64 - w) (cosine_series x (n + 10))
+    → ((e : ℕ) → 8 * (t + e) ≤ 5 * 2 ^ 64 → IsNestedTo e t 1 (quotients bits) (quotients bits) w) → IsClose (reach bits) (2 ^ 64 - w) (cosine_series x (n + 10))
 cosine_close x q t w bits n u l low high less h =
     let b = by_bits bits in
-    let y = squared x in
-    let v = square_under x q t u (omega arith) low high in
-    let small = square_small q t l low in
-    let part = nested_part y 1 (n + 10) v.some (square_part y t small v) (omega arith) in
-    let close = close_at t 1 (quotients bits) w n y (omega arith) (omega arith) b.0 v h in
-    rest_close (nested y 1 (n + 10)) w (slack 1 (quotients bits) (quotients bits)) (reach bits) part.1 (omega arith) b.1.1 close
+    let few = square_small q t (omega arith) low in
+    let small : 8 * (t + 5) ≤ 5 * 2 ^ 64 = omega arith in
+    let v = square_close x q t 2 5 (under_close x q u) low high (omega arith) in
+    cosine_by x t w (2 ^ 64 - w) (quotients bits) n 5 (reach bits) u.some small b.0 v (omega arith) (omega arith) (h 5 small) b.1.1
+
+-- s is 2^64 - 1, lessened by w: at most a unit less than the cosine
+pub narrow_cosine_close : (x : Fraction) (q t w s n : ℕ) → 0 < x.den → IsClose (2 ^ 18) q x → q ≤ 0xca00000000000000 → t * 2 ^ 64 ≤ q * q → q * q < (t + 1) * 2 ^ 64
+    → ((e : ℕ) → 8 * (t + e) ≤ 5 * 2 ^ 64 → IsNestedTo e t 1 6 6 w) → w < 2 ^ 64 → IsLessened (2 ^ 64 - 1) w s → IsClose (2 ^ 23) s (cosine_series x (n + 10))
+narrow_cosine_close x q t w s n some u l low high h word less =
+    let f = far_narrow in
+    let few = square_small q t l low in
+    let small : 8 * (t + (2 ^ 19 + 1)) ≤ 5 * 2 ^ 64 = omega arith in
+    let v = square_close x q t (2 ^ 18) (2 ^ 19 + 1) u low high (omega arith) in
+    let above = less.above in
+    let below = less.below in
+    cosine_by x t w s 6 n (2 ^ 19 + 1) (2 ^ 23) some small (omega arith) v (omega arith) (omega (arith, f.1)) (h (2 ^ 19 + 1) small) (omega (arith, f.1))
 
 -- ---- radians: c and c + 1 enclose a quarter in units of 1 / h, of which there are two in 1 / u
 radians_low : (r g k x p c d h : ℕ) → 0 < h → r * (2 * h) ≤ x * k * c → c * d ≤ p * h → r * (2 * d * g) ≤ p * x * (k * g)
@@ -173,8 +221,8 @@ rounded_half v s o =
     record { below = rw is h.0; above = rw is h.1 }
 
 -- ---- from 0 to 1
-most : (f v r : ℕ) → f ≤ 64 → v ≤ 2 ^ 64 → IsRounded v (64 - f) r → r ≤ 2 ^ f
-most f v r l m round =
+pub rounded_most : (f v r : ℕ) → f ≤ 64 → v ≤ 2 ^ 64 → IsRounded v (64 - f) r → r ≤ 2 ^ f
+rounded_most f v r l m round =
     let p = powers f l in
     let b = round.below in
     let a : 2 * r * 2 ^ (64 - f) ≤ (2 * 2 ^ f + 1) * 2 ^ (64 - f) = omega arith in
@@ -192,7 +240,7 @@ pub one_rounded : (f v r : ℕ) → f ≤ 64 → v ≡ 2 ^ 64 → IsRounded v (6
 one_rounded f v r l e round =
     let p = powers f l in
     let b = round.above in
-    let m = most f v r l (omega arith) round in
+    let m = rounded_most f v r l (omega arith) round in
     let a : 2 * 2 ^ f * 2 ^ (64 - f) ≤ (2 * r + 1) * 2 ^ (64 - f) = omega arith in
     let d = le_of_mul-le-mul_right a (pow_pos (64 - f)) in
     omega arith
@@ -203,7 +251,7 @@ sum_at series bits f e r v y l close few round exact =
     let s = room bits in
     record {
       near = λ n. near_by (sine_room bits) (reach bits) s.1.0 (series y (n + 10)) f v r l (close n) round;
-      most = most f v r l few round;
+      most = rounded_most f v r l few round;
       exact = exact;
     }
 

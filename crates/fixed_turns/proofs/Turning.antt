@@ -1,5 +1,5 @@
 -- The sine by quarters.
-use Rattle.std.proofs.Common.{◌≡◌, ◌+◌, ◌-◌, ◌*◌, ◌/◌, ◌%◌, ◌^◌, ◌≤◌, ℕ, ℤ, Bool, true, false, not, pos, neg_ℤ, suc, zero, inl, inr, refl, sym, ap, ◌∙◌, arith}
+use Rattle.std.proofs.Common.{◌≡◌, ◌⊎◌, ◌+◌, ◌-◌, ◌*◌, ◌/◌, ◌%◌, ◌^◌, ◌≤◌, ℕ, ℤ, Bool, true, false, not, pos, neg_ℤ, suc, zero, inl, inr, refl, sym, ap, ◌∙◌, arith}
 use Rattle.std.proofs.lemmas.Int.{ints}
 use Rattle.fixed_word.specs.Format.{with_sign}
 use Rattle.fixed_turns.specs.Series.{Fraction, cosine_series, sine_series}
@@ -41,12 +41,18 @@ none_at k (suc (suc (suc zero))) f m y b r few even none e h = absurd (omega ari
 none_at k (suc (suc (suc (suc zero)))) f m y b r few even none e h = (m, ap (λ (z : ℤ). neg_ℤ (neg_ℤ z)) e ∙ sym (no_sign b m none), h)
 none_at k (suc (suc (suc (suc (suc q))))) f m y b r few even none e h = absurd (omega arith)
 
+-- t is the sign of the sine, and b that of the angle, unless the sine is 0
+pub sine_by_sign : (k q f m : ℕ) (y : Fraction) (below t b : Bool) → q ≤ 4 → q % 2 ≡ 0 → ((q / 2 ≡ 1 → ⊥) → t ≡ below) → (q / 2 ≡ 1 → t ≡ not below) → (b ≡ below) ⊎ (m ≡ 0) → IsSumAt sine_series k y f 0 m
+    → IsSineBy k q b y f (with_sign t m)
+sine_by_sign k q f m y below t b few even same other (inl e) sum = sine_at k q f m y b t few even (λ n. same n ∙ sym e) (λ o. other o ∙ ap not (sym e)) sum
+sine_by_sign k q f m y below t b few even same other (inr z) sum = none_at k q f m y b (with_sign t m) few even z (no_sign t m z) sum
+
 pub sine_near : (k q f m x : ℕ) (below t : Bool) → q ≤ 4 → q % 2 ≡ 0 → ((q / 2 ≡ 1 → ⊥) → t ≡ below) → (q / 2 ≡ 1 → t ≡ not below) → (x ≡ 0 → m ≡ 0) → ((y : Fraction) → IsUnder 2 x y → IsSumAt sine_series k y f 0 m)
     → IsSineNear k q below x f (with_sign t m)
-sine_near k q f m x below t few even same other none sum b y u (inl e) = sine_at k q f m y b t few even (λ n. same n ∙ sym e) (λ o. other o ∙ ap not (sym e)) (sum y u)
-sine_near k q f m x below t few even same other none sum b y u (inr z) = none_at k q f m y b (with_sign t m) few even (none z) (no_sign t m (none z)) (sum y u)
+sine_near k q f m x below t few even same other none sum b y u (inl e) = sine_by_sign k q f m y below t b few even same other (inl e) (sum y u)
+sine_near k q f m x below t few even same other none sum b y u (inr z) = sine_by_sign k q f m y below t b few even same other (inr (none z)) (sum y u)
 
-cosine_at : (k q f m : ℕ) (y : Fraction) (below b : Bool) → q ≤ 4 → (q % 2 ≡ 0 → ⊥) → ((q / 2 ≡ 1 → ⊥) → b ≡ false) → (q / 2 ≡ 1 → b ≡ not false) → IsSumAt cosine_series k y f (2 ^ f) m → IsSineBy k q below y f (with_sign b m)
+pub cosine_at : (k q f m : ℕ) (y : Fraction) (below b : Bool) → q ≤ 4 → (q % 2 ≡ 0 → ⊥) → ((q / 2 ≡ 1 → ⊥) → b ≡ false) → (q / 2 ≡ 1 → b ≡ not false) → IsSumAt cosine_series k y f (2 ^ f) m → IsSineBy k q below y f (with_sign b m)
 unfolding IsSineBy
 cosine_at k zero f m y below b few odd same other h = absurd (odd refl)
 cosine_at k (suc zero) f m y below b few odd same other h = (m, ap (λ (c : Bool). with_sign c m) (same (λ e. omega arith)), h)

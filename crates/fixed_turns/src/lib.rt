@@ -11,6 +11,7 @@ mod constants;
 mod directions;
 mod guesses;
 pub mod laws;
+mod narrow;
 mod numbers;
 mod octants;
 mod overflowing;

@@ -1,6 +1,6 @@
 //! Sines and cosines of angles in radians.
 
-ghost use Rattle.std.specs.Prelude.{◌≡◌, ◌≤◌, ◌<◌, ◌+◌, ◌*◌, ◌^◌, ℕ, ℤ, if◌then◌else◌};
+ghost use Rattle.std.specs.Prelude.{◌≡◌, ◌≤◌, ◌<◌, ◌+◌, ◌*◌, ◌^◌, ℕ, ℤ};
 ghost use Rattle.fixed_word.specs.Standing.{StandsFor};
 ghost use Rattle.fixed_turns.specs.Radians.{IsRadianCosine, IsRadianSine};
 ghost use Rattle.fixed_turns.specs.Sines.{sine_room};
@@ -8,7 +8,9 @@ ghost use Rattle.fixed_turns.specs.inside.Rests.{IsBesidePi, IsReducedTo, IsSpli
 
 use crate::angles::Angle;
 use crate::constants::{QUARTERS, QUARTERS_MORE, RADIANS, RADIANS_MORE};
-use crate::series::high;
+use crate::narrow::{is_narrow, narrow_cosine, narrow_sine};
+use crate::series::{either, high};
+use crate::signed::outcome_of_signed;
 use crate::sines::outcome_at;
 use fixed_word::{Outcome, RawWord};
 
@@ -66,14 +68,6 @@ fn radians_in(quarters: u64) -> u128
     ensures above { quarters * 0xc90fdaa22168c234c4c6628b80dc1cd1 < (result + 1) * 2 ^ 63 }
 {
     2 * product(quarters, RADIANS) + (product(quarters, RADIANS_MORE) >> 63)
-}
-
-/// Returns `first` if `is_first`, and otherwise `second`. As a function of its own it compiles to one selection.
-#[inline]
-fn either(is_first: bool, first: u64, second: u64) -> u64
-    ensures { result ≡ (if is_first then first else second) }
-{
-    if is_first { first } else { second }
 }
 
 /// Splits `x 2^-64` radians into quarter turns and a rest in units of `2^-64` radians. The rest is at most 2 units too
@@ -152,6 +146,9 @@ pub fn sin_of<T: RawWord>(a: T, frac: u32) -> Outcome<T>
     ensures { (r : ℤ) × IsRadianSine (sine_room T.BITS) (T.value a) frac r
         × StandsFor T.value T.SIGNED T.BITS r result }
 {
+    if is_narrow(T::BITS, frac) {
+        return outcome_of_signed(narrow_sine(a, frac));
+    }
     let angle = reduced(a, frac);
     outcome_at(angle.quarter, angle.below, angle.rest, frac)
 }
@@ -165,6 +162,9 @@ pub fn cos_of<T: RawWord>(a: T, frac: u32) -> Outcome<T>
     ensures { (r : ℤ) × IsRadianCosine (sine_room T.BITS) (T.value a) frac r
         × StandsFor T.value T.SIGNED T.BITS r result }
 {
+    if is_narrow(T::BITS, frac) {
+        return outcome_of_signed(narrow_cosine(a, frac));
+    }
     let angle = reduced(a, frac);
     outcome_at(angle.quarter + 1, angle.below, angle.rest, frac)
 }
@@ -179,6 +179,12 @@ pub fn sin_cos_of<T: RawWord>(a: T, frac: u32) -> (Outcome<T>, Outcome<T>)
     ensures cosine { (r : ℤ) × IsRadianCosine (sine_room T.BITS) (T.value a) frac r
         × StandsFor T.value T.SIGNED T.BITS r result.1 }
 {
+    if is_narrow(T::BITS, frac) {
+        return (
+            outcome_of_signed(narrow_sine(a, frac)),
+            outcome_of_signed(narrow_cosine(a, frac)),
+        );
+    }
     let angle = reduced(a, frac);
     let sine = outcome_at(angle.quarter, angle.below, angle.rest, frac);
     (

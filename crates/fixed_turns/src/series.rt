@@ -1,35 +1,35 @@
 //! The series of sine and cosine at an angle of up to an eighth of a turn. Numbers are in units of `2^-64`.
 
-ghost use Rattle.std.specs.Prelude.{◌≡◌, ◌≤◌, ◌<◌, ◌+◌, ◌-◌, ◌*◌, ◌/◌, ◌^◌, ℕ};
+ghost use Rattle.std.specs.Prelude.{◌≡◌, ◌≤◌, ◌<◌, ◌+◌, ◌-◌, ◌*◌, ◌/◌, ◌^◌, ℕ, if◌then◌else◌};
 ghost use Rattle.fixed_turns.specs.Series.{Fraction, cosine_series, sine_series};
 ghost use Rattle.fixed_turns.specs.Sines.{radians};
 ghost use Rattle.fixed_turns.specs.inside.Rests.{IsClose, IsLessened, IsNestedTo, IsRounded, IsUnder, factorial, quotients, reach};
 
 use crate::constants::RADIANS;
 
-/// The factorials of 0 to 20.
-const FACTORIALS: [u64; 21] = [
-    1,
-    1,
-    2,
-    6,
-    24,
-    120,
-    720,
-    5_040,
-    40_320,
-    362_880,
-    3_628_800,
-    39_916_800,
-    479_001_600,
-    6_227_020_800,
-    87_178_291_200,
-    1_307_674_368_000,
-    20_922_789_888_000,
-    355_687_428_096_000,
-    6_402_373_705_728_000,
-    121_645_100_408_832_000,
-    2_432_902_008_176_640_000,
+/// The reciprocals of the factorials of 20 down to 0, in units of `2^-64`, rounded down, or a unit less if one is exact.
+const RECIPROCALS: [u64; 21] = [
+    u64::MAX / 2_432_902_008_176_640_000,
+    u64::MAX / 121_645_100_408_832_000,
+    u64::MAX / 6_402_373_705_728_000,
+    u64::MAX / 355_687_428_096_000,
+    u64::MAX / 20_922_789_888_000,
+    u64::MAX / 1_307_674_368_000,
+    u64::MAX / 87_178_291_200,
+    u64::MAX / 6_227_020_800,
+    u64::MAX / 479_001_600,
+    u64::MAX / 39_916_800,
+    u64::MAX / 3_628_800,
+    u64::MAX / 362_880,
+    u64::MAX / 40_320,
+    u64::MAX / 5_040,
+    u64::MAX / 720,
+    u64::MAX / 120,
+    u64::MAX / 24,
+    u64::MAX / 6,
+    u64::MAX / 2,
+    u64::MAX / 1,
+    u64::MAX / 1,
 ];
 
 /// Returns the higher half of a product.
@@ -64,7 +64,7 @@ fn reciprocal(n: u64) -> u64
     requires { n ≤ 20 }
     ensures { result ≡ (2 ^ 64 - 1) / factorial n }
 {
-    u64::MAX / FACTORIALS[n as usize]
+    RECIPROCALS[(20 - n) as usize]
 }
 
 /// Returns `q (1 - r (1 - ..))`, where q, r and so on are `count` quotients of `square`. The first is by
@@ -76,7 +76,7 @@ fn nested(square: u64, first: u64, count: u64) -> u64
     requires most { first ≤ 2 }
     requires count { count ≤ 9 }
     requires square { 8 * (square + 5) ≤ 5 * 2 ^ 64 }
-    ensures value { IsNestedTo square first count count result }
+    ensures value { (e : ℕ) → 8 * (square + e) ≤ 5 * 2 ^ 64 → IsNestedTo e square first count count result }
     ensures none { square ≡ 0 → result ≡ 0 }
 {
     let mut less = 0;
@@ -134,6 +134,33 @@ pub(crate) fn cosine(x: u64, bits: u32) -> u128
     ensures none { x ≡ 0 → result ≡ 2 ^ 64 }
 {
     (1 << 64) - u128::from(nested(high(x, x), 1, quotients(bits)))
+}
+
+/// Returns `first` if `is_first`, and otherwise `second`. As a function of its own it compiles to one selection.
+#[inline]
+pub(crate) fn either(is_first: bool, first: u64, second: u64) -> u64
+    ensures { result ≡ (if is_first then first else second) }
+{
+    if is_first { first } else { second }
+}
+
+/// Returns the sine of quarter turns, at most 1, and `x` radians, on words of up to 32 bits. With a quarter turn this is
+/// the cosine of `x`, which is at most a unit below 1. If an exact angle differs from `x` by at most `2^18` units, the
+/// result differs from its sine by at most `2^23` units. Numbers are selected, since no branch can be predicted by the
+/// quarter. Precondition: `x` is hardly more than an eighth of a turn.
+#[inline(always)]
+pub(crate) fn narrow_sum(quarter: u64, x: u64) -> u64
+    requires quarter { quarter ≤ 1 }
+    requires small { x ≤ 0xca00000000000000 }
+    ensures sine { quarter ≡ 0 → (y : Fraction) (n : ℕ) → 0 < y.den → IsClose (2 ^ 18) x y
+        → IsClose (2 ^ 23) result (sine_series y (n + 10)) }
+    ensures cosine { quarter ≡ 1 → (y : Fraction) (n : ℕ) → 0 < y.den → IsClose (2 ^ 18) x y
+        → IsClose (2 ^ 23) result (cosine_series y (n + 10)) }
+    ensures few { quarter ≡ 0 → result ≤ x }
+    ensures one { quarter ≡ 1 → x < 2 ^ 32 → result ≡ 2 ^ 64 - 1 }
+{
+    let factor = either(quarter == 1, u64::MAX, x);
+    lessened(factor, nested(high(x, x), 2 - quarter, 6))
 }
 
 /// Returns the quotient by `2^shift`, rounded to the nearest. A tie is rounded up.

@@ -36,7 +36,7 @@ fn cosine_of(x: u64, bits: u32, frac: u32) -> u128
 /// Returns whether a number is below 0 after quarter turns, where `below` is whether it is so before them. A half turn
 /// changes the sign.
 #[inline(always)]
-fn turned(quarter: u64, below: bool) -> bool
+pub(crate) fn turned(quarter: u64, below: bool) -> bool
     ensures same { ¬ (quarter / 2 ≡ 1) → result ≡ below }
     ensures other { quarter / 2 ≡ 1 → result ≡ not below }
 {

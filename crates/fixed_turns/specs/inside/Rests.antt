@@ -28,6 +28,10 @@ pub record IsUnder (c t : ℕ) (y : Fraction) : Type 0 where
 abbrev pub IsSineNear : ℕ → ℕ → Bool → ℕ → ℕ → ℤ → Type 0
 IsSineNear k q below x f r = (b : Bool) (y : Fraction) → IsUnder 2 x y → (b ≡ below) ⊎ (x ≡ 0) → IsSineBy k q b y f r
 
+-- the same, where x is off by 2^18 units at most, and the sum by 2^23
+abbrev pub IsSineClose : ℕ → Bool → ℕ → ℕ → ℤ → Type 0
+IsSineClose q below x f r = (b : Bool) (y : Fraction) → 0 < y.den → IsClose (2 ^ 18) x y → (b ≡ below) ⊎ (x ≤ 2 ^ 18) → IsSineBy 41 q b y f r
+
 -- how many quotients are read on words of n bits, and how far off the sum may be
 abbrev pub quotients : ℕ → ℕ
 quotients n = if nat_le n 32 then 6 else 9
@@ -44,16 +48,16 @@ factorial (suc n) = suc n * factorial n
 abbrev pub place : ℕ → ℕ → ℕ → ℕ
 place first count i = first + 2 * (count - 1 - i)
 
--- how far off i quotients are, over the numbers that divide them, by a square of 5/8 at most; the quotients after them are
--- left out
-unfoldable pub slack : ℕ → ℕ → ℕ → ℕ
-slack first count zero = 1 + 5 * 2 ^ 64 / (8 * factorial (first + 2 * count + 1))
-slack first count (suc i) = (5 * slack first count i + 40 / factorial (place first count i + 1) + 21) / 8
+-- how far off i quotients are, over the numbers that divide them, by a square of 5/8 at most that is off by e units; the
+-- quotients after them are left out
+unfoldable pub slack : ℕ → ℕ → ℕ → ℕ → ℕ
+slack e first count zero = 1 + 5 * 2 ^ 64 / (8 * factorial (first + 2 * count + 1))
+slack e first count (suc i) = (5 * slack e first count i + 8 * e / factorial (place first count i + 1) + 21) / 8
 
--- less is close to i quotients and n more, over the numbers that divide them
-abbrev pub IsNestedTo : ℕ → ℕ → ℕ → ℕ → ℕ → Type 0
-IsNestedTo square first count i less = (y : Fraction) (n : ℕ) → IsUnder 5 square y
-    → IsClose (slack first count i) less (over (nested y (first + 2 * (count - i)) (n + i)) (factorial (first + 2 * (count - i) - 1)))
+-- less is close to i quotients and n more, over the numbers that divide them, of a fraction that the square is off by e units
+abbrev pub IsNestedTo : ℕ → ℕ → ℕ → ℕ → ℕ → ℕ → Type 0
+IsNestedTo e square first count i less = (y : Fraction) (n : ℕ) → 0 < y.den → IsClose e square y
+    → IsClose (slack e first count i) less (over (nested y (first + 2 * (count - i)) (n + i)) (factorial (first + 2 * (count - i) - 1)))
 
 -- four times an angle of p units of 2^-64 turns are quarters and a rest
 pub record IsParted (p q : ℕ) (below : Bool) (rest : ℕ) : Type 0 where
@@ -85,6 +89,15 @@ pub record IsSplit (p m f n : ℕ) (below : Bool) (x : ℕ) : Type 0 where
   pub small : rest ≤ 2 * 10 ^ 39 * 2 ^ f
   pub under : IsUnder 2 x (parts rest f)
   pub sure : (sign ≡ below) ⊎ (x ≡ 0)
+
+-- the same, where the magnitude differs from x by 2^18 units at most, and its sign is not known if x is no more than that
+pub record IsSplitClose (p m f n : ℕ) (below : Bool) (x : ℕ) : Type 0 where
+  pub sign : Bool
+  pub rest : ℕ
+  pub is : pos (2 * 10 ^ 39 * m) ≡ pos (n * (p * 2 ^ f)) +ℤ with_sign sign rest
+  pub small : rest ≤ 2 * 10 ^ 39 * 2 ^ f
+  pub close : IsClose (2 ^ 18) x (parts rest f)
+  pub sure : (sign ≡ below) ⊎ (x ≤ 2 ^ 18)
 
 -- the same of a number with its sign, and of quarters besides whole turns
 pub record IsReducedTo (p : ℕ) (a : ℤ) (f q : ℕ) (below : Bool) (x : ℕ) : Type 0 where

@@ -1,0 +1,97 @@
+//! Sines and cosines of angles of few turns in radians, on words of up to 32 bits.
+
+ghost use Rattle.std.specs.Prelude.{◌≡◌, ◌≤◌, ◌<◌, ◌+◌, ◌*◌, ◌^◌, ℕ, true};
+ghost use Rattle.fixed_word.specs.Format.{with_sign};
+ghost use Rattle.fixed_turns.specs.Radians.{IsRadianCosine, IsRadianSine};
+ghost use Rattle.fixed_turns.specs.inside.Rests.{IsBesidePi, IsSineClose, IsSplitClose};
+
+use crate::angles::Angle;
+use crate::constants::{QUARTERS, RADIANS};
+use crate::series::{either, narrow_sum};
+use crate::signed::Signed;
+use crate::sines::turned;
+use fixed_word::RawWord;
+
+/// Returns whether words have at most 32 bits, and their angles in units of `2^-frac` radians are below `2^19`.
+#[inline(always)]
+pub(crate) fn is_narrow(bits: u32, frac: u32) -> bool
+    requires { frac ≤ 64 }
+    ensures { result ≡ true → (bits ≤ 32) × (bits ≤ frac + 19) }
+{
+    bits <= 32 && bits <= frac + 19
+}
+
+/// Returns how many quarter turns `magnitude 2^-frac` radians are, to the nearest or hardly further.
+#[inline(always)]
+fn quarters_near(magnitude: u64, frac: u32) -> u64
+    requires word { magnitude < 2 ^ 32 }
+    requires frac { frac ≤ 32 }
+    ensures most { result * 2 ^ (31 + frac) ≤ magnitude * 0x517cc1b7 + 2 ^ (30 + frac) }
+    ensures least { magnitude * 0x517cc1b7 + 2 ^ (30 + frac) < (result + 1) * 2 ^ (31 + frac) }
+{
+    (magnitude * (QUARTERS >> 33) + (1 << (30 + frac))) >> (31 + frac)
+}
+
+/// Splits `magnitude 2^-frac` radians into quarter turns and a rest in units of `2^-64` radians. The rest differs from
+/// the exact one by at most `2^18` units. If it is no more than that, the exact one may have either sign.
+#[inline(always)]
+fn split_near(magnitude: u64, frac: u32) -> Angle
+    requires few { magnitude < 2 ^ (frac + 19) }
+    requires word { magnitude < 2 ^ 32 }
+    requires frac { frac ≤ 32 }
+    ensures value { (p : ℕ) → IsBesidePi p → IsSplitClose p magnitude frac result.quarter result.below result.rest }
+    ensures small { result.rest ≤ 0xca00000000000000 }
+{
+    let quarter = quarters_near(magnitude, frac);
+    let ahead = (magnitude << (63 - frac)).wrapping_sub(quarter.wrapping_mul(RADIANS + 1));
+    let below = ahead >> 63 == 1;
+    Angle {
+        quarter,
+        below,
+        rest: 2 * either(below, ahead.wrapping_neg(), ahead),
+    }
+}
+
+/// Returns the sine of quarter turns and `x 2^-64` radians, which are subtracted if `below`, in units of `2^-frac`,
+/// rounded to the nearest. If x is at most `2^18`, it may stand for an angle of either sign.
+#[inline(always)]
+fn sine_near(quarter: u64, below: bool, x: u64, frac: u32) -> Signed
+    requires quarter { quarter ≤ 4 }
+    requires small { x ≤ 0xca00000000000000 }
+    requires frac { frac ≤ 32 }
+    ensures { IsSineClose quarter below x frac (with_sign result.below_zero result.magnitude) }
+{
+    let units = narrow_sum(quarter % 2, x);
+    Signed {
+        below_zero: turned(quarter, below && quarter % 2 == 0),
+        magnitude: u128::from(((units >> (63 - frac)) + 1) >> 1),
+    }
+}
+
+/// Returns the sine of `a 2^-frac` radians in units of `2^-frac`, rounded to the nearest.
+#[inline(always)]
+pub(crate) fn narrow_sine<T: RawWord>(a: T, frac: u32) -> Signed
+    requires word { T.BITS ≤ 32 }
+    requires few { T.BITS ≤ frac + 19 }
+    requires frac { frac ≤ T.BITS }
+    ensures { IsRadianSine 41 (T.value a) frac (with_sign result.below_zero result.magnitude) }
+{
+    let angle = split_near(a.magnitude(), frac);
+    let sine = sine_near(angle.quarter % 4, angle.below, angle.rest, frac);
+    Signed {
+        below_zero: sine.below_zero != a.is_below_zero(),
+        magnitude: sine.magnitude,
+    }
+}
+
+/// Returns the cosine of `a 2^-frac` radians in units of `2^-frac`, rounded to the nearest.
+#[inline(always)]
+pub(crate) fn narrow_cosine<T: RawWord>(a: T, frac: u32) -> Signed
+    requires word { T.BITS ≤ 32 }
+    requires few { T.BITS ≤ frac + 19 }
+    requires frac { frac ≤ T.BITS }
+    ensures { IsRadianCosine 41 (T.value a) frac (with_sign result.below_zero result.magnitude) }
+{
+    let angle = split_near(a.magnitude(), frac);
+    sine_near(angle.quarter % 4 + 1, angle.below, angle.rest, frac)
+}
