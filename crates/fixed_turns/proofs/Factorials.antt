@@ -1,5 +1,5 @@
 -- Quotients, and factorials with their reciprocals.
-use Rattle.std.proofs.Common.{◌≡◌, ◌+◌, ◌-◌, ◌*◌, ◌/◌, ◌^◌, ◌<◌, ◌≤◌, ℕ, zero, suc, List, [], ◌∷◌, length, Bool, true, T, ◌&&◌, get_or, refl, subst, ap, ◌∙◌, arith}
+use Rattle.std.proofs.Common.{◌≡◌, ◌+◌, ◌-◌, ◌*◌, ◌/◌, ◌^◌, ◌<◌, ◌≤◌, ℕ, zero, suc, List, [], ◌∷◌, length, Bool, true, T, ◌&&◌, get_or, refl, subst, arith}
 use Rattle.std.proofs.lemmas.Nat.{div-add-mod', mul-le}
 use Rattle.std.proofs.Math.Nat.{lt_of_mul-lt-mul_right, mod-lt, mul-le-mul_right, mul-le-mul_left}
 use Rattle.std.proofs.Math.Dec.{eqb}

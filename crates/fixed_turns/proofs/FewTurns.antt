@@ -1,7 +1,6 @@
 -- Angles of few turns in radians, on words of up to 32 bits.
-use Rattle.std.proofs.Common.{◌≡◌, ◌⊎◌, ◌+◌, ◌-◌, ◌*◌, ◌/◌, ◌%◌, ◌^◌, ◌<◌, ◌≤◌, ◌<ℤ◌, ◌+ℤ◌, ℕ, ℤ, Bool, true, false, not, pos, negsuc, neg_ℤ, suc, if◌then◌else◌, nat_eq, inl, inr, refl, subst, sym, ap, ◌∙◌, add-mul, pow-add, arith}
+use Rattle.std.proofs.Common.{◌≡◌, ◌⊎◌, ◌+◌, ◌-◌, ◌*◌, ◌/◌, ◌%◌, ◌^◌, ◌<◌, ◌≤◌, ◌<ℤ◌, ◌+ℤ◌, ℕ, ℤ, Bool, true, false, not, pos, negsuc, neg_ℤ, zero, suc, if◌then◌else◌, nat_eq, inl, inr, refl, subst, sym, ap, ◌∙◌, add-mul, pow-add, arith}
 use Rattle.std.specs.Prelude.{IsTrue, ◌↔◌, unsigned_abs}
-use mathlib.Core.Bool.{beq}
 use Rattle.std.proofs.lemmas.Bool.{cases_lt, iff_false}
 use Rattle.std.proofs.lemmas.Int.{ints}
 use Rattle.std.proofs.lemmas.Nat.{pow_pos}
@@ -10,13 +9,13 @@ use Rattle.std.proofs.Math.Pow.{pow_mono}
 use Rattle.fixed_word.specs.Format.{InRange, IsWidth, with_sign}
 use Rattle.fixed_turns.specs.Radians.{IsRadianCosine, IsRadianSine, IsSineWith, parts}
 use Rattle.fixed_turns.specs.Series.{Fraction, cosine_series, sine_series}
-use Rattle.fixed_turns.specs.Sines.{IsSumAt, pi}
+use Rattle.fixed_turns.specs.Sines.{IsSineBy, IsSumAt, pi}
 use Rattle.fixed_turns.specs.inside.Rests.{IsBesidePi, IsClose, IsRounded, IsSineClose, IsSplitClose}
 use Rattle.fixed_turns.proofs.Factorials.{quotient_low}
 use Rattle.fixed_turns.proofs.RadianSines.{cosine_even, pi_high, pi_low, sine_minus}
 use Rattle.fixed_turns.proofs.Splits.{quarters_left, size_down, size_up}
 use Rattle.fixed_turns.proofs.Sums.{powers, rounded_half, rounded_most, sum_at}
-use Rattle.fixed_turns.proofs.TurnLaws.{other_way}
+use Rattle.fixed_turns.proofs.TurnLaws.{twice_negated}
 use Rattle.fixed_turns.proofs.Turning.{cosine_at, sine_by_sign}
 
 -- ---- n quarters are near the angle: both in units of 2^-63 radians
@@ -310,26 +309,33 @@ sine_of_magnitude m f n x r below s near =
 cosine_of_magnitude : (m f n x : ℕ) (r : ℤ) (below : Bool) → ((p : ℕ) → IsBesidePi p → IsSplitClose p m f n below x) → IsSineClose (n % 4 + 1) below x f r → IsRadianCosine 41 (pos m) f r
 cosine_of_magnitude m f n x r below s near = record { low = with_pi pi 1 m f n x r below (s pi pi_low) near; high = with_pi (pi + 1) 1 m f n x r below (s (pi + 1) pi_high) near }
 
--- ---- with the sign of the angle
-minus : (a : ℤ) (m f v : ℕ) (below : Bool) → a ≡ neg_ℤ (pos m) → IsRadianSine 41 (pos m) f (with_sign below v) → IsRadianSine 41 a f (with_sign (not below) v)
-minus a m f v below e h =
-    let b = sine_minus 41 f (pos m) (with_sign below v) h in
-    let c = subst (λ (r : ℤ). IsRadianSine 41 (neg_ℤ (pos m)) f r) (sym (other_way below v)) b in
-    subst (λ (z : ℤ). IsRadianSine 41 z f (with_sign (not below) v)) (sym e) c
+-- ---- with the sign of the angle: a half turn changes that of the sine
+half_turn : (k q f : ℕ) (b : Bool) (y : Fraction) (r : ℤ) → q ≤ 3 → IsSineBy k ((q + 2) % 4) b y f r → IsSineBy k q b y f (neg_ℤ r)
+unfolding IsSineBy
+half_turn k zero f b y r few h = h
+half_turn k (suc zero) f b y r few h = h
+half_turn k (suc (suc zero)) f b y r few h = subst (λ (z : ℤ). IsSineBy k 0 b y f z) (sym (twice_negated r)) h
+half_turn k (suc (suc (suc zero))) f b y r few h = subst (λ (z : ℤ). IsSineBy k 1 b y f z) (sym (twice_negated r)) h
+half_turn k (suc (suc (suc (suc q)))) f b y r few h = absurd (omega arith)
 
-signed_sine : (a : ℤ) (m f v : ℕ) (neg below : Bool) → (IsTrue neg ↔ (a <ℤ pos 0)) → m ≡ unsigned_abs a → IsRadianSine 41 (pos m) f (with_sign below v) → IsRadianSine 41 a f (with_sign (not (beq below neg)) v)
-signed_sine a m f v true true sign size h = minus a m f v true (size_down a m (sign.0 refl) size) h
-signed_sine a m f v true false sign size h = minus a m f v false (size_down a m (sign.0 refl) size) h
-signed_sine a m f v false true sign size h = subst (λ (z : ℤ). IsRadianSine 41 z f (with_sign true v)) (sym (size_up a m (iff_false sign refl) size)) h
-signed_sine a m f v false false sign size h = subst (λ (z : ℤ). IsRadianSine 41 z f (with_sign false v)) (sym (size_up a m (iff_false sign refl) size)) h
+half_close : (q x f : ℕ) (r : ℤ) (below : Bool) → q ≤ 3 → IsSineClose ((q + 2) % 4) below x f r → IsSineClose q below x f (neg_ℤ r)
+half_close q x f r below few near = λ b y some u sure. half_turn 41 q f b y r few (near b y some u sure)
+
+pub sine_of : (a : ℤ) (m f n x h : ℕ) (r : ℤ) (neg below : Bool) → (IsTrue neg ↔ (a <ℤ pos 0)) → m ≡ unsigned_abs a → ((p : ℕ) → IsBesidePi p → IsSplitClose p m f n below x) → h ≡ (if neg then 2 else 0)
+    → IsSineClose ((n % 4 + h) % 4) below x f r → IsRadianSine 41 a f r
+sine_of a m f n x h r true below sign size s half near =
+    let e = size_down a m (sign.0 refl) size in
+    let c = subst (λ (j : ℕ). IsSineClose ((n % 4 + j) % 4) below x f r) half near in
+    let d = sine_minus 41 f (pos m) (neg_ℤ r) (sine_of_magnitude m f n x (neg_ℤ r) below s (half_close (n % 4) x f r below (omega arith) c)) in
+    subst (λ (z : ℤ). IsRadianSine 41 z f r) (sym e) (subst (λ (z : ℤ). IsRadianSine 41 (neg_ℤ (pos m)) f z) (twice_negated r) d)
+sine_of a m f n x h r false below sign size s half near =
+    let e = size_up a m (iff_false sign refl) size in
+    let same : (n % 4 + h) % 4 ≡ n % 4 = omega arith in
+    subst (λ (z : ℤ). IsRadianSine 41 z f r) (sym e) (sine_of_magnitude m f n x r below s (subst (λ (j : ℕ). IsSineClose j below x f r) same near))
 
 signed_cosine : (a : ℤ) (m f : ℕ) (r : ℤ) → m ≡ unsigned_abs a → IsRadianCosine 41 (pos m) f r → IsRadianCosine 41 a f r
 signed_cosine (pos n) m f r size h = subst (λ (j : ℕ). IsRadianCosine 41 (pos j) f r) size h
 signed_cosine (negsuc n) m f r size h = cosine_even 41 f (pos (suc n)) r (subst (λ (j : ℕ). IsRadianCosine 41 (pos j) f r) size h)
-
-pub sine_of : (a : ℤ) (m f n x v : ℕ) (neg below b : Bool) → (IsTrue neg ↔ (a <ℤ pos 0)) → m ≡ unsigned_abs a → ((p : ℕ) → IsBesidePi p → IsSplitClose p m f n below x) → IsSineClose (n % 4) below x f (with_sign b v)
-    → IsRadianSine 41 a f (with_sign (not (beq b neg)) v)
-sine_of a m f n x v neg below b sign size s near = signed_sine a m f v neg b sign size (sine_of_magnitude m f n x (with_sign b v) below s near)
 
 pub cosine_of : (a : ℤ) (m f n x : ℕ) (r : ℤ) (below : Bool) → m ≡ unsigned_abs a → ((p : ℕ) → IsBesidePi p → IsSplitClose p m f n below x) → IsSineClose (n % 4 + 1) below x f r → IsRadianCosine 41 a f r
 cosine_of a m f n x r below size s near = signed_cosine a m f r size (cosine_of_magnitude m f n x r below s near)

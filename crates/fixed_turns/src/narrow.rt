@@ -77,11 +77,14 @@ pub(crate) fn narrow_sine<T: RawWord>(a: T, frac: u32) -> Signed
     ensures { IsRadianSine 41 (T.value a) frac (with_sign result.below_zero result.magnitude) }
 {
     let angle = split_near(a.magnitude(), frac);
-    let sine = sine_near(angle.quarter % 4, angle.below, angle.rest, frac);
-    Signed {
-        below_zero: sine.below_zero != a.is_below_zero(),
-        magnitude: sine.magnitude,
-    }
+    // a half turn changes the sign
+    let half = either(a.is_below_zero(), 2, 0);
+    sine_near(
+        (angle.quarter % 4 + half) % 4,
+        angle.below,
+        angle.rest,
+        frac,
+    )
 }
 
 /// Returns the cosine of `a 2^-frac` radians in units of `2^-frac`, rounded to the nearest.
