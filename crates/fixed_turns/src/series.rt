@@ -145,9 +145,9 @@ pub(crate) fn either(is_first: bool, first: u64, second: u64) -> u64
 }
 
 /// Returns the sine of quarter turns, at most 1, and `x` radians, on words of up to 32 bits. With a quarter turn this is
-/// the cosine of `x`, which is at most a unit below 1. If an exact angle differs from `x` by at most `2^18` units, the
-/// result differs from its sine by at most `2^23` units. Numbers are selected, since no branch can be predicted by the
-/// quarter. Precondition: `x` is hardly more than an eighth of a turn.
+/// the cosine of `x`; that of 0 is a unit less than 1. If an exact angle differs from `x` by at most `2^18` units, the
+/// result differs from its sine or cosine by at most `2^23` units. Numbers are selected, since no branch can be
+/// predicted by the quarter. Precondition: `x` is hardly more than an eighth of a turn.
 #[inline(always)]
 pub(crate) fn narrow_sum(quarter: u64, x: u64) -> u64
     requires quarter { quarter ≤ 1 }
@@ -160,7 +160,7 @@ pub(crate) fn narrow_sum(quarter: u64, x: u64) -> u64
     ensures one { quarter ≡ 1 → x < 2 ^ 32 → result ≡ 2 ^ 64 - 1 }
 {
     let factor = either(quarter == 1, u64::MAX, x);
-    lessened(factor, nested(high(x, x), 2 - quarter, 6))
+    lessened(factor, nested(high(x, x), 2 - quarter, quotients(32)))
 }
 
 /// Returns the quotient by `2^shift`, rounded to the nearest. A tie is rounded up.
