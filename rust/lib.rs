@@ -94,7 +94,6 @@
 #![allow(rustdoc::redundant_explicit_links)]
 // Taste, not faults: proved sources keep the forms of which their proofs speak.
 #![allow(
-    clippy::identity_op,
     clippy::implicit_saturating_add,
     clippy::manual_div_ceil,
     clippy::manual_is_multiple_of,

@@ -1,12 +1,12 @@
 -- The lists of the numbers of words.
-use Rattle.std.proofs.Common.{◌≡◌, ◌+◌, ◌-◌, ◌*◌, ◌/◌, ◌^◌, ◌<◌, ◌≤◌, ◌*ℤ◌, ◌<ℤ◌, ℕ, ℤ, zero, suc, Bool, true, false, pos, negsuc, nat_abs, refl, ap, sym, ◌∙◌, arith}
+use Rattle.std.proofs.Common.{◌≡◌, ◌-◌, ◌*◌, ◌/◌, ◌^◌, ◌<◌, ◌≤◌, ◌*ℤ◌, ◌<ℤ◌, ℕ, ℤ, zero, suc, Bool, true, false, pos, negsuc, nat_abs, refl, ap, sym, ◌∙◌, arith}
 use Rattle.std.specs.Prelude.{◌↔◌, IsTrue}
 use Rattle.std.proofs.lemmas.Int.{ints}
-use Rattle.std.proofs.lemmas.Nat.{mul-le, pow-add, pow_pos}
+use Rattle.std.proofs.lemmas.Nat.{pow_pos}
 use Rattle.std.proofs.Math.Nat.{div-le_self, pow-le-pow_right}
 use Rattle.fixed_word.specs.Format.{IsWidth, InRange, modulo, wrap, with_sign}
 use Rattle.fixed_word.specs.Quotient.{floor_quotient}
-use Rattle.fixed_word.proofs.Wraps.{double, modulo_below, width_pos, wrap-wrap, wrap_same, wrap_unsigned}
+use Rattle.fixed_word.proofs.Wraps.{double, less_moved, modulo_below, width_pos, wrap-wrap, wrap_same, wrap_unsigned}
 use Rattle.fixed_bits.specs.Digits.{bit_list, byte_list, lowest_digits}
 use Rattle.fixed_bits.proofs.Lists.{byte_base, lowest_mod, same_number}
 
@@ -76,14 +76,6 @@ moved_up true (suc m) k = refl
 -- ---- shifts
 
 -- a word moved up fits an integer of twice its width, which is m
-less_moved : (a n k m : ℕ) → a < 2 ^ n → k < n → m ≡ 2 * n → a * 2 ^ k < 2 ^ (m - 1)
-less_moved a n k m h i l =
-    let some = pow_pos k in
-    let e : n + k ≤ m - 1 = omega arith in
-    let p = pow-le-pow_right {n = 2} (omega arith) {i = n + k} {j = m - 1} e in
-    let q = mul-le (suc a) (2 ^ k) (2 ^ n) (2 ^ k) h (omega arith) in
-    omega (arith, pow-add 2 n k)
-
 moved_in : (s : Bool) (n m k : ℕ) (x : ℤ) → m ≡ 2 * n → k < n → InRange s n x → InRange s m (x *ℤ pos (2 ^ k))
 moved_in true n m k (pos a) l i r =
     let d = double n (omega arith) in

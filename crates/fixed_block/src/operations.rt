@@ -240,6 +240,11 @@ impl<T: Word> Pairs<T> for Add {
     fn outcome(&self, x: T, y: T) -> Outcome<T> {
         add_of(x, y)
     }
+
+    #[inline(always)]
+    fn is_tested_first(&self) -> bool {
+        T::BITS <= 16 && !T::SIGNED
+    }
 }
 
 /// The difference `x - y`.
@@ -259,6 +264,11 @@ impl<T: Word> Pairs<T> for Sub {
     #[inline(always)]
     fn outcome(&self, x: T, y: T) -> Outcome<T> {
         sub_of(x, y)
+    }
+
+    #[inline(always)]
+    fn is_tested_first(&self) -> bool {
+        T::BITS <= 16 && !T::SIGNED
     }
 }
 

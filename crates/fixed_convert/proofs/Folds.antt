@@ -2,10 +2,11 @@
 use Rattle.std.proofs.Common.{◌≡◌, ◌+◌, ◌-◌, ◌*◌, ◌/◌, ◌%◌, ◌^◌, ◌<◌, ◌≤◌, ℕ, Bool, true, false, pos, neg_ℤ, ap, sym, ◌∙◌, arith, inl, inr}
 use native.Mathlib.Nat.{mul_assoc, mul-pos, mod-eq_of_lt}
 use Rattle.std.proofs.lemmas.Int.{ints}
-use Rattle.std.proofs.lemmas.Nat.{div-add-mod', mul-le, mul-mod_first, pow-add, pow_pos, shl_below}
+use Rattle.std.proofs.lemmas.Nat.{div-add-mod', mul-le, pow-add, pow_pos, shl_below}
 use Rattle.std.proofs.Math.Nat.{pow-le-pow_right}
 use Rattle.fixed_word.specs.Format.{with_sign}
 use Rattle.fixed_kernel.specs.inside.Alike.{Alike}
+use Rattle.fixed_kernel.proofs.Alikes.{low_bits_of}
 
 -- a number past 64 bits, and the one past them that ends in the same bits
 folded : (b : Bool) (p : ℕ) → 2 ^ 64 ≤ p → Alike (2 ^ 64) (with_sign b p) (with_sign b (2 ^ 64 + p % 2 ^ 64))
@@ -20,12 +21,6 @@ at_least : (m k : ℕ) → 2 ^ 64 ≤ m → 2 ^ 64 ≤ m * 2 ^ k
 at_least m k h =
     let one = mul-le m 1 m (2 ^ k) (omega arith) (pow_pos k) in
     omega arith
-
-low_bits_of : (m k : ℕ) → (m % 2 ^ 64 * 2 ^ k) % 2 ^ 128 % 2 ^ 64 ≡ (m * 2 ^ k) % 2 ^ 64
-low_bits_of m k = cut (m % 2 ^ 64 * 2 ^ k) ∙ mul-mod_first m (2 ^ k) (2 ^ 64)
-  where
-    cut : (x : ℕ) → x % 2 ^ 128 % 2 ^ 64 ≡ x % 2 ^ 64
-    cut x = omega arith
 
 pub raised_large : (b : Bool) (m k : ℕ) → 2 ^ 64 ≤ m
     → Alike (2 ^ 64) (with_sign b (m * 2 ^ k)) (with_sign b (2 ^ 64 + (m % 2 ^ 64 * 2 ^ k) % 2 ^ 128 % 2 ^ 64))

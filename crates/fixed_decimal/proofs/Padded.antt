@@ -16,7 +16,7 @@ use Rattle.fixed_decimal.proofs.Readings.{stepped_exact}
 use Rattle.fixed_decimal.proofs.Shown.{places_behind, places_join}
 use Rattle.fixed_decimal.proofs.Trips.{signed_is}
 
-replicate_end : (j c : ℕ) → replicate j c ++ c ∷ [] ≡ c ∷ replicate j c
+pub replicate_end : (j c : ℕ) → replicate j c ++ c ∷ [] ≡ c ∷ replicate j c
 replicate_end zero c = refl
 replicate_end (suc j) c = ap (λ (l : List ℕ). c ∷ l) (replicate_end j c)
 

@@ -1,5 +1,5 @@
 -- The laws of texts.
-use Rattle.std.proofs.Common.{◌≡◌, ◌+◌, ◌-◌, ◌*◌, ◌/◌, ◌%◌, ◌^◌, ◌<◌, ◌≤◌, ◌*ℤ◌, ℕ, ℤ, zero, suc, pos, nat_abs, Bool, true, false, List, Option, Some, None, Result, Ok, refl, sym, ap, ◌∙◌, add-zero, inl, inr, arith, ◌-ℤ◌, ◌+ℤ◌, ◌≤ℤ◌}
+use Rattle.std.proofs.Common.{◌≡◌, ◌+◌, ◌-◌, ◌*◌, ◌/◌, ◌%◌, ◌^◌, ◌<◌, ◌≤◌, ◌*ℤ◌, ℕ, ℤ, zero, suc, pos, nat_abs, Bool, true, false, List, Option, Some, None, Result, Ok, refl, sym, ap, ◌∙◌, add-zero, inl, inr, arith, ◌-ℤ◌, ◌+ℤ◌}
 use Rattle.std.specs.Result.{result_unwrap_or}
 use Rattle.std.specs.Str.Parse.{digits_value, starts_with_minus, without_leading_sign}
 use Rattle.std.proofs.Math.Nat.{one-le-pow}
@@ -13,8 +13,8 @@ use Rattle.fixed_kernel.specs.Rounded.{nearest, rounded}
 use Rattle.fixed_kernel.specs.inside.Steps.{rounding_step}
 use Rattle.fixed_kernel.proofs.Alikes.{abs_signed, signed_times}
 use Rattle.std.proofs.lemmas.Int.{ints}
-use borrow.Author.Differences.{up, down}
 use Rattle.fixed_word.proofs.Nearest.{cases_int}
+use Rattle.fixed_word.proofs.QuotientLaws.{times_le}
 use Rattle.fixed_word.proofs.Wraps.{suc_times}
 use Rattle.fixed_kernel.specs.Rounded.{IsNearestEven}
 use Rattle.fixed_kernel.proofs.RoundedLaws.{rounded_is}
@@ -129,12 +129,6 @@ read_law a f text e =
     reads_from_close a (nat_abs a) f p refl (close_to_read n (nat_abs a) (10 ^ p) (2 ^ f) t d size)
 
 -- ---- nothing is nearer
-times_le : (a b : ℤ) (d : ℕ) → a ≤ℤ b → (a *ℤ pos d) ≤ℤ (b *ℤ pos d)
-times_le a b d h =
-    let u : up a + down b ≤ up b + down a = omega (arith, ints) in
-    let r : d ≤ d = omega arith in
-    omega (arith, ints, mul-le (up a + down b) d (up b + down a) d u r)
-
 nearer : (x q n : ℤ) (d : ℕ) → IsNearestEven x (pos d) q → nat_abs (x -ℤ q *ℤ pos d) ≤ nat_abs (x -ℤ n *ℤ pos d)
 nearer x q n d i =
     let near = i.near in

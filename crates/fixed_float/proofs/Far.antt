@@ -13,7 +13,8 @@ use Rattle.fixed_kernel.specs.inside.Steps.{rounding_step}
 use Rattle.fixed_kernel.specs.Rounded.{rounded}
 use Rattle.fixed_kernel.proofs.Alikes.{alike_same}
 use Rattle.fixed_kernel.proofs.Stepped.{stepped}
-use Rattle.fixed_float.proofs.Roundings.{rounded_at, rounded_same, rounded_whole}
+use Rattle.fixed_float.proofs.Roundings.{rounded_same, rounded_whole}
+use Rattle.fixed_convert.proofs.Factors.{rounded_magnitude}
 
 -- ---- down
 even_small : (n d : ℕ) (b : Bool) → 2 * n ≤ d → nat_le (2 * n + 0 % 2) d ≡ b → ◌≡◌ {A = ℕ} (if b then 0 else 1) 0
@@ -63,7 +64,7 @@ moved_down k b n up N U =
     let p : 2 ^ up * 2 ^ by ≡ 2 ^ 1074 = sym (pow-add 2 up by) ∙ ap (λ (z : ℕ). 2 ^ z) {x = up + by} {y = 1074} (omega arith) in
     let e : n * 2 ^ up * 2 ^ by ≡ n * 2 ^ 1074 = mul_assoc n (2 ^ up) (2 ^ by) ∙ ap (λ (z : ℕ). n * z) p in
     ap (with_sign b) (sym (stepped_far k b n by (omega arith)))
-    ∙ sym (rounded_at k b n (2 ^ by) (pow_pos by))
+    ∙ sym (rounded_magnitude k b n (2 ^ by) (pow_pos by))
     ∙ sym (rounded_same k b (n * 2 ^ up) (2 ^ 1074) n (2 ^ by) (pow_pos 1074) (pow_pos by) e)
 
 -- ---- up

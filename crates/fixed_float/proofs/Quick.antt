@@ -18,7 +18,8 @@ use Rattle.fixed_float.specs.declared.parts.Parts.{Parts}
 use Rattle.fixed_float.proofs.Centre.{abs_value, bits_at, closest_minus, closest_plus, finite_under, is_number, moved, size_under, value_at}
 use Rattle.fixed_float.proofs.Fields.{packed_value}
 use Rattle.fixed_float.proofs.Products.{times_is}
-use Rattle.fixed_float.proofs.Roundings.{closest_stepped, rounded_at}
+use Rattle.fixed_float.proofs.Roundings.{closest_stepped}
+use Rattle.fixed_convert.proofs.Factors.{rounded_magnitude}
 use Rattle.fixed_float.proofs.Rows.{parts_exist, row_of_parts}
 
 -- ---- a number of at most 2 ^ 50 units, beside the centre
@@ -145,7 +146,7 @@ module _ (x : Float) (fit : T (fits binary64 x)) (g : ℕ) (G : g ≤ 64) where
             number = subst (λ (y : Float). T (not (is_nan y))) (sym sum_is) b.0;
             bits = ap (to_bits binary64) sum_is ∙ b.1;
             small = le_trans (closest_small n (2 ^ 1074) (pow_pos 1074) small) (lit≤ tt);
-            row = row_of_parts x p g Even are ∙ ap Some (rounded_at Even p.below_zero n (2 ^ 1074) (pow_pos 1074) ∙ ap (with_sign p.below_zero) (sym (closest_stepped n (2 ^ 1074) p.below_zero)));
+            row = row_of_parts x p g Even are ∙ ap Some (rounded_magnitude Even p.below_zero n (2 ^ 1074) (pow_pos 1074) ∙ ap (with_sign p.below_zero) (sym (closest_stepped n (2 ^ 1074) p.below_zero)));
           }
 
   pub quick : le (float_with_sign false x) bound ≡ true → IsMoved x g (add binary64 (mul binary64 x power) centre)

@@ -12,7 +12,8 @@ use Rattle.fixed_word.specs.declared.rounding.Rounding.TheVariants.{Down, Zero, 
 use Rattle.fixed_kernel.specs.Rounded.{nearest, rounded}
 use Rattle.fixed_kernel.specs.inside.Steps.{rounding_step}
 use Rattle.fixed_float.proofs.Formats.{closest_eq, closest_gt, closest_lt}
-use Rattle.fixed_kernel.proofs.Stepped.{rounded_signed, stepped, stepped_small}
+use Rattle.fixed_kernel.proofs.Stepped.{stepped, stepped_small}
+use Rattle.fixed_convert.proofs.Factors.{rounded_magnitude}
 
 -- ---- to the nearest, as floats are rounded
 nearest_step : (a d : ℕ) (b : Bool) → nat_le (2 * (a % d) + a / d % 2) d ≡ b → closest a d ≡ a / d + (if b then 0 else 1)
@@ -66,15 +67,8 @@ stepped_same Zero below a b c d B D h = ap (λ (q : ℕ). q + 0) (div_same a b c
 stepped_same Even below a b c d B D h = sym (closest_stepped a b below) ∙ closest_same a b c d B D h ∙ closest_stepped c d below
 
 -- ---- with a sign
-above_it : (b : Bool) → not (beq b false) ≡ b
-above_it true = refl
-above_it false = refl
-
-pub rounded_at : (k : Rounding) (b : Bool) (m d : ℕ) → 0 < d → rounded (with_sign b m) (pos d) k ≡ with_sign b (stepped k b m d)
-rounded_at k b m d D = rounded_signed k b false m d D ∙ ap (λ (c : Bool). with_sign c (stepped k c m d)) (above_it b)
-
 pub rounded_same : (k : Rounding) (b : Bool) (m d n e : ℕ) → 0 < d → 0 < e → m * e ≡ n * d → rounded (with_sign b m) (pos d) k ≡ rounded (with_sign b n) (pos e) k
-rounded_same k b m d n e D E h = rounded_at k b m d D ∙ ap (with_sign b) (stepped_same k b m d n e D E h) ∙ sym (rounded_at k b n e E)
+rounded_same k b m d n e D E h = rounded_magnitude k b m d D ∙ ap (with_sign b) (stepped_same k b m d n e D E h) ∙ sym (rounded_magnitude k b n e E)
 
 stepped_one : (k : Rounding) (b : Bool) (n : ℕ) → stepped k b n 1 ≡ n
 stepped_one k b n = omega (arith, stepped_small k b n 1 (omega arith))
@@ -82,4 +76,4 @@ stepped_one k b n = omega (arith, stepped_small k b n 1 (omega arith))
 pub rounded_whole : (k : Rounding) (b : Bool) (n d : ℕ) → 0 < d → rounded (with_sign b (n * d)) (pos d) k ≡ with_sign b n
 rounded_whole k b n d D =
     let one : 0 < 1 = omega arith in
-    rounded_same k b (n * d) d n 1 D one (omega arith) ∙ rounded_at k b n 1 one ∙ ap (with_sign b) (stepped_one k b n)
+    rounded_same k b (n * d) d n 1 D one (omega arith) ∙ rounded_magnitude k b n 1 one ∙ ap (with_sign b) (stepped_one k b n)

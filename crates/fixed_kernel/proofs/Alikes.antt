@@ -94,7 +94,7 @@ room_past m k h l =
     let q : 2 ^ (127 - k) * 2 ^ k ≡ 2 ^ 127 = sym (pow-add 2 (127 - k) k) ∙ ap (λ (n : ℕ). 2 ^ n) e in
     omega arith
 
-low_bits_of : (m k : ℕ) → (m % 2 ^ 64 * 2 ^ k) % 2 ^ 128 % 2 ^ 64 ≡ (m * 2 ^ k) % 2 ^ 64
+pub low_bits_of : (m k : ℕ) → (m % 2 ^ 64 * 2 ^ k) % 2 ^ 128 % 2 ^ 64 ≡ (m * 2 ^ k) % 2 ^ 64
 low_bits_of m k = mod-mod_pow (m % 2 ^ 64 * 2 ^ k) ∙ mul-mod_first m (2 ^ k) (2 ^ 64)
   where
     mod-mod_pow : (x : ℕ) → x % 2 ^ 128 % 2 ^ 64 ≡ x % 2 ^ 64

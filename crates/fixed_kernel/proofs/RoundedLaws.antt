@@ -2,10 +2,8 @@
 use Rattle.std.proofs.Common.{◌≡◌, ◌≢◌, ◌+◌, ◌*◌, ◌%◌, ◌<◌, ◌≤◌, ◌≤ℤ◌, ◌+ℤ◌, ◌*ℤ◌, ℕ, ℤ, zero, suc, pos, negsuc, neg_ℤ, nat_abs, refl, arith, inl, inr}
 use Rattle.std.proofs.lemmas.Int.{ints}
 use Rattle.std.proofs.lemmas.Bool.{cases_lt}
-use borrow.Author.Differences.{up, down}
-use Rattle.std.proofs.lemmas.Nat.{mul-le}
 use Rattle.fixed_word.specs.Quotient.{truncated_quotient}
-use Rattle.fixed_word.proofs.QuotientLaws.{floor_quotient_is, floor_quotient_unique, truncated_quotient_is, trunc_unique}
+use Rattle.fixed_word.proofs.QuotientLaws.{floor_quotient_is, floor_quotient_unique, times_le, truncated_quotient_is, trunc_unique}
 use Rattle.fixed_word.proofs.Wraps.{neg-times, suc_times}
 use Rattle.fixed_word.proofs.Nearest.{cases_int}
 use Rattle.fixed_word.specs.declared.rounding.Rounding.{Rounding}
@@ -56,12 +54,6 @@ turned_back x q d n =
     let e = times_turned q d in
     let b = n.near in
     record { near = omega (arith, ints); tie = λ t. n.tie (omega (arith, ints)) }
-
-times_le : (a b : ℤ) (d : ℕ) → a ≤ℤ b → (a *ℤ pos d) ≤ℤ (b *ℤ pos d)
-times_le a b d h =
-    let u : up a + down b ≤ up b + down a = omega (arith, ints) in
-    let r : d ≤ d = omega arith in
-    omega (arith, ints, mul-le (up a + down b) d (up b + down a) d u r)
 
 -- of two whole numbers side by side one is odd
 one_is_odd : (q : ℤ) → nat_abs q % 2 ≡ 0 → nat_abs (q +ℤ pos 1) % 2 ≡ 0 → ⊥

@@ -1,21 +1,12 @@
 //! Products and quotients that return the wrapped word, and whether the exact result does not fit.
 
-ghost use Rattle.std.specs.Prelude.{◌≡◌, ◌≢◌, ◌≤◌, ◌*◌, ◌≤ℤ◌, ℤ, Some, pos, neg_ℤ};
+ghost use Rattle.std.specs.Prelude.{◌≡◌, ◌≢◌, ◌≤◌, ◌*◌, ◌≤ℤ◌, Some, pos, neg_ℤ};
 ghost use Rattle.fixed_word.specs.Policies.{overflowing};
-ghost use Rattle.fixed_word.specs.Standing.{StandsFor};
 ghost use Rattle.fixed_kernel.specs.Rows.{exact_add_prod_at, exact_div, exact_mul};
 
 use crate::products::{add_prod_at, mul_of};
 use crate::quotients::div_of;
-use fixed_word::{Outcome, Side, Word};
-
-/// Returns the wrapped word of an outcome, and whether its number does not fit.
-fn with_verdict<T: Word>(outcome: Outcome<T>) -> (T, bool)
-    ensures { (x : ℤ) → StandsFor T.value T.SIGNED T.BITS x outcome
-        → Some (T.value result.0, result.1) ≡ overflowing T.SIGNED T.BITS (Some x) }
-{
-    (outcome.wrapped, outcome.side != Side::Fits)
-}
+use fixed_word::{Word, overflowing_of};
 
 /// Returns `lhs rhs / 2^frac_nbits`, rounded down and wrapped, and whether the exact result does not fit. Operands
 /// and result are bits. Precondition: `frac_nbits` is at most the width. (This is `overflowing_mul` of `fixed`.)
@@ -24,7 +15,7 @@ pub fn overflowing_mul<T: Word>(lhs: T, rhs: T, frac_nbits: u32) -> (T, bool)
     ensures { Some (T.value result.0, result.1)
         ≡ overflowing T.SIGNED T.BITS (Some (exact_mul (T.value lhs) (T.value rhs) frac_nbits)) }
 {
-    with_verdict(mul_of(lhs, rhs, frac_nbits))
+    overflowing_of(mul_of(lhs, rhs, frac_nbits))
 }
 
 /// Returns `lhs 2^frac_nbits / rhs`, rounded toward zero and wrapped, and whether the exact result does not fit.
@@ -36,7 +27,7 @@ pub fn overflowing_div<T: Word>(lhs: T, rhs: T, frac_nbits: u32) -> (T, bool)
     ensures { Some (T.value result.0, result.1)
         ≡ overflowing T.SIGNED T.BITS (Some (exact_div (T.value lhs) (T.value rhs) frac_nbits)) }
 {
-    with_verdict(div_of(lhs, rhs, frac_nbits))
+    overflowing_of(div_of(lhs, rhs, frac_nbits))
 }
 
 /// Returns `lhs mul / 2^frac_nbits`, rounded down, plus `add`, wrapped, and whether the exact sum does not fit. The
@@ -49,5 +40,5 @@ pub fn overflowing_mul_add<T: Word>(lhs: T, mul: T, add: T, frac_nbits: i32) -> 
     ensures { Some (T.value result.0, result.1) ≡ overflowing T.SIGNED T.BITS
         (Some (exact_add_prod_at (T.value add) (T.value lhs) (T.value mul) frac_nbits)) }
 {
-    with_verdict(add_prod_at(add, lhs, mul, frac_nbits))
+    overflowing_of(add_prod_at(add, lhs, mul, frac_nbits))
 }

@@ -1,2 +1,1 @@
 mod Positive
-mod UpTo

@@ -8,4 +8,3 @@ pub mod NaturalLaws
 pub mod PowExponents
 pub mod Powering
 pub mod Raising
-mod UpTo

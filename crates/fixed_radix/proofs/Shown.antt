@@ -5,6 +5,7 @@ use Rattle.std.proofs.Math.Nat.{div-div-eq-div-mul, one-le-pow, pow-zero}
 use Rattle.std.proofs.lemmas.Bool.Decides.{nat_tests}
 use Rattle.std.proofs.lemmas.List.{drop-set, drop_all}
 use Rattle.std.proofs.lemmas.Nat.{div-add-mod', div-mul-add, mod-mul-add}
+use Rattle.fixed_decimal.proofs.Padded.{replicate_end}
 use Rattle.fixed_decimal.proofs.Parts.{joined_quotient}
 use Rattle.fixed_radix.specs.Bases.{base_text, last_digits}
 
@@ -79,10 +80,6 @@ text_put b u n (suc p) r old one new some few lo l1 e1 e2 =
     ∙ ap (λ (l : List ℕ). 46 ∷ l) (e1 ∙ ap (λ (l : List ℕ). last_digits b u n (suc p) ++ l) (drop_all 130 old (omega arith)) ∙ append-nil (last_digits b u n (suc p))))
 
 -- ---- zeros behind the digits
-replicate_end : (j c : ℕ) → replicate j c ++ c ∷ [] ≡ c ∷ replicate j c
-replicate_end zero c = refl
-replicate_end (suc j) c = ap (λ (l : List ℕ). c ∷ l) (replicate_end j c)
-
 -- digits before digits
 places_join : (b : ℕ) (u : Bool) (n p j : ℕ) → last_digits b u n (j + p) ≡ last_digits b u (n / b ^ j) p ++ last_digits b u n j
 unfolding last_digits

@@ -28,8 +28,8 @@ const RECIPROCALS: [u64; 21] = [
     u64::MAX / 24,
     u64::MAX / 6,
     u64::MAX / 2,
-    u64::MAX / 1,
-    u64::MAX / 1,
+    u64::MAX,
+    u64::MAX,
 ];
 
 /// Returns the higher half of a product.

@@ -17,7 +17,7 @@ floor_quotient_is (negsuc a) d h =
     let b = mod_below a d h in
     record { below = omega (arith, ints); above = omega (arith, ints, suc_times (negsuc (a / d)) d) }
 
-times_le : (a b : ℤ) (d : ℕ) → a ≤ℤ b → (a *ℤ pos d) ≤ℤ (b *ℤ pos d)
+pub times_le : (a b : ℤ) (d : ℕ) → a ≤ℤ b → (a *ℤ pos d) ≤ℤ (b *ℤ pos d)
 times_le a b d h =
     let u : up a + down b ≤ up b + down a = omega (arith, ints) in
     let r : d ≤ d = omega arith in

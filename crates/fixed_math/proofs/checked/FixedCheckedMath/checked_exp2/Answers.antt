@@ -1,5 +1,5 @@
 use Rattle.std.proofs.Common.{◌∙◌}
-use Rattle.fixed_math.proofs.UpTo.{checked_alike}
+use Rattle.fixed_word.proofs.UpTo.{checked_alike}
 use Rattle.fixed_math.proofs.checked.FixedCheckedMath.checked_exp2.Goals as goal
 
 pub returns : goal.returns

@@ -1,5 +1,5 @@
 use Rattle.std.proofs.Common.{◌∙◌}
-use Rattle.fixed_math.proofs.UpTo.{saturating_alike}
+use Rattle.fixed_word.proofs.UpTo.{saturating_alike}
 use Rattle.fixed_math.proofs.saturating.FixedSaturatingMath.saturating_exp2.Goals as goal
 
 pub returns : goal.returns

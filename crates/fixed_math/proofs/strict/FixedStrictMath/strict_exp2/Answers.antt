@@ -1,4 +1,4 @@
-use Rattle.fixed_math.proofs.UpTo.{same_where_fits}
+use Rattle.fixed_word.proofs.UpTo.{same_where_fits}
 use Rattle.fixed_math.proofs.strict.FixedStrictMath.strict_exp2.Goals as goal
 
 pub returns : goal.returns

@@ -1,5 +1,5 @@
 use Rattle.std.proofs.Common.{◌∙◌}
-use Rattle.fixed_natural.proofs.UpTo.{checked_alike}
+use Rattle.fixed_word.proofs.UpTo.{checked_alike}
 use Rattle.fixed_natural.proofs.checked.FixedCheckedNatural.checked_exp.Goals as goal
 
 pub returns : goal.returns

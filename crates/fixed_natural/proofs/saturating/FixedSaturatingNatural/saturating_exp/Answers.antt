@@ -1,5 +1,5 @@
 use Rattle.std.proofs.Common.{◌∙◌}
-use Rattle.fixed_natural.proofs.UpTo.{saturating_alike}
+use Rattle.fixed_word.proofs.UpTo.{saturating_alike}
 use Rattle.fixed_natural.proofs.saturating.FixedSaturatingNatural.saturating_exp.Goals as goal
 
 pub returns : goal.returns

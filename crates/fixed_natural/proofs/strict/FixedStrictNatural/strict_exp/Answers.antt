@@ -1,4 +1,4 @@
-use Rattle.fixed_natural.proofs.UpTo.{same_where_fits}
+use Rattle.fixed_word.proofs.UpTo.{same_where_fits}
 use Rattle.fixed_natural.proofs.strict.FixedStrictNatural.strict_exp.Goals as goal
 
 pub returns : goal.returns

@@ -1,14 +1,12 @@
 -- What the policies make of two numbers that are equal or lie above the range.
 use Rattle.std.proofs.Common.{◌≡◌, ◌⊎◌, ◌<ℤ◌, ℕ, ℤ, Bool, Some, None, ap, sym, ◌∙◌, inl, inr, arith}
 use Rattle.std.proofs.lemmas.Int.{ints}
-use Rattle.fixed_word.specs.Format.{InRange, clamp, highest}
+use Rattle.fixed_word.specs.Format.{InRange, highest}
 use Rattle.fixed_word.specs.Policies.{checked, saturating}
+use Rattle.fixed_word.proofs.Nearest.{clamp_above}
 
 checked_above : (s : Bool) (n : ℕ) (x : ℤ) → highest s n <ℤ x → checked s n (Some x) ≡ None
 checked_above s n x h = grind (arith, ints)
-
-clamp_above : (s : Bool) (n : ℕ) (x : ℤ) → highest s n <ℤ x → clamp s n x ≡ highest s n
-clamp_above s n x h = grind (arith, ints)
 
 pub checked_alike : (s : Bool) (n : ℕ) (x y : ℤ) → (y ≡ x) ⊎ ((highest s n <ℤ y) × (highest s n <ℤ x)) → checked s n (Some y) ≡ checked s n (Some x)
 checked_alike s n x y (inl e) = ap (λ (z : ℤ). checked s n (Some z)) e
