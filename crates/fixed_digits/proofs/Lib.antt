@@ -6,3 +6,4 @@ pub mod Placed
 pub mod Pairs
 pub mod Lengths
 pub mod Lacking
+pub mod Short

@@ -1,6 +1,6 @@
 //! Reading decimals of natural numbers, capped at `2^64`.
 
-ghost use Rattle.std.specs.Prelude.{◌≡◌, IsTrue};
+ghost use Rattle.std.specs.Prelude.{◌≡◌, ◌≤◌, ◌&&◌, IsTrue, None, Some, if◌then◌else◌, length};
 ghost use Rattle.std.specs.List.{list_all};
 ghost use Rattle.std.specs.Char.{is_ascii_digit};
 ghost use Rattle.std.specs.Str.Parse.{digits_value};
@@ -15,14 +15,21 @@ fn all_digits(bytes: &[u8]) -> bool
     bytes.iter().all(|b| b.is_ascii_digit())
 }
 
+/// Returns whether the token is not empty, and is `0` or does not begin with 0.
+fn begins_as_decimal(token: &[u8]) -> bool
+    ensures { is_decimal token.now ≡ (result && list_all is_ascii_digit token.now) }
+{
+    match token {
+        [] => false,
+        [first, rest @ ..] => *first != b'0' || rest.is_empty(),
+    }
+}
+
 /// Returns whether the token consists of digits, at least one, and is `0` or does not begin with 0.
 pub fn is_decimal(token: &[u8]) -> bool
     ensures { result ≡ is_decimal token.now }
 {
-    match token {
-        [] => false,
-        [first, rest @ ..] => { (*first != b'0' || rest.is_empty()) && all_digits(token) }
-    }
+    begins_as_decimal(token) && all_digits(token)
 }
 
 /// Returns the number that the digits write, or `2^64` if it is larger. Precondition: the token is a decimal, as
@@ -38,14 +45,44 @@ pub fn value_of(digits: &[u8]) -> u128
     value
 }
 
-/// Returns the natural number that the token writes, or `2^64` if it is larger. Returns `None` if the token is not a
-/// decimal.
+/// Returns the number that at most 19 digits write, or `None` if a byte is no digit.
+fn short_value_of(bytes: &[u8]) -> Option<u64>
+    requires { length bytes.now ≤ 19 }
+    ensures { result ≡ (if list_all is_ascii_digit bytes.now
+        then Some (digits_value 10 bytes.now) else None) }
+{
+    let mut value: u64 = 0;
+    for b in bytes {
+        let digit = b.wrapping_sub(b'0');
+        if digit > 9 {
+            return None;
+        }
+        value = value * 10 + u64::from(digit);
+    }
+    Some(value)
+}
+
+/// Does what `natural_of` does, and looks at each byte twice.
 #[tactic(auto, unfolding(crate::specs::Numerals::natural_at))]
-pub fn natural_of(token: &[u8]) -> Option<u128>
+fn long_natural_of(token: &[u8]) -> Option<u128>
     ensures { result ≡ natural_at token.now }
 {
     if is_decimal(token) {
         Some(value_of(token))
+    } else {
+        None
+    }
+}
+
+/// Returns the natural number that the token writes, or `2^64` if it is larger. Returns `None` if the token is not a
+/// decimal.
+pub fn natural_of(token: &[u8]) -> Option<u128>
+    ensures { result ≡ natural_at token.now }
+{
+    if token.len() > 19 {
+        long_natural_of(token)
+    } else if begins_as_decimal(token) {
+        Some(u128::from(short_value_of(token)?))
     } else {
         None
     }

@@ -64,10 +64,7 @@ fn append_reply<T: Word>(
         ≡ output.old ++ reply_text channel number (reply_map T.value reply)) }
 {
     match reply {
-        Reply::Value(value) => {
-            output.append_word(value)?;
-            output.append(b"\n")
-        }
+        Reply::Value(value) => output.append_word_and(value, b'\n'),
         Reply::Overflow(tap) => append_overflow(output, channel, number, tap),
     }
 }

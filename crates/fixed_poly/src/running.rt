@@ -53,10 +53,7 @@ fn append_reply<T: Word>(output: &mut Output, reply: PolyReply<T>) -> Result<(),
     ensures { OnOk result (output.new ≡ output.old ++ reply_text (reply_map T.value reply)) }
 {
     match reply {
-        PolyReply::Value(value) => {
-            output.append_word(value)?;
-            output.append(b"\n")
-        }
+        PolyReply::Value(value) => output.append_word_and(value, b'\n'),
         PolyReply::Overflow(step) => {
             output.append(b"overflow ")?;
             output.append_natural(step as u64)?;

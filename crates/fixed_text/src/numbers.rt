@@ -42,15 +42,10 @@ pub fn read_numbered(letter: u8, token: &[u8]) -> Option<u128>
 
 /// Returns the whole number that the remaining tokens write, or `None` unless they are one decimal and nothing else.
 #[tactic(auto, unfolding(crate::specs::Numbers::only_number))]
-pub fn read_only_number(mut tokens: Tokens<'_>) -> Option<Decimal>
+pub fn read_only_number(tokens: Tokens<'_>) -> Option<Decimal>
     ensures { result ≡ option_map decimal_of (only_number tokens.entry) }
 {
-    let number = read_decimal(tokens.take()?)?;
-    if tokens.is_empty() {
-        Some(number)
-    } else {
-        None
-    }
+    read_decimal(tokens.rest()?)
 }
 
 /// Returns the word of a number. Fails with `Refusal::Unfit` if the number does not fit.

@@ -3,7 +3,7 @@
 ghost use Rattle.std.specs.Prelude.{◌≡◌, ◌++◌, [], OnErr, OnOk};
 ghost use Rattle.fixed_word.specs.Decimal.{natural_text, whole_text};
 
-use fixed_digits::decimal_into;
+use fixed_digits::{decimal_before, decimal_into};
 use fixed_word::{RawWord, Word};
 use std::alloc::{AllocError, Global};
 use std::marker::Model;
@@ -58,6 +58,22 @@ impl Output {
             self.append(b"-")?;
         }
         self.append_natural(word.magnitude())
+    }
+
+    /// Adds the decimal of a word's value at the end, and a byte behind it. Fails if memory runs out; the bytes are then
+    /// unchanged.
+    pub fn append_word_and<T: Word>(&mut self, word: T, byte: u8) -> Result<(), AllocError>
+        ensures added { OnOk result (self.new ≡ self.old ++ (whole_text (T.value word) ++ (byte ∷ []))) }
+        ensures kept { OnErr result (self.new ≡ self.old) }
+    {
+        let mut buffer = [byte; 22];
+        let digits = decimal_before(word.magnitude(), &mut buffer, 21);
+        if word.is_below_zero() {
+            buffer[digits - 1] = b'-';
+            self.append(&buffer[digits - 1..])
+        } else {
+            self.append(&buffer[digits..])
+        }
     }
 
     /// Returns the bytes.
