@@ -58,16 +58,8 @@ impl<T: Word> Model for IntervalRun<T> {
 fn append_ends<T: Word>(output: &mut Output, interval: &Interval<T>) -> Result<(), AllocError>
     ensures { OnOk result (output.new ≡ output.old ++ ends_text (ends_of T.value interval.now)) }
 {
-    append_end(output, interval.lo(), b" ")?;
-    append_end(output, interval.hi(), b"\n")
-}
-
-/// Prints an end and what follows it.
-fn append_end<T: Word>(output: &mut Output, end: T, next: &[u8]) -> Result<(), AllocError>
-    ensures { OnOk result (output.new ≡ output.old ++ whole_text (T.value end) ++ next.now) }
-{
-    output.append_word(end)?;
-    output.append(next)
+    output.append_word_and(interval.lo(), b' ')?;
+    output.append_word_and(interval.hi(), b'\n')
 }
 
 /// Returns `count` copies of an interval.

@@ -5,6 +5,8 @@ pub mod Joined
 pub mod Cutting
 pub mod Naturals
 pub mod Wholes
+pub mod Only
+pub mod Signed
 pub mod Caps
 pub mod Turns
 pub mod Gathered

@@ -41,11 +41,13 @@ pub fn read_numbered(letter: u8, token: &[u8]) -> Option<u128>
 }
 
 /// Returns the whole number that the remaining tokens write, or `None` unless they are one decimal and nothing else.
-#[tactic(auto, unfolding(crate::specs::Numbers::only_number))]
 pub fn read_only_number(tokens: Tokens<'_>) -> Option<Decimal>
     ensures { result ≡ option_map decimal_of (only_number tokens.entry) }
 {
-    read_decimal(tokens.rest()?)
+    match tokens.rest() {
+        Some(rest) => read_decimal(rest),
+        None => None,
+    }
 }
 
 /// Returns the word of a number. Fails with `Refusal::Unfit` if the number does not fit.

@@ -1,6 +1,6 @@
 //! The bytes that a run writes.
 
-ghost use Rattle.std.specs.Prelude.{◌≡◌, ◌++◌, [], OnErr, OnOk};
+ghost use Rattle.std.specs.Prelude.{◌≡◌, ◌++◌, ◌∷◌, [], OnErr, OnOk};
 ghost use Rattle.fixed_word.specs.Decimal.{natural_text, whole_text};
 
 use fixed_digits::{decimal_before, decimal_into};
