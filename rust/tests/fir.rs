@@ -64,7 +64,39 @@ fn expected<T: Word + Into<i128>>(shape: Shape, taps: &[T], samples: &[T]) -> Re
     Ok(sum)
 }
 
-/// Blocks of one word and shape, beside the definition and single steps.
+/// One block, beside the definition and single steps. Returns whether a partial sum does not fit.
+fn stops_alike<T: Word + Into<i128> + std::fmt::Debug>(
+    shape: Shape,
+    taps: &[T],
+    before: &[T],
+    input: &[T],
+    old: &[T],
+) -> bool {
+    let (mut past, mut output) = (before.to_vec(), old.to_vec());
+    let result = filter_block(&shape, taps, &mut past, input, &mut output);
+    let mut steps = before.to_vec();
+    let samples: Vec<T> = before.iter().rev().chain(input).copied().collect();
+    let mut stop = Ok(());
+    for at in 0..input.len() {
+        if stop.is_err() {
+            assert_eq!(output[at], old[at]);
+            continue;
+        }
+        put_in_front(input[at], &mut steps);
+        let step = output_of(&shape, taps, &steps).into_result();
+        match expected(shape, taps, &samples[at + 1..][..taps.len()]) {
+            Ok(sum) => assert_eq!((output[at].into(), step), (sum, Ok(output[at]))),
+            Err(tap) => {
+                assert_eq!((output[at], step), (old[at], Err(TapOverflow { tap })));
+                stop = Err(BlockOverflow { sample: at, tap });
+            }
+        }
+    }
+    assert_eq!((result, past), (stop, steps));
+    stop.is_err()
+}
+
+/// Blocks of one word and shape.
 fn blocks<T: Word + Into<i128> + std::fmt::Debug>(shape: Shape, seed: u64) {
     let mut draws = Draws(seed);
     let mut stops = 0;
@@ -73,28 +105,7 @@ fn blocks<T: Word + Into<i128> + std::fmt::Debug>(shape: Shape, seed: u64) {
         let before: Vec<T> = draws.words(count, less);
         let input: Vec<T> = draws.words(length, less);
         let old: Vec<T> = draws.words(length, 0);
-        let (mut past, mut output) = (before.clone(), old.clone());
-        let result = filter_block(&shape, &taps, &mut past, &input, &mut output);
-        let mut steps = before.clone();
-        let samples: Vec<T> = before.iter().rev().chain(&input).copied().collect();
-        let mut stop = Ok(());
-        for at in 0..length {
-            if stop.is_err() {
-                assert_eq!(output[at], old[at]);
-                continue;
-            }
-            put_in_front(input[at], &mut steps);
-            let step = output_of(&shape, &taps, &steps).into_result();
-            match expected(shape, &taps, &samples[at + 1..][..count]) {
-                Ok(sum) => assert_eq!((output[at].into(), step), (sum, Ok(output[at]))),
-                Err(tap) => {
-                    assert_eq!((output[at], step), (old[at], Err(TapOverflow { tap })));
-                    stop = Err(BlockOverflow { sample: at, tap });
-                }
-            }
-        }
-        stops += u32::from(stop.is_err());
-        assert_eq!((result, past), (stop, steps));
+        stops += u32::from(stops_alike(shape, &taps, &before, &input, &old));
     }
     assert!((1..160).contains(&stops), "{stops}");
 }
@@ -114,6 +125,62 @@ fn blocks_are_steps() {
     blocks::<u32>(shape(16, 30, 16), 6);
     blocks::<i64>(shape(24, 38, 3), 7);
     blocks::<i8>(shape(4, 1, 2), 8); // products move up
+}
+
+/// Blocks of samples that all have one magnitude: partial sums come near an end of the range, and pass it.
+fn blocks_near_the_ends<T: Word + Into<i128> + std::fmt::Debug>() {
+    let word = |below_zero, magnitude| T::residue(below_zero && T::SIGNED, magnitude);
+    let most = u128::from(T::MAX.magnitude());
+    let shape = |down| Shape {
+        out_frac: 0,
+        coef_frac: down,
+        sample_frac: 0,
+    };
+    let mut stops = 0;
+    for (down, magnitude) in (0..4).flat_map(|down| (0..12).map(move |more| (down, more))) {
+        // Five taps of 3 make 15 for each unit of a sample.
+        let peak = ((most << down) / 15).saturating_sub(6) + magnitude;
+        for signs in 0..32_u32 {
+            let taps: Vec<T> = (0..5).map(|tap| word(signs >> tap & 1 == 1, 3)).collect();
+            let input: Vec<T> = (0..9).map(|at| word(at % 7 < 5, peak.min(most))).collect();
+            stops += u32::from(stops_alike(shape(down), &taps, &[T::ZERO; 5], &input, &input));
+        }
+    }
+    assert!((1..1536).contains(&stops), "{stops}");
+}
+
+#[test]
+fn partial_sums_near_the_ends() {
+    blocks_near_the_ends::<i8>();
+    blocks_near_the_ends::<u8>();
+    blocks_near_the_ends::<i16>();
+    blocks_near_the_ends::<u16>();
+    blocks_near_the_ends::<i32>();
+    blocks_near_the_ends::<u32>();
+    blocks_near_the_ends::<i64>();
+}
+
+/// Each of 129 products is -1/128, which is rounded down to -1. The first sample is 0, and the last tap reaches past it
+/// after the sample 129.
+#[test]
+fn roundings_alone() {
+    let shape = Shape {
+        out_frac: 0,
+        coef_frac: 7,
+        sample_frac: 0,
+    };
+    let mut input = [1_i8; 131];
+    input[0] = 0;
+    let (mut past, mut output) = ([0; 129], [5; 131]);
+    let result = filter_block(&shape, &[-1; 129], &mut past, &input, &mut output);
+    let stop = BlockOverflow {
+        sample: 129,
+        tap: 128,
+    };
+    assert_eq!(result, Err(stop));
+    assert_eq!((output[128], output[129], past), (-128, 5, [1; 129]));
+    let result = filter_block(&shape, &[-1; 128], &mut past[1..], &input, &mut output);
+    assert_eq!((result, output[130]), (Ok(()), -128));
 }
 
 /// A low-pass filter of 16 taps over i16 samples: what a bank's channel replies, in steps and in blocks of any length.

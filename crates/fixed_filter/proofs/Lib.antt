@@ -1,5 +1,6 @@
 pub mod Sums
 pub mod Blocks
+pub mod Untested
 pub mod Places
 pub mod Alone
 pub mod SectionRuns

@@ -1,9 +1,10 @@
 -- The partial sums of a filter.
 use Rattle.std.proofs.Common.{◌≡◌, ◌+◌, ◌-◌, ◌-ℤ◌, ◌<◌, ◌≤◌, ℕ, zero, suc, ℤ, pos, true, false, List, Bool, Option, Some, None, length, get_or, take, refl, sym, ap, ◌∙◌, arith, add-one, inl, inr}
-use Rattle.std.specs.Prelude.{if◌then◌else◌, not}
+use Rattle.std.specs.Prelude.{if◌then◌else◌, not, reverse}
 use Rattle.std.specs.Option.{option_or}
 use Rattle.std.proofs.lemmas.Bool.{cases_lt}
 use Rattle.std.proofs.lemmas.Int.{ints}
+use Rattle.std.proofs.lemmas.List.{get_or-reverse, length-reverse, take_all}
 use Rattle.std.proofs.lemmas.List.Sums.{fold_more}
 use Rattle.fixed_word.specs.Format.{fits}
 use Rattle.fixed_word.specs.Policies.{checked}
@@ -84,3 +85,20 @@ module _ {X Y : Type 0} (left : X → ℤ) (right : Y → ℤ) (signed : Bool) (
       let ps = pairs left right taps past in
       let long : length ps ≡ t = pairs_length left right taps past same ∙ sym all in
       sym (ap (λ (k : ℕ). overflow_or (accumulator (places f g h) ps k) (least_below (misses signed n (places f g h) ps) k)) long ∙ ap (overflow_or (accumulator (places f g h) ps t)) a.fitted ∙ ap (λ (z : ℤ). Value z) (sym a.value))
+
+-- ---- slices of as many samples as there are taps
+module _ {X Y : Type 0} (taps : List X) (samples : List Y) (same : length taps ≡ length samples) where
+  pub as_many : take (length taps) samples ≡ samples
+  as_many = take_all (length taps) samples (omega (arith, same))
+
+  pub of_slice : length taps ≡ length (take (length taps) samples)
+  of_slice = same ∙ sym (ap length as_many)
+
+  pub of_turned : length taps ≡ length (reverse (take (length taps) samples))
+  of_turned = of_slice ∙ sym (length-reverse (take (length taps) samples))
+
+  -- the sample that stands so far from the end
+  pub from_end : (i : ℕ) (sample : Y) → i < length taps → sample ≡ get_or (take (length taps) samples) (length taps - 1 - i) sample → sample ≡ get_or (reverse (take (length taps) samples)) i sample
+  from_end i sample there is =
+      let window = take (length taps) samples in
+      is ∙ ap (λ (n : ℕ). get_or window (n - 1 - i) sample) of_slice ∙ sym (get_or-reverse window i sample (omega (arith, of_slice)))

@@ -1,17 +1,19 @@
 //! Filters over blocks of samples.
 
-ghost use Rattle.std.specs.Prelude.{◌≡◌, ◌+◌, ◌-◌, ◌<◌, ◌≤◌, ◌∷◌, IfErr, drop, get_or, length, reverse, slice_range, take};
+ghost use Rattle.std.specs.Prelude.{◌≡◌, ◌+◌, ◌-◌, ◌<◌, ◌≤◌, ◌∷◌, IfErr, IfSome, drop, get_or, length, reverse, slice_range, take};
 ghost use Rattle.fixed_filter.specs.Replies.{reply_map};
 ghost use Rattle.fixed_filter.specs.Banks.{IsShape, places_of};
 ghost use Rattle.fixed_filter.specs.Blocks.{AreReplies, StopsAt, outputs_of, past_after, reply_to, taken_of};
+ghost use Rattle.fixed_filter.specs.inside.Headroom.{IsUntested};
 
 use crate::accumulation::output_of_past;
+use crate::headroom::untested_places;
 use crate::overflow::BlockOverflow;
 use crate::reply::Reply;
 use crate::sample::Sample;
 use crate::samples::put_in_front;
 use crate::shape::Shape;
-use crate::window::output_of_window;
+use crate::window::{output_of_window, wrapped_sum_of_window};
 use fixed_word::{RawWord, Word};
 
 /// Filters a block of samples, the oldest first, and writes the output after each sample. For each sample this does the
@@ -102,8 +104,9 @@ fn outputs<T: Word, A: Sample<T>, B: Sample<T>, C: Sample<T>>(
         in IfErr result (StopsAt reply past.old input.now) }
     ensures within { IfErr result (λ stop. stop.sample < length input.now) }
 {
+    let untested = untested_places(shape, taps, input);
     for i in 0..input.len() {
-        match output_at(shape, taps, past, input, i) {
+        match output_at(shape, untested, taps, past, input, i) {
             Reply::Value(word) => output[i] = C::from_word(word),
             Reply::Overflow(tap) => return Err(BlockOverflow { sample: i, tap }),
         }
@@ -112,12 +115,13 @@ fn outputs<T: Word, A: Sample<T>, B: Sample<T>, C: Sample<T>>(
 }
 
 /// Returns the output after sample `i` of a block. If `i` is below the number of taps, `past` takes the sample, and the
-/// output is that of the taps and `past`. Otherwise the taps reach only samples of the block, and `past` is unchanged.
-/// Preconditions: `i` is below the number of samples, there are as many past samples as taps, and each number of
-/// fraction bits is at most the width.
+/// output is that of the taps and `past`. Otherwise the taps reach only samples of the block, and `past` is unchanged;
+/// no partial sum is tested where `untested` is that of the block. Preconditions: `i` is below the number of samples,
+/// there are as many past samples as taps, and each number of fraction bits is at most the width.
 #[inline]
 fn output_at<T: Word, A: Sample<T>, B: Sample<T>>(
     shape: &Shape,
+    untested: Option<u32>,
     taps: &[A],
     past: &mut [B],
     input: &[B],
@@ -126,6 +130,8 @@ fn output_at<T: Word, A: Sample<T>, B: Sample<T>>(
     requires shape { IsShape T.BITS shape.now }
     requires lengths { length taps.now ≡ length past.old }
     requires index { i < length input.now }
+    requires untested { IfSome untested (IsUntested (λ a. T.value (A.held a)) (λ b. T.value (B.held b)) T.SIGNED T.BITS
+        (places_of shape.now) taps.now input.now) }
     ensures near { i < length taps.now
         → (sample : B) → sample ≡ get_or input.now i sample → past.new ≡ sample ∷ take (length past.old - 1) past.old }
     ensures near_reply { i < length taps.now → reply_map T.value result
@@ -138,7 +144,11 @@ fn output_at<T: Word, A: Sample<T>, B: Sample<T>>(
     if i < taps.len() {
         step(shape, taps, past, input[i])
     } else {
-        output_of_window(shape, taps, &input[i + 1 - taps.len()..i + 1])
+        let window = &input[i + 1 - taps.len()..i + 1];
+        match untested {
+            Some(down) => Reply::Value(wrapped_sum_of_window(down, taps, window)),
+            None => output_of_window(shape, taps, window),
+        }
     }
 }
 

@@ -17,6 +17,7 @@ mod channel;
 mod fault;
 mod fir;
 mod header;
+mod headroom;
 pub mod laws;
 mod overflow;
 mod reply;

@@ -1,14 +1,17 @@
 //! The output of a filter inside a block.
 
-ghost use Rattle.std.specs.Prelude.{◌≡◌, length, reverse};
+ghost use Rattle.std.specs.Prelude.{◌≡◌, ◌≤◌, length, pos, reverse};
+ghost use Rattle.fixed_word.specs.Format.{wrap};
+ghost use Rattle.fixed_kernel.specs.Rows.{exact_mul_add};
 ghost use Rattle.fixed_policy.specs.DotProduct.{pairs};
-ghost use Rattle.fixed_filter.specs.Replies.{filter_reply, reply_map};
+ghost use Rattle.fixed_filter.specs.Replies.{accumulator, filter_reply, reply_map};
 ghost use Rattle.fixed_filter.specs.Banks.{IsShape, places_of};
 
 use crate::accumulation::checked_add_prod;
 use crate::reply::Reply;
 use crate::sample::Sample;
 use crate::shape::Shape;
+use fixed_kernel::mul_add_of;
 use fixed_word::{RawWord, Word};
 
 /// Returns the output of a filter with these taps after these samples, the newest last. It is the same as that of
@@ -37,4 +40,40 @@ pub(crate) fn output_of_window<T: Word, A: Sample<T>, B: Sample<T>>(
         }
     }
     Reply::Value(sum)
+}
+
+/// Returns the sum of the products of these taps and samples, the newest last, each shifted right by `down` and rounded
+/// down. The sum is wrapped, and no partial sum is tested, so that the loop is vectorised. Preconditions: there are as
+/// many samples as taps, and `down` is at most the width.
+#[inline]
+pub(crate) fn wrapped_sum_of_window<T: Word, A: Sample<T>, B: Sample<T>>(
+    down: u32,
+    taps: &[A],
+    window: &[B],
+) -> T
+    requires lengths { length taps.now ≡ length window.now }
+    requires down { down ≤ T.BITS }
+    ensures { T.value result ≡ wrap T.SIGNED T.BITS (accumulator (pos down)
+        (pairs (λ a. T.value (A.held a)) (λ b. T.value (B.held b)) taps.now (reverse window.now)) (length taps.now)) }
+{
+    let window = &window[..taps.len()];
+    let mut sum = T::ZERO;
+    for i in 0..taps.len() {
+        let tap = taps[i].to_word();
+        let back = taps.len() - 1 - i;
+        let sample = window[back].to_word();
+        sum = wrapped_add_prod(sum, tap, sample, down);
+    }
+    sum
+}
+
+/// Returns the sum plus the product of a tap and a sample, which is shifted right by `down` and rounded down, wrapped.
+/// Precondition: `down` is at most the width.
+#[inline]
+fn wrapped_add_prod<T: Word>(sum: T, tap: T, sample: T, down: u32) -> T
+    requires { down ≤ T.BITS }
+    ensures { T.value result ≡ wrap T.SIGNED T.BITS
+        (exact_mul_add (T.value tap) (T.value sample) (T.value sum) down) }
+{
+    mul_add_of(tap, sample, sum, down).wrapped
 }

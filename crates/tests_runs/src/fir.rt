@@ -1,6 +1,6 @@
 //! Typed filters, by steps and by blocks.
 
-use fixed_filter::{BlockOverflow, Fir, TapOverflow};
+use fixed_filter::{BlockOverflow, Fir, Shape, TapOverflow, filter_block};
 use fixed_num::FixedI8;
 
 /// The taps 1.5 and -0.5.
@@ -65,4 +65,37 @@ fn blocks(rt: HostRuntime) {
     assert!(rt; outputs == [24, 40, -42, 9, 5, 5]);
     assert!(rt; second.map(|output| output.bits) == [-64, -128, 5]);
     assert!(rt; past == [FixedI8 { bits: 84 }, FixedI8 { bits: -85 }]);
+}
+
+/// The taps 1, 2 and -2 in whole units.
+const WHOLE_TAPS: [i8; 3] = [1, 2, -2];
+
+/// The shape of whole numbers.
+const WHOLE: Shape = Shape {
+    out_frac: 0,
+    coef_frac: 0,
+    sample_frac: 0,
+};
+
+/// No partial sum of samples up to 24 passes 120.
+#[test]
+fn block_with_room(rt: HostRuntime) {
+    let mut past = [0_i8; 3];
+    let mut output = [0_i8; 6];
+    let input = [10, -20, 24, 3, -24, 7];
+    assert!(rt; filter_block(&WHOLE, &WHOLE_TAPS, &mut past, &input, &mut output) == Ok(()));
+    assert!(rt; output == [10, 0, -36, 91, -66, -47]);
+    assert!(rt; past == [7, -24, 3]);
+}
+
+/// After 50 the sum of the first two products is 130, and that of all three is 70.
+#[test]
+fn block_without_room(rt: HostRuntime) {
+    let mut past = [0_i8; 3];
+    let mut output = [9_i8; 7];
+    let input = [10, 20, 30, 40, 50, 25, 60];
+    let stop = filter_block(&WHOLE, &WHOLE_TAPS, &mut past, &input, &mut output);
+    assert!(rt; stop == Err(BlockOverflow { sample: 4, tap: 1 }));
+    assert!(rt; output == [10, 40, 50, 60, 9, 9, 9]);
+    assert!(rt; past == [50, 40, 30]);
 }

@@ -1,17 +1,9 @@
-use Rattle.std.proofs.Common.{ap, refl, sym, ◌∙◌, ◌≡◌, ℤ, arith, List, length, take}
-use Rattle.std.proofs.lemmas.List.{take_all}
+use Rattle.std.proofs.Common.{ap, refl, ◌∙◌, ℤ, arith, length, take}
 use Rattle.fixed_filter.specs.Banks.{places_of}
 use Rattle.fixed_filter.specs.Replies.{filter_reply}
 use Rattle.fixed_policy.specs.DotProduct.{pairs}
-use Rattle.fixed_filter.proofs.Sums.{steps, stops, ends}
+use Rattle.fixed_filter.proofs.Sums.{as_many, ends, of_slice, steps, stops}
 use Rattle.fixed_filter.proofs.accumulation.output_of_past.Goals as goal
-
--- the slice of as many samples as there are taps is all of them
-as_many : {X Y : Type 0} (taps : List X) (past : List Y) → length taps ≡ length past → take (length taps) past ≡ past
-as_many taps past e = take_all (length taps) past (omega (arith, e))
-
-of_slice : {X Y : Type 0} (taps : List X) (past : List Y) → length taps ≡ length past → length taps ≡ length (take (length taps) past)
-of_slice taps past e = e ∙ sym (ap length (as_many taps past e))
 
 pub loop-i-init : goal.loop-i-init
 loop-i-init g c = record { value = ap g.T.Valued.value c.ZERO-sum.ensures ∙ g.met.T.RawWord.zero_law; fitted = refl }

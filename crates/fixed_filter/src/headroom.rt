@@ -1,0 +1,87 @@
+//! Filters whose partial sums fit in a block, so that no tap needs a test.
+
+ghost use Rattle.std.specs.Prelude.{◌≡◌, ◌≤◌, IfSome, IsTrue, pos, unsigned_abs};
+ghost use Rattle.std.specs.List.{All, sum_by};
+ghost use Rattle.fixed_word.specs.Format.{InRange};
+ghost use Rattle.fixed_filter.specs.Banks.{IsShape, places_of};
+ghost use Rattle.fixed_filter.specs.inside.Headroom.{IsUntested, roundings};
+
+use crate::sample::Sample;
+use crate::shape::Shape;
+use fixed_word::{RawWord, Valued, Word};
+
+/// Returns by how many places products move down to those of outputs, if no partial sum needs a test after a sample for
+/// which the taps reach only samples of this block. This is so if the partial sums fit for every block whose samples
+/// are no greater than the greatest of this one. Otherwise, if products move up or down by more than the width, or if
+/// the taps reach past samples after each sample, this returns `None`. Precondition: each number of fraction bits is at
+/// most the width.
+pub(crate) fn untested_places<T: Word, A: Sample<T>, B: Sample<T>>(
+    shape: &Shape,
+    taps: &[A],
+    samples: &[B],
+) -> Option<u32>
+    requires { IsShape T.BITS shape.now }
+    ensures { IfSome result (IsUntested (λ a. T.value (A.held a)) (λ b. T.value (B.held b)) T.SIGNED T.BITS
+        (places_of shape.now) taps.now samples.now) }
+{
+    let from = shape.coef_frac + shape.sample_frac;
+    if from < shape.out_frac || T::BITS < from - shape.out_frac || samples.len() <= taps.len() {
+        return None;
+    }
+    let down = from - shape.out_frac;
+    if has_room(down, taps, samples) {
+        Some(down)
+    } else {
+        None
+    }
+}
+
+/// Returns whether each partial sum of these taps fits, for all samples that are no greater than the greatest of these.
+/// Products are shifted right by `down`. Precondition: `down` is at most the width.
+fn has_room<T: Word, A: Sample<T>, B: Sample<T>>(down: u32, taps: &[A], samples: &[B]) -> bool
+    requires { down ≤ T.BITS }
+    ensures { IsTrue result → IsUntested (λ a. T.value (A.held a)) (λ b. T.value (B.held b)) T.SIGNED T.BITS
+        (pos down) taps.now samples.now down }
+{
+    let weight = weight(taps);
+    if weight > u64::MAX as u128 {
+        return false;
+    }
+    let reach = (weight * peak(samples) as u128) >> down;
+    reach + most_roundings::<T>(taps.len()) as u128 <= T::MAX.magnitude() as u128
+}
+
+/// Returns by how many units at most so many products are rounded below 0: products of unsigned words are not.
+fn most_roundings<T: RawWord>(products: usize) -> usize
+    ensures value { result ≡ roundings T.SIGNED products }
+    ensures most { result ≤ products }
+{
+    if T::SIGNED { products } else { 0 }
+}
+
+/// Returns the sum of the magnitudes of taps.
+fn weight<T: Word, A: Sample<T>>(taps: &[A]) -> u128
+    ensures value { result ≡ sum_by (λ a. unsigned_abs (T.value (A.held a))) taps.now }
+    ensures in_range { All (λ a. InRange T.SIGNED T.BITS (T.value (A.held a))) taps.now }
+{
+    let mut sum: u128 = 0;
+    for i in 0..taps.len() {
+        sum += taps[i].to_word().magnitude() as u128;
+    }
+    sum
+}
+
+/// Returns the greatest magnitude of samples, or 0 without samples.
+fn peak<T: Word, B: Sample<T>>(samples: &[B]) -> u64
+    ensures most { All (λ b. unsigned_abs (T.value (B.held b)) ≤ result) samples.now }
+    ensures in_range { All (λ b. InRange T.SIGNED T.BITS (T.value (B.held b))) samples.now }
+{
+    let mut most: u64 = 0;
+    for i in 0..samples.len() {
+        let magnitude = samples[i].to_word().magnitude();
+        if most < magnitude {
+            most = magnitude;
+        }
+    }
+    most
+}
