@@ -2,13 +2,13 @@
 
 ghost use Rattle.std.specs.Prelude.{◌≡◌, ◌<◌, ◌∷◌, ◌++◌, [], length, IfErr, IfOk, OnOk};
 ghost use Rattle.fixed_word.specs.Pieces.{pieces};
-ghost use Rattle.fixed_script.specs.Names.{rounding_name, default_rounding};
+ghost use Rattle.fixed_script.specs.Names.{rounding_name};
 ghost use Rattle.fixed_calc.specs.Spelled.{IsAnswerOfSpelling, in_front, spelled, spelled_lines};
 ghost use Rattle.fixed_calc.specs.inside.Spelling.{SpellsAll, HasSpelled, StopsSpelling, added_to, with_end};
 ghost use Rattle.fixed_machine.specs.inside.Stepping.{script_line_of};
 
 use crate::demo::Script;
-use fixed_script::{Line, Op, Rounding, header_of_piece, line_of_piece};
+use fixed_script::{Line, Rounding, default_rounding, header_of_piece, line_of_piece};
 use fixed_text::piece_end;
 use std::alloc::{AllocError, Global};
 use thiserror::Error;
@@ -24,17 +24,6 @@ pub enum ExplicitFault {
     Memory,
 }
 
-/// Returns the rounding of an operation whose line names none.
-fn default_of(op: Op) -> Option<Rounding>
-    ensures { result ≡ default_rounding op }
-{
-    match op {
-        Op::Mul | Op::MulAdd | Op::AddProd => Some(Rounding::Down),
-        Op::Div | Op::Recip | Op::DivInt => Some(Rounding::Zero),
-        _ => None,
-    }
-}
-
 /// Returns the rounding that is added to a line, if there is one.
 fn added(line: &Line) -> Option<Rounding>
     ensures { result ≡ added_to (script_line_of line.now) }
@@ -46,7 +35,7 @@ fn added(line: &Line) -> Option<Rounding>
         | Line::Int { op, rounding, .. }
         | Line::Three { op, rounding, .. } => match rounding {
             Some(_) => None,
-            None => default_of(*op),
+            None => default_rounding(*op),
         },
     }
 }

@@ -1,6 +1,7 @@
 pub mod Sums
 pub mod Blocks
 pub mod Untested
+pub mod Bounded
 pub mod Places
 pub mod Alone
 pub mod SectionRuns

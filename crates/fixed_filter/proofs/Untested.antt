@@ -1,7 +1,7 @@
 -- Filters whose partial sums fit, whatever the order of the samples: the sum of the magnitudes of the taps times the
 -- greatest magnitude of a sample bounds them.
 use Rattle.std.proofs.Common.{◌≡◌, ◌+◌, ◌-◌, ◌*◌, ◌/◌, ◌^◌, ◌<◌, ◌≤◌, ◌≤ℤ◌, ◌+ℤ◌, ◌-ℤ◌, ◌*ℤ◌, ℕ, zero, suc, ℤ, pos, negsuc, neg_ℤ, true, false, Bool, List, [], ◌∷◌, Option, Some, None, length, get_or, take, refl, sym, ap, subst, ◌∙◌, arith}
-use Rattle.std.specs.Prelude.{IsTrue, nat_le, not, drop, reverse, slice_range, unsigned_abs, if◌then◌else◌}
+use Rattle.std.specs.Prelude.{IfSome, IsTrue, nat_le, not, drop, reverse, slice_range, unsigned_abs, if◌then◌else◌}
 use Rattle.std.specs.List.{All, sum_by}
 use Rattle.std.specs.Option.{option_or}
 use Rattle.std.proofs.Math.Nat.{add-mul, le-div_iff_mul-le, lt-div-mul-add, lt_of_mul-lt-mul_right, mul-le-mul_left}
@@ -20,7 +20,7 @@ use Rattle.fixed_policy.proofs.Losses.{loss_bounds}
 use Rattle.fixed_policy.proofs.Parts.{pair_at, pairs_length}
 use Rattle.fixed_filter.specs.declared.reply.Reply.TheVariants.{Value}
 use Rattle.fixed_filter.specs.Replies.{accumulator, filter_reply, misses, least_below, overflow_or}
-use Rattle.fixed_filter.specs.inside.Headroom.{IsUntested, roundings}
+use Rattle.fixed_filter.specs.inside.Headroom.{HasRoom, IsUntested, roundings}
 
 -- ---- sums of products
 product_size : (a b : ℤ) (m : ℕ) → unsigned_abs b ≤ m → unsigned_abs (a *ℤ b) ≤ unsigned_abs a * m
@@ -152,7 +152,7 @@ window_length ys count i there most =
     omega arith
 
 module _ {X Y : Type 0} (left : X → ℤ) (right : Y → ℤ) (signed : Bool) (n d m : ℕ) (xs : List X) where
-  reply_where_room : (ys : List Y) → IsWidth n → All (λ y. unsigned_abs (right y) ≤ m) ys → length xs ≡ length ys → All (λ x. InRange signed n (left x)) xs → All (λ y. InRange signed n (right y)) ys
+  pub reply_where_room : (ys : List Y) → IsWidth n → All (λ y. unsigned_abs (right y) ≤ m) ys → length xs ≡ length ys → All (λ x. InRange signed n (left x)) xs → All (λ y. InRange signed n (right y)) ys
       → sum_by (λ x. unsigned_abs (left x)) xs * m / 2 ^ d + roundings signed (length xs) ≤ unsigned_abs (highest signed n)
       → filter_reply signed n (pos d) (pairs left right xs ys) ≡ Value (wrap signed n (accumulator (pos d) (pairs left right xs ys) (length xs)))
   reply_where_room ys width small same lefts rights room =
@@ -179,6 +179,13 @@ module _ {X Y : Type 0} (left : X → ℤ) (right : Y → ℤ) (signed : Bool) (
         room;
   }
 
+pub untested_where_room : {X Y : Type 0} (left : X → ℤ) (right : Y → ℤ) (signed : Bool) (n m weight : ℕ) (s : ℤ) (xs : List X) (samples : List Y) (o : Option ℕ) → IsWidth n → All (λ y. unsigned_abs (right y) ≤ m) samples
+    → All (λ x. InRange signed n (left x)) xs → All (λ y. InRange signed n (right y)) samples → weight ≡ sum_by (λ x. unsigned_abs (left x)) xs → IfSome o (HasRoom signed n s weight m (length xs)) → IfSome o (IsUntested left right signed n s xs samples)
+untested_where_room left right signed n m weight s xs samples None width small lefts rights total h = tt
+untested_where_room left right signed n m weight s xs samples (Some d) width small lefts rights total h =
+    let room = h.room in
+    subst (λ (p : ℤ). IsUntested left right signed n p xs samples d) (sym h.places) (untested left right signed n d m xs samples width h.most small lefts rights (rw total at room))
+
 -- ---- the wrapped sum of a window
 -- one product more
 wrapped_more : (s : Bool) (n d : ℕ) (acc c a b z : ℤ) → 0 < n → c ≡ wrap s n acc → z ≡ wrap s n (exact_mul_add a b c d) → z ≡ wrap s n (with_product (pos d) acc (a, b))
@@ -198,12 +205,12 @@ wrapped_step left right s n d xs ys same i x y there is_x is_y c z some is e =
     let next = ap (with_product (pos d) acc) (pair_at left right xs ys same i x y there is_x is_y) ∙ sym (fold_more (with_product (pos d)) (pos 0) ps i (left x, right y) in_pairs) in
     wrapped_more s n d acc c (left x) (right y) z some is e ∙ ap (wrap s n) next
 
+pub zero_in : (s : Bool) (n : ℕ) → InRange s n (pos 0)
+zero_in true n = ends_signed n 0 (pos 0) (omega arith) (omega (arith, ints)) (omega (arith, ints))
+zero_in false n = ends_unsigned n 0 (pos 0) (omega arith) (omega (arith, ints)) (omega (arith, ints))
+
 pub wrap_of_zero : (s : Bool) (n : ℕ) → IsWidth n → wrap s n (pos 0) ≡ pos 0
 wrap_of_zero s n width = wrap_same s n (pos 0) (width_pos n width) (zero_in s n)
-  where
-    zero_in : (s : Bool) (n : ℕ) → InRange s n (pos 0)
-    zero_in true n = ends_signed n 0 (pos 0) (omega arith) (omega (arith, ints)) (omega (arith, ints))
-    zero_in false n = ends_unsigned n 0 (pos 0) (omega arith) (omega (arith, ints)) (omega (arith, ints))
 
 -- ---- the walks over taps and samples
 -- sum is that of the first i magnitudes

@@ -1,11 +1,12 @@
 //! The sum of the products of taps and samples.
 
-ghost use Rattle.std.specs.Prelude.{◌≡◌, Some, length};
+ghost use Rattle.std.specs.Prelude.{◌≡◌, ◌≤◌, Some, length, pos};
 ghost use Rattle.std.specs.Option.{option_map};
 ghost use Rattle.fixed_word.specs.Policies.{checked};
-ghost use Rattle.fixed_kernel.specs.Rows.{exact_add_prod};
+ghost use Rattle.fixed_word.specs.Format.{wrap};
+ghost use Rattle.fixed_kernel.specs.Rows.{exact_add_prod, exact_mul_add};
 ghost use Rattle.fixed_policy.specs.DotProduct.{pairs};
-ghost use Rattle.fixed_filter.specs.Replies.{filter_reply, reply_map};
+ghost use Rattle.fixed_filter.specs.Replies.{accumulator, filter_reply, reply_map};
 ghost use Rattle.fixed_filter.specs.Banks.{IsShape, places_of};
 
 use crate::reply::Reply;
@@ -78,4 +79,33 @@ pub(crate) fn output_of_past<T: Word, A: Sample<T>, B: Sample<T>>(
         }
     }
     Reply::Value(sum)
+}
+
+/// Returns the sum of the products of these taps and samples, the newest first, each shifted right by `down` and rounded
+/// down. The sum is wrapped, and no partial sum is tested, so that the loop is vectorised. Preconditions: there are as
+/// many samples as taps, and `down` is at most the width.
+#[inline]
+pub(crate) fn wrapped_sum_of_past<T: Word>(down: u32, taps: &[T], past: &[T]) -> T
+    requires lengths { length taps.now ≡ length past.now }
+    requires down { down ≤ T.BITS }
+    ensures { T.value result ≡ wrap T.SIGNED T.BITS
+        (accumulator (pos down) (pairs T.value T.value taps.now past.now) (length taps.now)) }
+{
+    let past = &past[..taps.len()];
+    let mut sum = T::ZERO;
+    for i in 0..taps.len() {
+        sum = wrapped_add_prod(sum, taps[i], past[i], down);
+    }
+    sum
+}
+
+/// Returns the sum plus the product of a tap and a sample, which is shifted right by `down` and rounded down, wrapped.
+/// Precondition: `down` is at most the width.
+#[inline]
+pub(crate) fn wrapped_add_prod<T: Word>(sum: T, tap: T, sample: T, down: u32) -> T
+    requires { down ≤ T.BITS }
+    ensures { T.value result ≡ wrap T.SIGNED T.BITS
+        (exact_mul_add (T.value tap) (T.value sample) (T.value sum) down) }
+{
+    mul_add_of(tap, sample, sum, down).wrapped
 }

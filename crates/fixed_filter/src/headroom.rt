@@ -1,10 +1,10 @@
-//! Filters whose partial sums fit in a block, so that no tap needs a test.
+//! Filters whose partial sums fit, so that no tap needs a test.
 
-ghost use Rattle.std.specs.Prelude.{◌≡◌, ◌≤◌, IfSome, IsTrue, pos, unsigned_abs};
+ghost use Rattle.std.specs.Prelude.{◌≡◌, ◌+◌, ◌*◌, ◌/◌, ◌^◌, ◌≤◌, IfSome, IsTrue, unsigned_abs};
 ghost use Rattle.std.specs.List.{All, sum_by};
-ghost use Rattle.fixed_word.specs.Format.{InRange};
+ghost use Rattle.fixed_word.specs.Format.{InRange, highest};
 ghost use Rattle.fixed_filter.specs.Banks.{IsShape, places_of};
-ghost use Rattle.fixed_filter.specs.inside.Headroom.{IsUntested, roundings};
+ghost use Rattle.fixed_filter.specs.inside.Headroom.{HasRoom, IsUntested, roundings};
 
 use crate::sample::Sample;
 use crate::shape::Shape;
@@ -24,31 +24,48 @@ pub(crate) fn untested_places<T: Word, A: Sample<T>, B: Sample<T>>(
     ensures { IfSome result (IsUntested (λ a. T.value (A.held a)) (λ b. T.value (B.held b)) T.SIGNED T.BITS
         (places_of shape.now) taps.now samples.now) }
 {
+    if samples.len() <= taps.len() {
+        return None;
+    }
+    places_with_room::<T>(shape, weight(taps), peak(samples), taps.len())
+}
+
+/// Returns by how many places products move down to those of outputs, if each partial sum of `count` taps fits, whose
+/// magnitudes add up to `weight`, for all samples whose magnitudes are at most `peak`. Returns `None` if products move
+/// up, or down by more than the width. Precondition: each number of fraction bits is at most the width.
+pub(crate) fn places_with_room<T: Word>(
+    shape: &Shape,
+    weight: u128,
+    peak: u64,
+    count: usize,
+) -> Option<u32>
+    requires { IsShape T.BITS shape.now }
+    ensures { IfSome result (HasRoom T.SIGNED T.BITS (places_of shape.now) weight peak count) }
+{
     let from = shape.coef_frac + shape.sample_frac;
-    if from < shape.out_frac || T::BITS < from - shape.out_frac || samples.len() <= taps.len() {
+    if from < shape.out_frac || T::BITS < from - shape.out_frac {
         return None;
     }
     let down = from - shape.out_frac;
-    if has_room(down, taps, samples) {
+    if has_room::<T>(down, weight, peak, count) {
         Some(down)
     } else {
         None
     }
 }
 
-/// Returns whether each partial sum of these taps fits, for all samples that are no greater than the greatest of these.
-/// Products are shifted right by `down`. Precondition: `down` is at most the width.
-fn has_room<T: Word, A: Sample<T>, B: Sample<T>>(down: u32, taps: &[A], samples: &[B]) -> bool
+/// Returns whether each such partial sum fits, of products that are shifted right by `down`. Precondition: `down` is at
+/// most the width.
+fn has_room<T: Word>(down: u32, weight: u128, peak: u64, count: usize) -> bool
     requires { down ≤ T.BITS }
-    ensures { IsTrue result → IsUntested (λ a. T.value (A.held a)) (λ b. T.value (B.held b)) T.SIGNED T.BITS
-        (pos down) taps.now samples.now down }
+    ensures { IsTrue result
+        → weight * peak / 2 ^ down + roundings T.SIGNED count ≤ unsigned_abs (highest T.SIGNED T.BITS) }
 {
-    let weight = weight(taps);
     if weight > u64::MAX as u128 {
         return false;
     }
-    let reach = (weight * peak(samples) as u128) >> down;
-    reach + most_roundings::<T>(taps.len()) as u128 <= T::MAX.magnitude() as u128
+    let reach = (weight * peak as u128) >> down;
+    reach + most_roundings::<T>(count) as u128 <= T::MAX.magnitude() as u128
 }
 
 /// Returns by how many units at most so many products are rounded below 0: products of unsigned words are not.
@@ -60,7 +77,7 @@ fn most_roundings<T: RawWord>(products: usize) -> usize
 }
 
 /// Returns the sum of the magnitudes of taps.
-fn weight<T: Word, A: Sample<T>>(taps: &[A]) -> u128
+pub(crate) fn weight<T: RawWord, A: Sample<T>>(taps: &[A]) -> u128
     ensures value { result ≡ sum_by (λ a. unsigned_abs (T.value (A.held a))) taps.now }
     ensures in_range { All (λ a. InRange T.SIGNED T.BITS (T.value (A.held a))) taps.now }
 {

@@ -2,16 +2,14 @@
 
 ghost use Rattle.std.specs.Prelude.{◌≡◌, ◌≤◌, length, pos, reverse};
 ghost use Rattle.fixed_word.specs.Format.{wrap};
-ghost use Rattle.fixed_kernel.specs.Rows.{exact_mul_add};
 ghost use Rattle.fixed_policy.specs.DotProduct.{pairs};
 ghost use Rattle.fixed_filter.specs.Replies.{accumulator, filter_reply, reply_map};
 ghost use Rattle.fixed_filter.specs.Banks.{IsShape, places_of};
 
-use crate::accumulation::checked_add_prod;
+use crate::accumulation::{checked_add_prod, wrapped_add_prod};
 use crate::reply::Reply;
 use crate::sample::Sample;
 use crate::shape::Shape;
-use fixed_kernel::mul_add_of;
 use fixed_word::{RawWord, Word};
 
 /// Returns the output of a filter with these taps after these samples, the newest last. It is the same as that of
@@ -65,15 +63,4 @@ pub(crate) fn wrapped_sum_of_window<T: Word, A: Sample<T>, B: Sample<T>>(
         sum = wrapped_add_prod(sum, tap, sample, down);
     }
     sum
-}
-
-/// Returns the sum plus the product of a tap and a sample, which is shifted right by `down` and rounded down, wrapped.
-/// Precondition: `down` is at most the width.
-#[inline]
-fn wrapped_add_prod<T: Word>(sum: T, tap: T, sample: T, down: u32) -> T
-    requires { down ≤ T.BITS }
-    ensures { T.value result ≡ wrap T.SIGNED T.BITS
-        (exact_mul_add (T.value tap) (T.value sample) (T.value sum) down) }
-{
-    mul_add_of(tap, sample, sum, down).wrapped
 }

@@ -19,5 +19,5 @@ pub use fixed_word::Rounding;
 pub use header::{Fractions, Header, parse_header};
 pub use line::{Line, Shape, parse_line, shape_of, takes_rounding};
 pub use literal::Literal;
-pub use names::{Op, Policy};
+pub use names::{Op, Policy, default_rounding};
 pub use piece::{header_of_piece, line_of_piece};

@@ -8,7 +8,7 @@ ghost use Rattle.fixed_text.specs.Tokens.{at_end, tokens_of};
 ghost use Rattle.fixed_script.specs.inside.Parser.{set_at, named_at, rounding_at, operands_at, apply_at, line_at};
 
 use crate::literal::Literal;
-use crate::names::{Op, Policy, policy_of, rounding_of};
+use crate::names::{Op, Policy, default_rounding, policy_of, rounding_of};
 use crate::taking::{take_literal, take_op, take_policy, take_register};
 use fixed_text::Tokens;
 use fixed_word::Rounding;
@@ -90,10 +90,7 @@ pub fn shape_of(op: Op) -> Shape
 pub fn takes_rounding(op: Op) -> bool
     ensures { result ≡ rounds op }
 {
-    match op {
-        Op::Mul | Op::Div | Op::Recip | Op::MulAdd | Op::AddProd | Op::DivInt => true,
-        _ => false,
-    }
+    default_rounding(op).is_some()
 }
 
 /// Returns the line if no token remains, and otherwise `None`.

@@ -2,7 +2,7 @@
 
 ghost use Rattle.std.specs.Prelude.{◌≡◌, ◌∷◌, ◌++◌, IfSome, Some, length, true};
 ghost use Rattle.fixed_text.specs.Words.{named};
-ghost use Rattle.fixed_script.specs.Names.{policy_named, policy_name, op_named, op_name, rounding_named};
+ghost use Rattle.fixed_script.specs.Names.{default_rounding, policy_named, policy_name, op_named, op_name, rounding_named};
 ghost use Rattle.fixed_script.specs.inside.OpGroups.{arithmetic_ops, whole_ops, other_ops};
 ghost use Rattle.fixed_text.specs.Tokens.{tokens_of, next_by};
 
@@ -43,6 +43,17 @@ pub enum Op {
     RemInt,
     RemEuclid,
     NextPowerOfTwo,
+}
+
+/// Returns the rounding of an operation whose line names none, or `None` if the operation takes no rounding.
+pub fn default_rounding(op: Op) -> Option<Rounding>
+    ensures { result ≡ default_rounding op }
+{
+    match op {
+        Op::Mul | Op::MulAdd | Op::AddProd => Some(Rounding::Down),
+        Op::Div | Op::Recip | Op::DivInt => Some(Rounding::Zero),
+        _ => None,
+    }
 }
 
 /// Returns the policy with this name, or `None` if there is none.

@@ -1,6 +1,7 @@
--- Filters whose partial sums fit in a block, so that no tap needs a test.
-use Rattle.std.specs.Prelude.{◌≡◌, ◌+◌, ◌-◌, ◌<◌, ◌≤◌, ℕ, ℤ, pos, Bool, true, false, List, length, reverse, slice_range}
-use Rattle.fixed_word.specs.Format.{wrap}
+-- Filters whose partial sums fit, so that no tap needs a test.
+use Rattle.std.specs.Prelude.{◌≡◌, ◌+◌, ◌-◌, ◌*◌, ◌/◌, ◌^◌, ◌<◌, ◌≤◌, ℕ, ℤ, pos, Bool, true, false, List, length, reverse, slice_range, unsigned_abs}
+use Rattle.std.specs.List.{All, sum_by}
+use Rattle.fixed_word.specs.Format.{InRange, highest, wrap}
 use Rattle.fixed_policy.specs.DotProduct.{pairs}
 use Rattle.fixed_filter.specs.declared.reply.Reply.TheVariants.{Value}
 use Rattle.fixed_filter.specs.Replies.{accumulator, filter_reply}
@@ -9,6 +10,20 @@ use Rattle.fixed_filter.specs.Replies.{accumulator, filter_reply}
 abbrev pub roundings : Bool → ℕ → ℕ
 roundings true k = k
 roundings false k = 0
+
+-- products move down by so many places, and the partial sums of so many taps fit, whose magnitudes add up to weight, for
+-- all samples whose magnitudes are at most peak
+pub record HasRoom (signed : Bool) (n : ℕ) (s : ℤ) (weight peak count down : ℕ) : Type 0 where
+  pub places : s ≡ pos down
+  pub most : down ≤ n
+  pub room : weight * peak / 2 ^ down + roundings signed count ≤ unsigned_abs (highest signed n)
+
+-- the magnitudes of the taps add up to weight, no past sample has a magnitude above peak, and all are numbers of a word
+pub record IsBounded {T : Type 0} (value : T → ℤ) (signed : Bool) (n : ℕ) (taps past : List T) (weight peak : ℕ) : Type 0 where
+  pub total : weight ≡ sum_by (λ a. unsigned_abs (value a)) taps
+  pub most : All (λ x. unsigned_abs (value x) ≤ peak) past
+  pub taps_in_range : All (λ a. InRange signed n (value a)) taps
+  pub past_in_range : All (λ x. InRange signed n (value x)) past
 
 -- products move down by so many places, and the reply to each sample after which a block has a whole window is the
 -- sum of the products, wrapped
