@@ -12,3 +12,4 @@ pub mod Headed
 pub mod Before
 pub mod Spellings
 pub mod Calls
+pub mod OldBefore

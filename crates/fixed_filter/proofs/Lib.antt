@@ -10,3 +10,4 @@ pub mod Viewed
 pub mod Readers
 pub mod Lines
 pub mod Scripts
+pub mod SameRuns

@@ -7,6 +7,8 @@ pub mod Naturals
 pub mod Wholes
 pub mod Caps
 pub mod Turns
+pub mod Ended
+pub mod OldRuns
 pub mod Gathered
 pub mod Readers
 pub mod Inverses
