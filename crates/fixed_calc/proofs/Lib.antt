@@ -12,4 +12,3 @@ pub mod Headed
 pub mod Before
 pub mod Spellings
 pub mod Calls
-pub mod OldBefore

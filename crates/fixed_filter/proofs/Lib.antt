@@ -10,4 +10,3 @@ pub mod Viewed
 pub mod Readers
 pub mod Lines
 pub mod Scripts
-pub mod SameRuns

@@ -3,7 +3,6 @@ pub mod Fits
 pub mod Causes
 pub mod Caps
 pub mod Runs
-pub mod OldMeaning
 pub mod Short
 pub mod QuickSteps
 pub mod Divisors

@@ -8,7 +8,6 @@ pub mod Wholes
 pub mod Caps
 pub mod Turns
 pub mod Ended
-pub mod OldRuns
 pub mod Gathered
 pub mod Readers
 pub mod Inverses
