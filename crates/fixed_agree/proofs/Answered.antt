@@ -5,7 +5,7 @@ use Rattle.fixed_machine.specs.Types.{WordName, I8, I16, I32, I64, U8, U16, U32,
 use Rattle.fixed_machine.specs.declared.answer.Answer.{Answer}
 use Rattle.fixed_machine.specs.declared.answer.Answer.TheVariants.{Absent, Bits, Flagged}
 use Rattle.fixed_script.specs.Text.{ThreeRegisters}
-use Rattle.fixed_machine.specs.Machine.{State, OperandValues, row_of, answer}
+use Rattle.fixed_machine.specs.Machine.{State, OperandValues, row_of, answer, answer_by}
 use Rattle.fixed_text.specs.Words.{is_signed, width}
 use Rattle.fixed_machine.specs.Projection.{project}
 use Rattle.fixed_word.specs.Format.{IsWidth}
@@ -19,7 +19,7 @@ abbrev pub flagged : Option (ℤ × Bool) → Answer
 flagged row = option_map_or (λ p. Flagged p.0 p.1) row Absent
 
 pub projected : (signed : Bool) (n : ℕ) (policy : Policy) (op : Op) (operands : OperandValues) (result : Answer) → result ≡ project policy signed n (row_of op operands) → MachineAnswers signed n policy op operands result
-unfolding MachineAnswers answer
+unfolding MachineAnswers answer_by
 projected signed n policy op operands result e s dest xs f g h = rw (f, g, h) (sym e)
 
 -- each sign and width is that of a word
@@ -40,7 +40,7 @@ has_word false n (inr (inr (inr e))) = record { word = U64; sign = refl; bits = 
 
 -- the line on three registers that hold the operands
 pub projection_of : (signed : Bool) (n : ℕ) (policy : Policy) (op : Op) (operands : OperandValues) (result : Answer) → IsWidth n → MachineAnswers signed n policy op operands result → result ≡ project policy signed n (row_of op operands)
-unfolding MachineAnswers answer
+unfolding MachineAnswers answer_by
 projection_of signed n policy op operands result w h =
     let found = has_word signed n w in
     let s : State = record { word = found.word; registers = operands.a ∷ operands.b ∷ operands.c ∷ [] } in

@@ -1,6 +1,6 @@
 -- A script without a rounding word has the meaning that it had before.
-use Rattle.std.proofs.Common.{◌≡◌, ◌+◌, ℕ, suc, ℤ, Bool, true, false, List, [], ◌∷◌, ◌++◌, Option, Some, None, if◌then◌else◌, refl, sym, ap, subst, ◌∙◌, arith, append_assoc}
-use Rattle.std.specs.Option.{option_map, option_and_then, option_map_or}
+use Rattle.std.proofs.Common.{◌≡◌, ℕ, suc, ℤ, Bool, true, false, List, [], ◌∷◌, ◌++◌, drop, Option, Some, None, Result, if◌then◌else◌, refl, sym, ap, subst, ◌∙◌, arith, append_assoc}
+use Rattle.std.specs.Option.{option_map, option_and_then}
 use Rattle.std.specs.List.{All, join_with_byte}
 use Rattle.std.specs.Str.{bytes_eq}
 use Rattle.std.proofs.lemmas.Bool.{false≢true}
@@ -14,19 +14,22 @@ use Rattle.fixed_script.specs.declared.names.Policy.{Policy}
 use Rattle.fixed_script.specs.declared.names.Op.{Op}
 use Rattle.fixed_script.specs.declared.names.Op.TheVariants.{Neg, Add, Sub, Mul, Div, Recip, MulAdd, AddProd, MulInt, DivInt, DivEuclid, DivEuclidInt, RemEuclidInt, NextMultipleOf, Dist, Sqrt, Abs, Signum, Rem, RemInt, RemEuclid, NextPowerOfTwo}
 use Rattle.fixed_script.specs.Names.{policy_name, op_name, rounding_name}
-use Rattle.fixed_script.specs.Text.{ScriptHeader, ScriptLine, SetTo, Apply, Operands, IsLine, register_text, operand_tokens, line_text}
+use Rattle.fixed_script.specs.Text.{ScriptLine, SetTo, Apply, Operands, IsLine, register_text, operand_tokens, line_text}
 use Rattle.fixed_text.specs.Inverse.{if_its_text}
-use Rattle.fixed_script.specs.Lines.{line_in, line_of, line_of_piece, header_of_piece}
+use Rattle.fixed_script.specs.Lines.{line_in, line_of, line_of_piece}
 use Rattle.fixed_script.proofs.Joined.{tokens_of_line}
 use Rattle.fixed_text.proofs.Inverses.{its_text, has_text}
 use Rattle.fixed_script.proofs.TextsRead.{line_back, line_is}
 use Rattle.fixed_machine.specs.Answers.{answer_text}
 use Rattle.fixed_machine.specs.Projection.{project}
 use Rattle.fixed_machine.specs.Rows.{exact}
-use Rattle.fixed_machine.specs.Machine.{State, OperandValues, operand_values, row_of, row_cause, is_unoffered, is_out_of_range, is_mismatched, stored, cause, answer, move}
-use Rattle.fixed_machine.specs.Meaning.{Run, by_cause, step_then, run_lines, run_from, run_pieces, run_of, start, fractions_of, has_wide, stopped, Output, Fault}
+use Rattle.fixed_machine.specs.Machine.{State, OperandValues, operand_values, row_of, row_by, row_cause, is_unoffered, is_out_of_range, is_mismatched, stored, answer_by}
+use Rattle.fixed_text.specs.Runs.{first_piece, first_then, meaning_of}
+use Rattle.fixed_text.proofs.Turns.{lines_alike}
+use Rattle.fixed_machine.specs.Meaning.{by_cause, step_by, script_header, script_line, script_run}
+use Rattle.fixed_machine.specs.declared.cause.Cause.{Cause}
 use Rattle.fixed_machine.specs.declared.cause.Cause.TheVariants.{Syntax, OutOfRange, FractionMismatch}
-use Rattle.fixed_calc.specs.Before.{old_row, names_none, without_rounding, old_line_of, old_line_of_piece, old_step_then, old_run_lines, old_run_from, old_run_pieces, ReadsOldLines, EndsInRounding, MeansAsBefore}
+use Rattle.fixed_calc.specs.Before.{old_row, names_none, without_rounding, old_line_of, old_line_of_piece, old_line, ReadsOldLines, EndsInRounding, MeansAsBefore}
 use Rattle.fixed_calc.proofs.Headed.{body_by}
 
 -- ---- the old reading
@@ -129,7 +132,7 @@ unfolding old_line_of_piece
 piece_free piece l e = old_free piece (body piece) l e
 
 -- ---- and moves as before
-same_row : (op : Op) (t : OperandValues) → row_of op t ≡ old_row op t
+same_row : (op : Op) (t : OperandValues) → row_of op t ≡ old_row None op t
 unfolding exact
 same_row Neg t = refl
 same_row Add t = refl
@@ -154,46 +157,34 @@ same_row RemInt t = refl
 same_row RemEuclid t = refl
 same_row NextPowerOfTwo t = refl
 
--- what follows a line that names no rounding, by its row
-abbrev after_row : State → ℕ → ℕ → Policy → Op → Operands → (State → Run) → Option ℤ → Run
-after_row s k dest policy op xs next row =
+-- the step of a line that names no rounding, by its row
+abbrev row_step : State → ℕ → ℕ → Policy → Op → Operands → Option ℤ → Result (State × List ℕ) Cause
+row_step s k dest policy op xs row =
     let line = Apply dest policy op xs None in
     let given = project policy (is_signed s.word) (width s.word) row in
     by_cause
     (if is_unoffered s.word line then Some (Syntax k) else if is_out_of_range s line then Some (OutOfRange k) else if is_mismatched s line then Some (FractionMismatch k) else row_cause (is_signed s.word) (width s.word) policy row op k)
-    s
-    (answer_text given)
-    (next (record { word = s.word; registers = stored s.registers dest given }))
+    (record { word = s.word; registers = stored s.registers dest given }, answer_text given)
 
-same_step : (s : State) (k : ℕ) (l : ScriptLine) (next before : State → Run) → names_none l ≡ true → ((t : State) → next t ≡ before t) → step_then s k (Some l) next ≡ old_step_then s k (Some l) before
-unfolding answer
-same_step s k (SetTo dest x) next before free same = ap (by_cause (cause s (SetTo dest x) k) s (answer_text (answer s (SetTo dest x)))) (same (move s (SetTo dest x)))
-same_step s k (Apply dest policy op xs None) next before free same =
-    let l = Apply dest policy op xs None in
-    ap (by_cause (cause s l k) s (answer_text (answer s l))) (same (move s l))
-    ∙ ap (after_row s k dest policy op xs before) (same_row op (operand_values s.registers xs))
-same_step s k (Apply dest policy op xs (Some r)) next before free same = cc
+step_alike : (s : State) (k : ℕ) (o : Option ScriptLine) → ((l : ScriptLine) → o ≡ Some l → names_none l ≡ true) → step_by row_by s k o ≡ step_by old_row s k o
+unfolding answer_by
+step_alike s k None free = refl
+step_alike s k (Some (SetTo dest x)) free = refl
+step_alike s k (Some (Apply dest policy op xs None)) free = ap (row_step s k dest policy op xs) (same_row op (operand_values s.registers xs))
+step_alike s k (Some (Apply dest policy op xs (Some r))) free = absurd (false≢true (free _ refl))
 
-step_alike : (s : State) (k : ℕ) (o : Option ScriptLine) (next before : State → Run) → ((l : ScriptLine) → o ≡ Some l → names_none l ≡ true) → ((t : State) → next t ≡ before t) → step_then s k o next ≡ old_step_then s k o before
-step_alike s k None next before free same = refl
-step_alike s k (Some l) next before free same = same_step s k l next before (free l refl) same
+abbrev Fine : List ℕ → Type 0
+Fine piece = EndsInRounding piece → ⊥
 
-lines_alike : (ps : List (List ℕ)) (s : State) (k : ℕ) → All (λ piece. EndsInRounding piece → ⊥) ps → run_lines s k ps ≡ old_run_lines s k ps
-unfolding run_lines old_run_lines
-lines_alike [] s k free = refl
-lines_alike (p ∷ ps) s k free =
-    ap (λ o. step_then s k o (λ t. run_lines t (k + 1) ps)) (piece_alike p (free 0 [] (omega arith)))
-    ∙ step_alike s k (old_line_of_piece p) (λ t. run_lines t (k + 1) ps) (λ t. old_run_lines t (k + 1) ps) (piece_free p)
-    (λ t. lines_alike ps t (k + 1) (λ i d lt. free (suc i) d (omega arith)))
+line_alike : (s : State) (k : ℕ) (p : List ℕ) → Fine p → script_line s k p ≡ old_line s k p
+line_alike s k p apart = ap (step_by row_by s k) (piece_alike p apart) ∙ step_alike s k (old_line_of_piece p) (piece_free p)
 
-from_alike : (o : Option ScriptHeader) (ps : List (List ℕ)) → All (λ piece. EndsInRounding piece → ⊥) ps → run_from o ps ≡ old_run_from o ps
-from_alike None ps free = refl
-from_alike (Some h) ps free = ap (λ r. if has_wide h.word (fractions_of h) then stopped None (OutOfRange 1) else r) (lines_alike ps (start h) 2 free)
-
-pieces_alike : (ps : List (List ℕ)) → All (λ piece. EndsInRounding piece → ⊥) ps → run_pieces ps ≡ old_run_pieces ps
-pieces_alike [] free = refl
-pieces_alike (p ∷ ps) free = from_alike (header_of_piece p) ps (λ i d lt. free (suc i) d (omega arith))
+others_fine : (ps : List (List ℕ)) → All Fine ps → All Fine (drop 1 ps)
+others_fine [] free = free
+others_fine (p ∷ ps) free = λ i d lt. free (suc i) d (omega arith)
 
 pub means_as_before : MeansAsBefore
-unfolding run_of
-means_as_before script free = ap (λ r. option_map_or Fault r.fault (Output r.output)) (pieces_alike (pieces script) free)
+unfolding script_run
+means_as_before script free =
+    let ps = pieces script in
+    λ i. meaning_of (first_then (script_header (first_piece ps)) (λ s. lines_alike script_line old_line Fine line_alike s 2 (drop 1 ps) (others_fine ps free) i))

@@ -12,10 +12,12 @@ use Rattle.fixed_machine.specs.Rooms.{IsAnswerOfMeaning}
 use Rattle.fixed_machine.specs.Answers.{answer_text, ended}
 use Rattle.fixed_script.specs.Text.{header_text, header_tokens, ScriptLine, line_text}
 use Rattle.fixed_script.specs.Lines.{line_of_piece}
-use Rattle.fixed_machine.specs.Machine.{State, Cell, cause, answer, move}
-use Rattle.fixed_machine.specs.Meaning.{Run, Output, Fault, by_cause, step_then, run_lines, run_of, start, zeros, fractions_of, meaning}
+use Rattle.fixed_machine.specs.Machine.{State, Cell, row_by, cause, answer, move}
+use Rattle.fixed_text.specs.Runs.{Run, Output, Fault, step_then, lines_from}
+use Rattle.fixed_machine.specs.Meaning.{by_cause, step_by, run_lines, script_run, start, zeros, fractions_of, meaning}
 use Rattle.fixed_calc.specs.Demo.{demo_header, demo_lines, demo_text, answers_from, demo_answers}
-use Rattle.fixed_machine.proofs.Ended.{pieces_ended, line_read, header_read}
+use Rattle.fixed_text.proofs.Ended.{pieces_ended}
+use Rattle.fixed_machine.proofs.Ended.{line_read, header_read}
 use Rattle.fixed_machine.proofs.Runs.{run_of_lines}
 use Rattle.fixed_digits.proofs.Lacking.{lacks, naturals_lack, joined_lack}
 use Rattle.fixed_calc.proofs.Drawn.{IsReady, IsDrawn, stays_ready, lines_drawn}
@@ -35,20 +37,20 @@ pieces_lines (l ∷ ls) all =
     ∙ pieces_ended (line_text l) (flat_map ended_line ls) first.one_piece
     ∙ ap (λ ps. ended_line l ∷ ps) (pieces_lines ls (rest_drawn l ls all))
 
--- the run has no fault, and this output
-pub record Gives (run : Run) (bytes : List ℕ) : Type 0 where
-  pub no_fault : run.fault ≡ None
+-- the run has no cause, and this output
+pub record Gives (run : Run State Cause) (bytes : List ℕ) : Type 0 where
+  pub no_cause : run.cause ≡ None
   pub its_output : run.output ≡ bytes
 
-step_gives : (s : State) (k : ℕ) (p : List ℕ) (l : ScriptLine) (bytes : List ℕ) (next : State → Run) → line_of_piece p ≡ Some l → cause s l k ≡ None → Gives (next (move s l)) bytes → Gives (step_then s k (line_of_piece p) next) (answer_text (answer s l) ++ bytes)
+step_gives : (s : State) (k : ℕ) (p : List ℕ) (l : ScriptLine) (bytes : List ℕ) (next : State → Run State Cause) → line_of_piece p ≡ Some l → cause s l k ≡ None → Gives (next (move s l)) bytes → Gives (step_then s (step_by row_by s k (line_of_piece p)) next) (answer_text (answer s l) ++ bytes)
 step_gives s k p l bytes next is none later =
-    subst (λ (o : Option ScriptLine). Gives (step_then s k o next) (answer_text (answer s l) ++ bytes)) (sym is)
-    (subst (λ (o : Option Cause). Gives (by_cause o s (answer_text (answer s l)) (next (move s l))) (answer_text (answer s l) ++ bytes)) (sym none)
-    (record { no_fault = later.no_fault; its_output = ap (λ (bs : List ℕ). answer_text (answer s l) ++ bs) later.its_output }))
+    subst (λ (o : Option ScriptLine). Gives (step_then s (step_by row_by s k o) next) (answer_text (answer s l) ++ bytes)) (sym is)
+    (subst (λ (o : Option Cause). Gives (step_then s (by_cause o (move s l, answer_text (answer s l))) next) (answer_text (answer s l) ++ bytes)) (sym none)
+    (record { no_cause = later.no_cause; its_output = ap (λ (bs : List ℕ). answer_text (answer s l) ++ bs) later.its_output }))
 
 lines_give : (s : State) (k : ℕ) (ls : List ScriptLine) → IsReady s → All IsDrawn ls → Gives (run_lines s k (map ended_line ls)) (flat_map answer_text (answers_from s ls))
-unfolding run_lines
-lines_give s k [] ready all = record { no_fault = refl; its_output = refl }
+unfolding lines_from
+lines_give s k [] ready all = record { no_cause = refl; its_output = refl }
 lines_give s k (l ∷ ls) ready all =
     let first : IsDrawn l = all 0 l (omega arith) in
     step_gives s k (ended_line l) l (flat_map answer_text (answers_from (move s l) ls)) (λ t. run_lines t (k + 1) (map ended_line ls)) (line_read l first.is_line) (first.no_cause s k ready)
@@ -76,18 +78,18 @@ demo_pieces n =
     ∙ pieces_ended (header_text demo_header) (flat_map ended_line (demo_lines n)) header_lacks
     ∙ ap (λ ps. ended (header_text demo_header) ∷ ps) (pieces_lines (demo_lines n) (lines_drawn n))
 
-demo_gives : (n : ℕ) → Gives (run_of (demo_text n)) (flat_map answer_text (demo_answers n))
+demo_gives : (n : ℕ) → Gives (script_run (demo_text n)) (flat_map answer_text (demo_answers n))
 unfolding demo_answers
 demo_gives n =
-    subst (λ (r : Run). Gives r (flat_map answer_text (answers_from (start demo_header) (demo_lines n))))
-    (sym (run_of_lines (demo_text n) (ended (header_text demo_header)) (map ended_line (demo_lines n)) demo_header (demo_pieces n) (header_read demo_header) refl))
+    subst (λ (r : Run State Cause). Gives r (flat_map answer_text (answers_from (start demo_header) (demo_lines n))))
+    (sym (run_of_lines (demo_text n) (ended (header_text demo_header)) (map ended_line (demo_lines n)) (demo_pieces n) demo_header (header_read demo_header) refl))
     (lines_give (start demo_header) 2 (demo_lines n) start_ready (lines_drawn n))
 
-pub demo_no_cause : (n : ℕ) → (run_of (demo_text n)).fault ≡ None
-demo_no_cause n = (demo_gives n).no_fault
+pub demo_no_cause : (n : ℕ) → (script_run (demo_text n)).cause ≡ None
+demo_no_cause n = (demo_gives n).no_cause
 
 pub demo_output : (n : ℕ) → meaning (demo_text n) ≡ Output (flat_map answer_text (demo_answers n))
-demo_output n = (λ i. option_map_or Fault ((demo_gives n).no_fault i) (Output ((demo_gives n).its_output i)))
+demo_output n = (λ i. option_map_or Fault ((demo_gives n).no_cause i) (Output ((demo_gives n).its_output i)))
 
 answers_length : (s : State) (ls : List ScriptLine) → length (answers_from s ls) ≡ length ls
 answers_length s [] = refl

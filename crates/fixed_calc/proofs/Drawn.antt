@@ -19,7 +19,7 @@ use Rattle.fixed_script.specs.Text.{ScriptLine, SetTo, Apply, Operands, OneRegis
 use Rattle.fixed_machine.specs.Rows.{exact}
 use Rattle.fixed_machine.specs.Offered.{is_offered}
 use Rattle.fixed_text.specs.Words.{is_signed, width}
-use Rattle.fixed_machine.specs.Machine.{State, Cell, cell_at, destination, is_unoffered, is_out_of_range, is_mismatched, row_by, operand_values, row_cause, late_cause, cause, stored, answer, move, integer}
+use Rattle.fixed_machine.specs.Machine.{State, Cell, cell_at, destination, is_unoffered, is_out_of_range, is_mismatched, row_by, operand_values, row_cause, late_cause_by, cause, stored, answer, move, integer}
 use Rattle.fixed_calc.specs.inside.Draws.{draw}
 use Rattle.fixed_calc.specs.Demo.{state_at, octal_digit, choices, drawn_line, demo_lines}
 use Rattle.fixed_machine.proofs.Lacks.{line_lacks}
@@ -124,23 +124,23 @@ add_prod_tests s d a b c ready there first second third = record {
 }
 
 -- the only rows that may be undefined are under checked
-add_total : (s : State) (d a b k : ℕ) → late_cause s (Apply d Wrapping Add (TwoRegisters a b) None) k ≡ None
+add_total : (s : State) (d a b k : ℕ) → late_cause_by row_by s (Apply d Wrapping Add (TwoRegisters a b) None) k ≡ None
 unfolding row_cause exact
 add_total s d a b k = refl
 
-sub_total : (s : State) (d a b k : ℕ) → late_cause s (Apply d Overflowing Sub (TwoRegisters a b) None) k ≡ None
+sub_total : (s : State) (d a b k : ℕ) → late_cause_by row_by s (Apply d Overflowing Sub (TwoRegisters a b) None) k ≡ None
 unfolding row_cause exact
 sub_total s d a b k = refl
 
-mul_total : (s : State) (d a b k : ℕ) → late_cause s (Apply d Saturating Mul (TwoRegisters a b) None) k ≡ None
+mul_total : (s : State) (d a b k : ℕ) → late_cause_by row_by s (Apply d Saturating Mul (TwoRegisters a b) None) k ≡ None
 unfolding row_cause exact
 mul_total s d a b k = refl
 
-mul_add_total : (s : State) (d a b c k : ℕ) → late_cause s (Apply d Wrapping MulAdd (ThreeRegisters a b c) None) k ≡ None
+mul_add_total : (s : State) (d a b c k : ℕ) → late_cause_by row_by s (Apply d Wrapping MulAdd (ThreeRegisters a b c) None) k ≡ None
 unfolding row_cause exact
 mul_add_total s d a b c k = refl
 
-add_prod_total : (s : State) (d a b c k : ℕ) → late_cause s (Apply d Overflowing AddProd (ThreeRegisters a b c) None) k ≡ None
+add_prod_total : (s : State) (d a b c k : ℕ) → late_cause_by row_by s (Apply d Overflowing AddProd (ThreeRegisters a b c) None) k ≡ None
 unfolding row_cause exact
 add_prod_total s d a b c k = refl
 
@@ -149,7 +149,7 @@ unfolding row_cause
 checked_none signed n None op k = refl
 checked_none signed n (Some x) op k = refl
 
-checked_total : (s : State) (d : ℕ) (op : Op) (xs : Operands) (k : ℕ) → late_cause s (Apply d Checked op xs None) k ≡ None
+checked_total : (s : State) (d : ℕ) (op : Op) (xs : Operands) (k : ℕ) → late_cause_by row_by s (Apply d Checked op xs None) k ≡ None
 checked_total s d op xs k = checked_none (is_signed s.word) (width s.word) (row_by None op (operand_values s.registers xs)) op k
 
 -- ---- the lines that are drawn
@@ -162,7 +162,7 @@ set_drawn d t there small = record {
 }
 
 apply_drawn : (d : ℕ) (policy : Policy) (op : Op) (xs : Operands) → shape op ≡ shape_of xs → d < 8
-    → ((s : State) → IsReady s → PassesTests s (Apply d policy op xs None)) → ((s : State) (k : ℕ) → late_cause s (Apply d policy op xs None) k ≡ None) → IsDrawn (Apply d policy op xs None)
+    → ((s : State) → IsReady s → PassesTests s (Apply d policy op xs None)) → ((s : State) (k : ℕ) → late_cause_by row_by s (Apply d policy op xs None) k ≡ None) → IsDrawn (Apply d policy op xs None)
 apply_drawn d policy op xs shaped there tests total = record {
   is_line = (shaped, refl);
   one_piece = line_lacks (Apply d policy op xs None);

@@ -8,7 +8,9 @@ use Rattle.std.proofs.lemmas.List.{take_more, take_all}
 use Rattle.fixed_word.specs.Pieces.{pieces, body}
 use Rattle.fixed_script.specs.Text.{ScriptHeader, header_text}
 use Rattle.fixed_script.specs.Lines.{header_of, header_of_piece}
-use Rattle.fixed_machine.specs.Meaning.{Output, run_from, run_pieces, run_of, meaning}
+use Rattle.fixed_text.specs.Runs.{Output, first_then}
+use Rattle.fixed_machine.specs.Meaning.{started, run_lines, script_run, meaning}
+use Rattle.fixed_machine.proofs.Runs.{run_pieces}
 use Rattle.fixed_calc.specs.Widening.{script_of}
 use Rattle.fixed_text.proofs.Cutting.{pieces_joined}
 use Rattle.fixed_script.proofs.TextsRead.{reads_headers}
@@ -39,7 +41,7 @@ header_piece p h e = header_by p h (body p) refl e
 abbrev IsHeaded : List ℕ → Type 0
 IsHeaded script = (header : ScriptHeader) × ((lines : List ℕ) × (script ≡ script_of header lines))
 
-headed_by : (script p : List ℕ) (ps : List (List ℕ)) (o : Option ScriptHeader) → header_of_piece p ≡ o → pieces script ≡ p ∷ ps → (run_from o ps).fault ≡ None → IsHeaded script
+headed_by : (script p : List ℕ) (ps : List (List ℕ)) (o : Option ScriptHeader) → header_of_piece p ≡ o → pieces script ≡ p ∷ ps → (first_then (started o) (λ s. run_lines s 2 ps)).cause ≡ None → IsHeaded script
 headed_by script p ps None is cut fine = cc
 headed_by script p ps (Some h) is cut fine = (
   h,
@@ -49,13 +51,14 @@ headed_by script p ps (Some h) is cut fine = (
   ),
 )
 
-pieces_headed : (script : List ℕ) (ps : List (List ℕ)) → pieces script ≡ ps → (run_pieces ps).fault ≡ None → IsHeaded script
+pieces_headed : (script : List ℕ) (ps : List (List ℕ)) → pieces script ≡ ps → (run_pieces ps).cause ≡ None → IsHeaded script
+unfolding header_of_piece
 pieces_headed script [] cut fine = cc
 pieces_headed script (p ∷ ps) cut fine = headed_by script p ps (header_of_piece p) refl cut fine
 
-run_headed : (script : List ℕ) → (run_of script).fault ≡ None → IsHeaded script
-unfolding run_of
+run_headed : (script : List ℕ) → (script_run script).cause ≡ None → IsHeaded script
+unfolding script_run
 run_headed script fine = pieces_headed script (pieces script) refl fine
 
 pub headed : (script bytes : List ℕ) → meaning script ≡ Output bytes → IsHeaded script
-headed script bytes e = run_headed script (output_of (run_of script).output bytes (run_of script).fault e).0
+headed script bytes e = run_headed script (output_of (script_run script).output bytes (script_run script).cause e).0

@@ -1,5 +1,5 @@
 -- A script that is spelled out: how it is written, and that it means the same.
-use Rattle.std.specs.Option.{option_and_then, option_map_or, option_or}
+use Rattle.std.specs.Option.{option_and_then, option_or}
 use Rattle.std.proofs.Common.{◌≡◌, ◌+◌, ◌-◌, ℕ, Bool, true, false, not, ◌||◌, nat_le, List, [], ◌∷◌, ◌++◌, length, take, length-append, Option, Some, None, if◌then◌else◌, refl, sym, ap, ◌∙◌, arith, append_assoc}
 use Rattle.std.specs.List.{join_with_byte, list_any}
 use Rattle.std.proofs.lemmas.List.{append-nil}
@@ -22,17 +22,20 @@ use Rattle.fixed_script.specs.Capped.{capped, checked_script_line, literal_value
 use Rattle.fixed_script.specs.Lines.{line_of, line_of_piece, header_of_piece}
 use Rattle.fixed_script.proofs.TextsRead.{reads_lines}
 use Rattle.fixed_machine.specs.Answers.{answer_text, ended}
-use Rattle.fixed_machine.specs.Machine.{State, OperandValues, operand_values, row_by, row_cause, late_cause, literals_of, registers_of, is_unoffered, is_out_of_range, is_mismatched, stored, cause, answer, move}
+use Rattle.fixed_machine.specs.Machine.{State, OperandValues, operand_values, row_by, row_cause, late_cause_by, literals_of, registers_of, is_unoffered, is_out_of_range, is_mismatched, stored, cause, answer, move, answer_by}
 use Rattle.fixed_text.specs.Words.{is_signed, width}
 use Rattle.fixed_machine.specs.Rows.{exact}
 use Rattle.fixed_machine.specs.Projection.{project}
-use Rattle.fixed_machine.specs.Meaning.{Run, by_cause, step_then, run_lines, run_from, run_pieces, run_of, start, fractions_of, has_wide, stopped, Output, Fault}
+use Rattle.fixed_text.specs.Runs.{step_then, first_then, lines_from, meaning_of}
+use Rattle.fixed_machine.specs.Meaning.{by_cause, step_by, started, run_lines, script_run}
+use Rattle.fixed_machine.proofs.Runs.{run_pieces}
 use Rattle.fixed_machine.specs.declared.cause.Cause.TheVariants.{Syntax, OutOfRange, FractionMismatch}
 use Rattle.fixed_calc.specs.Spelled.{spelled_line, Spelling, Written, NoForm, in_front, spell_then, spelled_lines, spelled_from, spelled_pieces, spelled, KeepsMeaning}
 use Rattle.fixed_calc.specs.inside.Spelling.{added_to, with_end}
 use Rattle.fixed_machine.specs.inside.Stepping.{script_line_of, is_value}
 use Rattle.fixed_calc.proofs.Before.{join_last}
-use Rattle.fixed_machine.proofs.Ended.{pieces_ended, line_read, header_read}
+use Rattle.fixed_text.proofs.Ended.{pieces_ended}
+use Rattle.fixed_machine.proofs.Ended.{line_read, header_read}
 use Rattle.fixed_calc.proofs.Headed.{body_by, header_piece}
 use Rattle.fixed_machine.proofs.Lacks.{line_lacks}
 use Rattle.fixed_calc.proofs.WidenedRuns.{script_pieces}
@@ -167,25 +170,21 @@ module _ (s : State) (k dest : ℕ) (policy : Policy) (op : Op) (xs : Operands) 
   same_cause : cause s spelled_out k ≡ cause s plain k
   unfolding is_unoffered is_mismatched
   same_cause =
-      ap (λ b. if is_unoffered s.word plain then Some (Syntax k) else if b then Some (OutOfRange k) else if is_mismatched s plain then Some (FractionMismatch k) else late_cause s spelled_out k) same_range
+      ap (λ b. if is_unoffered s.word plain then Some (Syntax k) else if b then Some (OutOfRange k) else if is_mismatched s plain then Some (FractionMismatch k) else late_cause_by row_by s spelled_out k) same_range
       ∙ ap (λ row. if is_unoffered s.word plain then Some (Syntax k) else if is_out_of_range s plain then Some (OutOfRange k) else if is_mismatched s plain then Some (FractionMismatch k) else row_cause (is_signed s.word) (width s.word) policy row op k)
       (default_row op (operand_values s.registers xs))
 
   same_answer : answer s spelled_out ≡ answer s plain
-  unfolding answer
+  unfolding answer_by
   same_answer = ap (project policy (is_signed s.word) (width s.word)) (default_row op (operand_values s.registers xs))
 
-  same_step : (next before : State → Run) → ((t : State) → next t ≡ before t) → step_then s k (Some spelled_out) next ≡ step_then s k (Some plain) before
-  same_step next before same =
-      (λ i. by_cause (same_cause i) s (answer_text (same_answer i)) (next (record { word = s.word; registers = stored s.registers dest (same_answer i) })))
-      ∙ ap (by_cause (cause s plain k) s (answer_text (answer s plain))) (same (move s plain))
+  same_step : step_by row_by s k (Some spelled_out) ≡ step_by row_by s k (Some plain)
+  same_step = λ i. by_cause (same_cause i) (record { word = s.word; registers = stored s.registers dest (same_answer i) }, answer_text (same_answer i))
 
-step_spelled : (s : State) (k : ℕ) (l : ScriptLine) (next before : State → Run) → ((t : State) → next t ≡ before t) → step_then s k (Some (spelled_line l)) next ≡ step_then s k (Some l) before
-step_spelled s k (SetTo dest x) next before same = ap (by_cause (cause s (SetTo dest x) k) s (answer_text (answer s (SetTo dest x)))) (same (move s (SetTo dest x)))
-step_spelled s k (Apply dest policy op xs None) next before same = same_step s k dest policy op xs next before same
-step_spelled s k (Apply dest policy op xs (Some r)) next before same =
-    let l = Apply dest policy op xs (Some r) in
-    ap (by_cause (cause s l k) s (answer_text (answer s l))) (same (move s l))
+step_spelled : (s : State) (k : ℕ) (l : ScriptLine) → step_by row_by s k (Some (spelled_line l)) ≡ step_by row_by s k (Some l)
+step_spelled s k (SetTo dest x) = refl
+step_spelled s k (Apply dest policy op xs None) = same_step s k dest policy op xs
+step_spelled s k (Apply dest policy op xs (Some r)) = refl
 
 default_may : (op : Op) → may_round op (default_rounding op) ≡ true
 default_may Neg = refl
@@ -235,8 +234,8 @@ abbrev KeepsLines : ℕ → List (List ℕ) → Type 0
 KeepsLines k ps = (s : State) (bytes : List ℕ) → spelled_lines k ps ≡ Written bytes → run_lines s k (pieces bytes) ≡ run_lines s k ps
 
 piece_kept : (s : State) (k : ℕ) (p : List ℕ) (ps : List (List ℕ)) (bytes : List ℕ) (o : Option ScriptLine) (rest : Spelling) → line_of_piece p ≡ o → spelled_lines (k + 1) ps ≡ rest → KeepsLines (k + 1) ps
-    → spell_then k o rest ≡ Written bytes → run_lines s k (pieces bytes) ≡ step_then s k o (λ t. run_lines t (k + 1) ps)
-unfolding run_lines
+    → spell_then k o rest ≡ Written bytes → run_lines s k (pieces bytes) ≡ step_then s (step_by row_by s k o) (λ t. run_lines t (k + 1) ps)
+unfolding lines_from
 piece_kept s k p ps bytes None rest is later keeps e = cc
 piece_kept s k p ps bytes (Some l) (NoForm j) is later keeps e = cc
 piece_kept s k p ps bytes (Some l) (Written more) is later keeps e =
@@ -244,28 +243,28 @@ piece_kept s k p ps bytes (Some l) (Written more) is later keeps e =
     let written = written_same (ended t ++ more) bytes e in
     let cut = ended_pieces t more (pieces_ended t more (line_lacks (spelled_line l))) in
     ap (λ bs. run_lines s k (pieces bs)) (sym written) ∙ ap (run_lines s k) cut
-    ∙ ap (λ o. step_then s k o (λ u. run_lines u (k + 1) (pieces more))) (line_read (spelled_line l) (still_line l (piece_line p l is)))
-    ∙ step_spelled s k l (λ u. run_lines u (k + 1) (pieces more)) (λ u. run_lines u (k + 1) ps) (λ u. keeps u more later)
+    ∙ ap (λ o. step_then s (step_by row_by s k o) (λ u. run_lines u (k + 1) (pieces more))) (line_read (spelled_line l) (still_line l (piece_line p l is)))
+    ∙ (λ i. step_then s (step_spelled s k l i) (λ u. keeps u more later i))
 
 lines_kept : (ps : List (List ℕ)) (k : ℕ) → KeepsLines k ps
-unfolding run_lines spelled_lines
+unfolding lines_from spelled_lines
 lines_kept [] k s bytes e = ap (λ bs. run_lines s k (pieces bs)) (sym (written_same [] bytes e))
 lines_kept (p ∷ ps) k s bytes e = piece_kept s k p ps bytes (line_of_piece p) (spelled_lines (k + 1) ps) refl refl (lines_kept ps (k + 1)) e
 
-header_kept : (o : Option ScriptHeader) (ps : List (List ℕ)) (bytes : List ℕ) (rest : Spelling) → spelled_lines 2 ps ≡ rest → (spelled_from o ps ≡ Written bytes) → run_pieces (pieces bytes) ≡ run_from o ps
+header_kept : (o : Option ScriptHeader) (ps : List (List ℕ)) (bytes : List ℕ) (rest : Spelling) → spelled_lines 2 ps ≡ rest → (spelled_from o ps ≡ Written bytes) → run_pieces (pieces bytes) ≡ first_then (started o) (λ s. run_lines s 2 ps)
 header_kept None ps bytes rest later e = cc
 header_kept (Some h) ps bytes (NoForm k) later e = let f : in_front (ended (header_text h)) (NoForm k) ≡ Written bytes = ap (in_front (ended (header_text h))) (sym later) ∙ e in cc
 header_kept (Some h) ps bytes (Written more) later e =
     let f : in_front (ended (header_text h)) (Written more) ≡ Written bytes = ap (in_front (ended (header_text h))) (sym later) ∙ e in
     let written = written_same (ended (header_text h) ++ more) bytes f in
     let cut = ended_pieces (header_text h) more (script_pieces h more) in
-    ap (λ bs. run_pieces (pieces bs)) (sym written) ∙ ap run_pieces cut ∙ ap (λ o. run_from o (pieces more)) (header_read h)
-    ∙ ap (λ r. if has_wide h.word (fractions_of h) then stopped None (OutOfRange 1) else r) (lines_kept ps 2 (start h) more later)
+    ap (λ bs. run_pieces (pieces bs)) (sym written) ∙ ap run_pieces cut ∙ ap (λ o. first_then (started o) (λ s. run_lines s 2 (pieces more))) (header_read h)
+    ∙ (λ i. first_then (started (Some h)) (λ s. lines_kept ps 2 s more later i))
 
 pieces_kept : (ps : List (List ℕ)) (bytes : List ℕ) → spelled_pieces ps ≡ Written bytes → run_pieces (pieces bytes) ≡ run_pieces ps
 pieces_kept [] bytes e = cc
 pieces_kept (p ∷ ps) bytes e = header_kept (header_of_piece p) ps bytes (spelled_lines 2 ps) refl e
 
 pub keeps_meaning : KeepsMeaning
-unfolding run_of
-keeps_meaning script bytes e = ap (λ r. option_map_or Fault r.fault (Output r.output)) (pieces_kept (pieces script) bytes e)
+unfolding script_run
+keeps_meaning script bytes e = ap meaning_of (pieces_kept (pieces script) bytes e)

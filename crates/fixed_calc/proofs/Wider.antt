@@ -16,7 +16,7 @@ use Rattle.fixed_machine.specs.declared.cause.Cause.TheVariants.{Overflow}
 use Rattle.fixed_script.specs.Text.{ScriptLine, SetTo, Apply}
 use Rattle.fixed_machine.specs.Offered.{is_offered}
 use Rattle.fixed_machine.specs.Projection.{project}
-use Rattle.fixed_machine.specs.Machine.{State, is_unoffered, is_out_of_range, is_mismatched, literals_of, registers_of, row_by, operand_values, row_cause, late_cause, cause, answer, move, stored, destination}
+use Rattle.fixed_machine.specs.Machine.{State, is_unoffered, is_out_of_range, is_mismatched, literals_of, registers_of, row_by, operand_values, row_cause, late_cause_by, cause, answer, move, stored, destination, answer_by}
 use Rattle.fixed_text.specs.Words.{is_signed, width}
 use Rattle.fixed_calc.specs.PolicyLaws.{WhereItFits}
 use Rattle.fixed_machine.specs.Step.{state_in}
@@ -124,7 +124,7 @@ module _ (s : State) (wide : WordName) (wider : IsWider s.word wide) where
     one_fraction = same_match line ∙ t.one_fraction;
   }
 
-  same_late_cause : (line : ScriptLine) (k : ℕ) → row_fits s line ≡ true → late_cause (widened wide s) line k ≡ late_cause s line k
+  same_late_cause : (line : ScriptLine) (k : ℕ) → row_fits s line ≡ true → late_cause_by row_by (widened wide s) line k ≡ late_cause_by row_by s line k
   same_late_cause (SetTo dest x) k e = refl
   same_late_cause (Apply dest policy op xs how) k e =
       let row = row_by how op (operand_values s.registers xs) in
@@ -137,7 +137,7 @@ module _ (s : State) (wide : WordName) (wider : IsWider s.word wide) where
       after_tests (widened wide s) line k (still_passes line passes.0) ∙ same_late_cause line k e ∙ passes.1
 
   pub same_answer : (line : ScriptLine) → row_fits s line ≡ true → answer (widened wide s) line ≡ answer s line
-  unfolding answer
+  unfolding answer_by
   same_answer (SetTo dest x) e = refl
   same_answer (Apply dest policy op xs how) e =
       let row = row_by how op (operand_values s.registers xs) in

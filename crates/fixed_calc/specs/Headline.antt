@@ -4,7 +4,9 @@
 use Rattle.std.specs.Prelude.{codes, ◌≡◌, ℕ, ◌+◌, ◌<◌, ◌≤◌, ◌⊎◌, ◌↔◌, ◌≢◌, ◌++◌, List, [], length, take, Option, Some, None, IfSome, ⊤}
 use Rattle.std.specs.Io.KnownBytes.{Appends, Keeps}
 use Rattle.fixed_word.specs.Decimal.{natural_text}
-use Rattle.fixed_machine.specs.Meaning.{Meaning, Output, Fault, meaning}
+use Rattle.fixed_text.specs.Runs.{Meaning, Output, Fault}
+use Rattle.fixed_machine.specs.declared.cause.Cause.{Cause}
+use Rattle.fixed_machine.specs.Meaning.{meaning}
 use Rattle.fixed_stream.specs.Outside.{SourceState, SinkState, RoseOrLast, last_count}
 use Rattle.fixed_machine.specs.declared.cause.Cause.TheVariants.{Syntax, OutOfRange, FractionMismatch, ZeroDivisor, NegativeRoot, Overflow}
 use Rattle.fixed_calc.specs.declared.status.Status.{Status}
@@ -34,7 +36,7 @@ abbrev pub IsOutputOf : Option (List ℕ) → List ℕ → Type 0
 IsOutputOf left bytes = IfSome left (λ input. meaning input ≡ Output bytes)
 
 -- a prefix of the output was taken, or nothing if the meaning is a fault
-abbrev pub TookPrefixOf : Option (List ℕ) → Option (List ℕ) → Meaning → Type 0
+abbrev pub TookPrefixOf : Option (List ℕ) → Option (List ℕ) → Meaning Cause → Type 0
 TookPrefixOf old new (Output bytes) = AppendsPrefix old new bytes
 TookPrefixOf old new (Fault cause) = Keeps old new
 
@@ -81,7 +83,7 @@ WhenTooLong (Some input) None P = ⊥
 WhenTooLong (Some input) (Some rest) P = P ↔ limit + length rest < length input
 
 -- the status is that of the meaning, with its whole output; or memory ran out
-abbrev pub IsComplete : SinkState → SinkState → Meaning → Status → Type 0
+abbrev pub IsComplete : SinkState → SinkState → Meaning Cause → Status → Type 0
 IsComplete sink sink' (Output bytes) status = (status ≡ Memory) ⊎ ((status ≡ Done) × Appends sink.taken sink'.taken bytes)
 IsComplete sink sink' (Fault cause) status = (status ≡ Memory) ⊎ (status ≡ Script cause)
 

@@ -27,5 +27,6 @@ pub use Rattle.fixed_script.specs.Lines
 pub use Rattle.fixed_script.specs.ReadPieces
 pub use Rattle.fixed_script.specs.TextLaws
 pub use Rattle.fixed_digits.specs.Numerals
+pub use Rattle.fixed_text.specs.Runs
 pub use Rattle.fixed_text.specs.Tokens
 pub use Rattle.fixed_text.specs.Words

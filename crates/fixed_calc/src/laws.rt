@@ -7,7 +7,8 @@ ghost use Rattle.fixed_calc.specs.Before.{MeansAsBefore, ReadsOldLines};
 ghost use Rattle.fixed_calc.specs.Calls.{ReadsUntil, TookBytes, buffer_size};
 ghost use Rattle.fixed_machine.specs.CapLaw.{CapsAlike};
 ghost use Rattle.fixed_calc.specs.Demo.{demo_answers, demo_text};
-ghost use Rattle.fixed_machine.specs.Meaning.{Output, meaning, run_of, start};
+ghost use Rattle.fixed_text.specs.Runs.{Output};
+ghost use Rattle.fixed_machine.specs.Meaning.{meaning, script_run, start};
 ghost use Rattle.fixed_stream.specs.Memory.{IsCallsFor, MemoryInput, MemoryOutput};
 ghost use Rattle.fixed_calc.specs.PolicyLaws.{WhereItFits, WhereItMisses};
 ghost use Rattle.fixed_stream.specs.Outside.{last_count};
@@ -42,7 +43,7 @@ pub fn policy_law()
 /// The script of a demonstration has no cause, whatever its number of lines. Its output is the texts of its answers,
 /// one for each line.
 pub fn demo_law()
-    ensures no_cause { (n : ℕ) → (run_of (demo_text n)).fault ≡ None }
+    ensures no_cause { (n : ℕ) → (script_run (demo_text n)).cause ≡ None }
     ensures output { (n : ℕ)
         → meaning (demo_text n) ≡ Output (flat_map answer_text (demo_answers n)) }
     ensures one_each { (n : ℕ) → length (demo_answers n) ≡ n }

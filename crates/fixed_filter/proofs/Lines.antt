@@ -9,7 +9,7 @@ use Rattle.fixed_text.specs.declared.decimal.Decimal.{Decimal}
 use Rattle.fixed_text.specs.Decimals.{decimal_of, decimal_value}
 use Rattle.fixed_digits.specs.Numerals.{cap}
 use Rattle.fixed_text.specs.Numbers.{numbered_in, only_number, whole_in, wholes_in, before_others}
-use Rattle.fixed_text.specs.Runs.{Reading, Malformed, Misfit, Read, in_range, read_map, fitting_number, fitting_numbers}
+use Rattle.fixed_text.specs.Readings.{Reading, Malformed, Misfit, Read, in_range, read_map, fitting_number, fitting_numbers}
 use Rattle.fixed_text.proofs.Caps.{held_alike}
 use Rattle.fixed_filter.specs.declared.shape.Shape.{Shape}
 use Rattle.fixed_text.specs.Tokens.{tokens_of}

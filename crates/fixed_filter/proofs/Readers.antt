@@ -11,10 +11,10 @@ use Rattle.fixed_text.specs.Texts.{IsReader}
 use Rattle.fixed_text.specs.Tokens.{◌>>=◌, tokens_of, next_by, at_end}
 use Rattle.fixed_text.specs.Words.{word_name, word_named}
 use Rattle.fixed_text.proofs.Joined.{natural_no_space, whole_no_space}
-use Rattle.fixed_text.proofs.Readers.{are_tokens, reader, word_no_space, wholes_no_space, word_again, word_only, wholes_again, wholes_only, numbered_again, numbered_only}
+use Rattle.fixed_text.proofs.Readers.{are_tokens, reader, word_no_space, wholes_no_space, word_again, word_only, wholes_again, wholes_only, number_only, numbered_again, numbered_only}
 use Rattle.fixed_text.proofs.Inverses.{natural_back, whole_back, wholes_back, inverse_reader, one_reader}
 use Rattle.fixed_text.proofs.Naturals.{in_again, in_only}
-use Rattle.fixed_text.proofs.Steps.{guard_some, next_some, end_some}
+use Rattle.fixed_text.proofs.Steps.{led_only, next_some, end_some}
 use Rattle.fixed_text.proofs.Wholes.{whole_again, whole_only}
 use Rattle.fixed_filter.specs.Text.{FilterHeader, FilterLine, Taps, Sample, header_tokens, header_text, line_tokens, line_text}
 use Rattle.fixed_filter.specs.Lines.{header_in, header_of, line_in, line_of}
@@ -31,7 +31,10 @@ header_again h = rw (word_again h.word, in_again h.out, in_again h.coef, in_agai
 abbrev made : WordName → ℕ → ℕ → ℕ → FilterHeader
 made w a b c = record { word = w; out = a; coef = b; sample = c }
 
-format_only : (ts : List (List ℕ)) (h : FilterHeader) → format_at ts ≡ Some h → word_name h.word ∷ natural_text h.out ∷ natural_text h.coef ∷ natural_text h.sample ∷ [] ≡ ts
+abbrev format_tokens : FilterHeader → List (List ℕ)
+format_tokens h = word_name h.word ∷ natural_text h.out ∷ natural_text h.coef ∷ natural_text h.sample ∷ []
+
+format_only : (ts : List (List ℕ)) (h : FilterHeader) → format_at ts ≡ Some h → format_tokens h ≡ ts
 unfolding format_at
 format_only ts h e =
     let t = next_some word_named ts (λ w. next_by natural_in w.1 >>= λ a. next_by natural_in a.1 >>= λ b. next_by natural_in b.1 >>= λ c. at_end c.1 (made w.0 a.0 b.0 c.0)) h e in
@@ -39,7 +42,7 @@ format_only ts h e =
     let v = next_some natural_in u.rest (λ b. next_by natural_in b.1 >>= λ c. at_end c.1 (made t.value u.value b.0 c.0)) h u.goes_on in
     let x = next_some natural_in v.rest (λ c. at_end c.1 (made t.value u.value v.value c.0)) h v.goes_on in
     let done = end_some x.rest (made t.value u.value v.value x.value) h x.goes_on in
-    ap (λ (h : FilterHeader). word_name h.word ∷ natural_text h.out ∷ natural_text h.coef ∷ natural_text h.sample ∷ []) (sym done.1)
+    ap format_tokens (sym done.1)
     ∙ ap (λ name. name ∷ natural_text u.value ∷ natural_text v.value ∷ natural_text x.value ∷ []) (word_only t.token t.value t.reads)
     ∙ ap (λ a. t.token ∷ a ∷ natural_text v.value ∷ natural_text x.value ∷ []) (in_only u.token u.value u.reads)
     ∙ ap (λ b. t.token ∷ u.token ∷ b ∷ natural_text x.value ∷ []) (in_only v.token v.value v.reads)
@@ -50,11 +53,7 @@ format_only ts h e =
 
 header_only : (ts : List (List ℕ)) (h : FilterHeader) → header_at ts ≡ Some h → header_tokens h ≡ ts
 unfolding header_at
-header_only ts h e =
-    let t = next_some Some ts (λ name. cond (bytes_eq name.0 (codes "filter")) (format_at name.1) None) h e in
-    let named = guard_some (bytes_eq t.value (codes "filter")) (format_at t.rest) h t.goes_on in
-    let name : codes "filter" ≡ t.token = sym ((bytes_eq-Decides t.value (codes "filter")).0 named.0) ∙ sym (same_Some t.token t.value t.reads) in
-    ap (λ rest. codes "filter" ∷ rest) (format_only t.rest h named.1) ∙ ap (λ name. name ∷ t.rest) name ∙ sym t.is
+header_only ts h e = led_only (codes "filter") format_at format_tokens ts h (λ rest is. format_only rest h is) e
 
 header_back : (h : FilterHeader) → header_in (header_tokens h) ≡ Some h
 header_back h = rw (word_again h.word, natural_back h.out, natural_back h.coef, natural_back h.sample) refl
@@ -80,13 +79,6 @@ taps_only : (ts : List (List ℕ)) (l : FilterLine) (o : Option (List ℤ)) → 
 taps_only ts l None is e = absurd (none-some l e)
 taps_only ts l (Some []) is e = absurd (none-some l e)
 taps_only ts l (Some (c ∷ cs)) is e = ap line_tokens (sym (same_Some (Taps c cs) l e)) ∙ ap (λ rest. codes "taps" ∷ rest) (wholes_only ts (c ∷ cs) is)
-
-number_only : (ts : List (List ℕ)) (x : ℤ) → only_number ts ≡ Some x → whole_text x ∷ [] ≡ ts
-unfolding only_number
-number_only ts x e =
-    let t = next_some whole_in ts (λ x. at_end x.1 x.0) x e in
-    let done = end_some t.rest t.value x t.goes_on in
-    ap (λ x. whole_text x ∷ []) (sym done.1) ∙ ap (λ token. token ∷ []) (whole_only t.token t.value t.reads) ∙ ap (λ rest. t.token ∷ rest) (sym done.0) ∙ sym t.is
 
 sample_only : (name : List ℕ) (ts : List (List ℕ)) (l : FilterLine) (o : Option ℕ) (x : Option ℤ) → numbered_in 99 name ≡ o → only_number ts ≡ x → sample_of o x ≡ Some l → line_tokens l ≡ name ∷ ts
 sample_only name ts l None x is at e = absurd (none-some l e)

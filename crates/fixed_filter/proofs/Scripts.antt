@@ -1,19 +1,18 @@
 -- What a script of channels and samples prints.
-use Rattle.std.proofs.Common.{◌≡◌, ◌+◌, ◌-◌, ◌&&◌, ℕ, suc, ℤ, Bool, true, false, not, eqb, cond, if◌then◌else◌, List, [], ◌∷◌, ◌++◌, length, map, take, Option, Some, None, refl, sym, ap, ◌∙◌, arith, append_assoc, length-append}
-use Rattle.std.specs.Prelude.{◌==◌, nat_lt, slice_index}
-use Rattle.std.specs.Option.{option_map}
-use Rattle.std.specs.List.{list_all, onto_first}
+use Rattle.std.proofs.Common.{◌≡◌, ◌+◌, ◌&&◌, ℕ, suc, ℤ, Bool, true, false, eqb, cond, if◌then◌else◌, List, [], ◌∷◌, ◌++◌, length, map, drop, Option, Some, None, Result, refl, sym, ap, ◌∙◌, append_assoc}
+use Rattle.std.specs.Prelude.{nat_lt}
+use Rattle.std.specs.Option.{option_map_or}
+use Rattle.std.specs.List.{list_all}
 use Rattle.std.specs.Cmp.Derive.{both_true}
-use Rattle.std.proofs.lemmas.Bool.{false≢true}
 use Rattle.std.proofs.lemmas.List.{append-nil, map-append}
-use Rattle.std.proofs.Math.Seq.{take-append_seam, get_or-append_seam}
 use Rattle.fixed_word.specs.Decimal.{whole_text}
 use Rattle.fixed_word.specs.Format.{fits}
 use Rattle.fixed_word.specs.Pieces.{pieces, body}
-use Rattle.fixed_text.specs.declared.names.WordName.{WordName}
-use Rattle.fixed_text.specs.declared.names.WordName.TheVariants.{I8, I16, I32, I64, U8, U16, U32, U64}
-use Rattle.fixed_text.specs.Runs.{Reading, Malformed, Read, Printed, after, then_by, piece_by, in_range, read_map, fitting_number, fitting_numbers, lines_from, opened_by, run_opened}
-use Rattle.fixed_text.specs.Words.{is_signed, width, word_name}
+use Rattle.fixed_text.specs.Runs.{lines_from, first_piece, first_then, Meaning, meaning_of, Output, Fault}
+use Rattle.fixed_text.specs.Readings.{Reading, Malformed, Read, in_range, read_map, fitting_number, fitting_numbers, PieceCause, at_piece, piece_by, line_by}
+use Rattle.fixed_text.proofs.Ended.{pieces_ended, body_ended, word_lacks}
+use Rattle.fixed_text.proofs.Turns.{line_moves}
+use Rattle.fixed_text.specs.Words.{is_signed, width}
 use Rattle.fixed_digits.proofs.Decimals.{both}
 use Rattle.fixed_digits.proofs.Lacking.{lacks, natural_lacks, whole_lacks, joined_lack}
 use Rattle.fixed_filter.specs.declared.reply.Reply.{Reply}
@@ -30,24 +29,6 @@ use Rattle.fixed_filter.proofs.Simulated.{own_here}
 abbrev ended : List ℕ → List ℕ
 ended t = t ++ (10 ∷ [])
 
-differs : (x c : ℕ) (b : Bool) → eqb x c ≡ b → not b ≡ true → eqb x c ≡ false
-differs x c true is h = absurd (false≢true h)
-differs x c false is h = is
-
-pieces_ended : (t rest : List ℕ) → lacks 10 t ≡ true → pieces (t ++ (10 ∷ rest)) ≡ ended t ∷ pieces rest
-pieces_ended [] rest h = refl
-pieces_ended (x ∷ xs) rest h =
-    let parts = both (not (eqb x 10)) (lacks 10 xs) h in
-    ap (λ (b : Bool). if b then (10 ∷ []) ∷ pieces (xs ++ (10 ∷ rest)) else onto_first x (pieces (xs ++ (10 ∷ rest)))) (differs x 10 (eqb x 10) refl parts.0)
-    ∙ ap (onto_first x) (pieces_ended xs rest parts.1)
-
-body_ended : (t : List ℕ) → body (ended t) ≡ Some t
-body_ended t =
-    let back : length (t ++ (10 ∷ [])) - 1 ≡ length t = omega (arith, length-append t (10 ∷ [])) in
-    ap (λ n. if slice_index (ended t) n == 10 then Some (take n (ended t)) else None) back
-    ∙ ap (λ b. if b == 10 then Some (take (length t) (ended t)) else None) (get_or-append_seam t 10 [] 0)
-    ∙ ap Some (take-append_seam t (10 ∷ []))
-
 pieces_of_texts : (ts : List (List ℕ)) → list_all (lacks 10) ts ≡ true → pieces (ended_texts ts) ≡ map ended ts
 pieces_of_texts [] h = refl
 pieces_of_texts (t ∷ ts) h =
@@ -55,16 +36,6 @@ pieces_of_texts (t ∷ ts) h =
     pieces_ended t (ended_texts ts) parts.0 ∙ ap (λ ps. ended t ∷ ps) (pieces_of_texts ts parts.1)
 
 -- ---- no header and no line has a newline
-word_lacks : (w : WordName) → lacks 10 (word_name w) ≡ true
-word_lacks I8 = refl
-word_lacks I16 = refl
-word_lacks I32 = refl
-word_lacks I64 = refl
-word_lacks U8 = refl
-word_lacks U16 = refl
-word_lacks U32 = refl
-word_lacks U64 = refl
-
 header_lacks : (h : FilterHeader) → lacks 10 (header_text h) ≡ true
 header_lacks h =
     joined_lack (header_tokens h)
@@ -83,11 +54,26 @@ lines_lack [] = refl
 lines_lack (l ∷ ls) = both_true (line_lacks l) (lines_lack ls)
 
 -- ---- one line
-line_first : (s : FilterState) (k : ℕ) (t : List ℕ) (ps : List (List ℕ)) (moved : FilterState × List ℕ) → filter_line s t ≡ Read moved → lines_from filter_line s k (ended t ∷ ps) ≡ after moved.1 (lines_from filter_line moved.0 (k + 1) ps)
-unfolding lines_from
+abbrev step : FilterState → ℕ → List ℕ → Result (FilterState × List ℕ) PieceCause
+step = line_by filter_line
+
+abbrev printed : FilterState → ℕ → List (List ℕ) → Meaning PieceCause
+printed s k ps = meaning_of (lines_from step s k ps)
+
+-- the same after other bytes
+abbrev in_front : List ℕ → Meaning PieceCause → Meaning PieceCause
+in_front bytes (Output more) = Output (bytes ++ more)
+in_front bytes (Fault c) = Fault c
+
+meaning_after : (bytes output : List ℕ) (cause : Option PieceCause) → option_map_or Fault cause (Output (bytes ++ output)) ≡ in_front bytes (option_map_or Fault cause (Output output))
+meaning_after bytes output None = refl
+meaning_after bytes output (Some c) = refl
+
+line_first : (s : FilterState) (k : ℕ) (t : List ℕ) (ps : List (List ℕ)) (moved : FilterState × List ℕ) → filter_line s t ≡ Read moved → printed s k (ended t ∷ ps) ≡ in_front moved.1 (printed moved.0 (k + 1) ps)
 line_first s k t ps moved e =
-    ap (λ (o : Option (List ℕ)). then_by k (piece_by (filter_line s) o) (λ moved. after moved.1 (lines_from filter_line moved.0 (k + 1) ps))) (body_ended t)
-    ∙ ap (λ (r : Reading (FilterState × List ℕ)). then_by k r (λ moved. after moved.1 (lines_from filter_line moved.0 (k + 1) ps))) e
+    let reads = ap (λ (o : Option (List ℕ)). at_piece k (piece_by (filter_line s) o)) (body_ended t) ∙ ap (at_piece k) e in
+    let later = lines_from step moved.0 (k + 1) ps in
+    ap meaning_of (line_moves step s moved.0 k (ended t) moved.1 ps reads) ∙ meaning_after moved.1 later.output later.cause
 
 taps_line : (s : FilterState) (c : ℤ) (cs : List ℤ) → has_begun s.before ≡ false → list_all (fits s.signed s.bits) (c ∷ cs) ≡ true → filter_line s (line_text (Taps c cs)) ≡ Read (with_taps (c ∷ cs) s, [])
 taps_line s c cs begun fit =
@@ -121,7 +107,7 @@ module _ (signed : Bool) (n : ℕ) (shape : Shape) where
 
   module _ (bank : List (List ℤ)) where
     samples_printed : (before samples : List (ℕ × ℤ)) (told : List (ℕ × Reply ℤ)) (k : ℕ) → AsMany told before → are_samples signed n (length bank) samples ≡ true
-        → lines_from filter_line (state_of bank before) k (pieces_for (map (λ e. Sample e.0 e.1) samples)) ≡ Printed (reply_texts told (replies signed n (places_of shape) bank before samples))
+        → printed (state_of bank before) k (pieces_for (map (λ e. Sample e.0 e.1) samples)) ≡ Output (reply_texts told (replies signed n (places_of shape) bank before samples))
     unfolding lines_from state_of
     samples_printed before [] told k many fit = refl
     samples_printed before (e ∷ es) told k many fit =
@@ -132,42 +118,46 @@ module _ (signed : Bool) (n : ℕ) (shape : Shape) where
         let here = own_here e.0 e.0 e.1 before refl in
         let later = reply_texts ((e.0, reply) ∷ told) (replies signed n (places_of shape) bank (e ∷ before) es) in
         line_first s k (line_text (Sample e.0 e.1)) (pieces_for (map (λ e. Sample e.0 e.1) es)) (with_own e.0 e.1 s, answer_text s e.0 e.1) (sample_line s e.0 e.1 one.0 one.1)
-        ∙ ap (after (answer_text s e.0 e.1)) (samples_printed (e ∷ before) es ((e.0, reply) ∷ told) (k + 1) (as_many-more e.0 reply e.1 told before many) parts.1)
-        ∙ ap (λ (m : ℕ). Printed (reply_text e.0 m (reply_after signed n (places_of shape) (taps_at bank e.0) (e.1 ∷ own e.0 before)) ++ later)) (sym (many e.0))
-        ∙ ap (λ (xs : List ℤ). Printed (reply_text e.0 (length (own e.0 told)) (reply_after signed n (places_of shape) (taps_at bank e.0) xs) ++ later)) (sym here)
+        ∙ ap (in_front (answer_text s e.0 e.1)) (samples_printed (e ∷ before) es ((e.0, reply) ∷ told) (k + 1) (as_many-more e.0 reply e.1 told before many) parts.1)
+        ∙ ap (λ (m : ℕ). Output (reply_text e.0 m (reply_after signed n (places_of shape) (taps_at bank e.0) (e.1 ∷ own e.0 before)) ++ later)) (sym (many e.0))
+        ∙ ap (λ (xs : List ℤ). Output (reply_text e.0 (length (own e.0 told)) (reply_after signed n (places_of shape) (taps_at bank e.0) xs) ++ later)) (sym here)
 
   -- ---- channels
   taps_printed : (bank : List (List ℤ)) (cs : List (ℤ × List ℤ)) (k : ℕ) (qs : List (List ℕ)) (out : List ℕ) → all_fit signed n (taps_of_channels cs) ≡ true
-      → ((k : ℕ) (b : List (List ℤ)) → b ≡ bank ++ taps_of_channels cs → lines_from filter_line (state_of b []) k qs ≡ Printed out)
-      → lines_from filter_line (state_of bank []) k (pieces_for (map (λ t. Taps t.0 t.1) cs) ++ qs) ≡ Printed out
+      → ((k : ℕ) (b : List (List ℤ)) → b ≡ bank ++ taps_of_channels cs → printed (state_of b []) k qs ≡ Output out)
+      → printed (state_of bank []) k (pieces_for (map (λ t. Taps t.0 t.1) cs) ++ qs) ≡ Output out
   unfolding state_of
   taps_printed bank [] k qs out fit goes_on = goes_on k bank (sym (append-nil bank))
   taps_printed bank (t ∷ ts) k qs out fit goes_on =
       let parts = both (list_all (fits signed n) (t.0 ∷ t.1)) (all_fit signed n (taps_of_channels ts)) fit in
       line_first (state_of bank []) k (line_text (Taps t.0 t.1)) (pieces_for (map (λ t. Taps t.0 t.1) ts) ++ qs) (state_of (bank ++ (t.0 ∷ t.1) ∷ []) [], []) (taps_line (state_of bank []) t.0 t.1 refl parts.0)
-      ∙ ap (after []) (taps_printed (bank ++ (t.0 ∷ t.1) ∷ []) ts (k + 1) qs out parts.1 (λ k b e. goes_on k b (e ∙ append_assoc bank ((t.0 ∷ t.1) ∷ []) (taps_of_channels ts))))
+      ∙ ap (in_front []) (taps_printed (bank ++ (t.0 ∷ t.1) ∷ []) ts (k + 1) qs out parts.1 (λ k b e. goes_on k b (e ∙ append_assoc bank ((t.0 ∷ t.1) ∷ []) (taps_of_channels ts))))
 
   lines_printed : (cs : List (ℤ × List ℤ)) (samples : List (ℕ × ℤ)) → all_fit signed n (taps_of_channels cs) ≡ true → are_samples signed n (length (taps_of_channels cs)) samples ≡ true
-      → lines_from filter_line (start signed n shape) 2 (pieces_for (channels_and_samples cs samples)) ≡ Printed (reply_texts [] (replies signed n (places_of shape) (taps_of_channels cs) [] samples))
+      → printed (start signed n shape) 2 (pieces_for (channels_and_samples cs samples)) ≡ Output (reply_texts [] (replies signed n (places_of shape) (taps_of_channels cs) [] samples))
   unfolding state_of
   lines_printed cs samples fit sampled =
       let taps_lines = map (λ (t : ℤ × List ℤ). Taps t.0 t.1) cs in
       let sample_lines = map (λ (e : ℕ × ℤ). Sample e.0 e.1) samples in
       let out = reply_texts [] (replies signed n (places_of shape) (taps_of_channels cs) [] samples) in
       let apart = ap (map ended) (map-append line_text taps_lines sample_lines) ∙ map-append ended (map line_text taps_lines) (map line_text sample_lines) in
-      ap (lines_from filter_line (start signed n shape) 2) apart
+      ap (printed (start signed n shape) 2) apart
       ∙ taps_printed [] cs 2 (pieces_for sample_lines) out fit
-      (λ k b e. ap (λ (b : List (List ℤ)). lines_from filter_line (state_of b []) k (pieces_for sample_lines)) e ∙ samples_printed (taps_of_channels cs) [] samples [] k (λ c. refl) sampled)
+      (λ k b e. ap (λ (b : List (List ℤ)). printed (state_of b []) k (pieces_for sample_lines)) e ∙ samples_printed (taps_of_channels cs) [] samples [] k (λ c. refl) sampled)
+
+-- ---- the script
+abbrev opened : Reading FilterState → List (List ℕ) → Meaning PieceCause
+opened reading ps = meaning_of (first_then (at_piece 1 reading) (λ s. lines_from step s 2 ps))
 
 pub script_printed : (h : FilterHeader) (cs : List (ℤ × List ℤ)) (samples : List (ℕ × ℤ)) → shape_fits (width h.word) (shape_of h) ≡ true → all_fit (is_signed h.word) (width h.word) (taps_of_channels cs) ≡ true
     → are_samples (is_signed h.word) (width h.word) (length (taps_of_channels cs)) samples ≡ true
-    → filter_output (script_text h (channels_and_samples cs samples)) ≡ Printed (reply_texts [] (replies (is_signed h.word) (width h.word) (places_of (shape_of h)) (taps_of_channels cs) [] samples))
+    → filter_output (script_text h (channels_and_samples cs samples)) ≡ Output (reply_texts [] (replies (is_signed h.word) (width h.word) (places_of (shape_of h)) (taps_of_channels cs) [] samples))
 script_printed h cs samples shape_fit fit sampled =
     let lines = channels_and_samples cs samples in
     let ps = map ended (map line_text lines) in
     let first = start (is_signed h.word) (width h.word) (shape_of h) in
-    ap (λ (ps : List (List ℕ)). run_opened filter_first filter_line (opened_by ps)) (pieces_of_texts (header_text h ∷ map line_text lines) (both_true (header_lacks h) (lines_lack lines)))
-    ∙ ap (λ (o : Option (List ℕ)). run_opened filter_first filter_line (option_map (λ header. (header, ps)) o)) (body_ended (header_text h))
-    ∙ ap (λ (o : Option FilterHeader). then_by 1 (header_read o) (λ state. lines_from filter_line state 2 ps)) (header_reader.again h)
-    ∙ ap (λ (b : Bool). then_by 1 (in_range b (Read first)) (λ state. lines_from filter_line state 2 ps)) shape_fit
+    ap (λ (ps : List (List ℕ)). opened (piece_by filter_first (body (first_piece ps))) (drop 1 ps)) (pieces_of_texts (header_text h ∷ map line_text lines) (both_true (header_lacks h) (lines_lack lines)))
+    ∙ ap (λ (o : Option (List ℕ)). opened (piece_by filter_first o) ps) (body_ended (header_text h))
+    ∙ ap (λ (o : Option FilterHeader). opened (header_read o) ps) (header_reader.again h)
+    ∙ ap (λ (b : Bool). opened (in_range b (Read first)) ps) shape_fit
     ∙ lines_printed (is_signed h.word) (width h.word) (shape_of h) cs samples fit sampled

@@ -4,8 +4,8 @@ use Rattle.std.specs.Prelude.{slice_index_or, nat_lt}
 use Rattle.std.specs.List.{zip, list_all}
 use Rattle.std.proofs.lemmas.Bool.Decides.{nat_tests}
 use Rattle.fixed_word.specs.Format.{fits}
-use Rattle.fixed_text.specs.Runs.{Reading, Malformed, Misfit, Read, in_range, read_map, fitting_number, fitting_numbers}
-use Rattle.fixed_filter.proofs.Counted.{keep_moved}
+use Rattle.fixed_text.specs.Readings.{Reading, Malformed, Misfit, Read, in_range, read_map, fitting_number, fitting_numbers}
+use Rattle.fixed_text.proofs.Turns.{keep_moved}
 use Rattle.fixed_filter.specs.declared.shape.Shape.{Shape}
 use Rattle.fixed_filter.specs.Banks.{Filter, change_at, fresh, places_of, with_sample}
 use Rattle.fixed_filter.specs.Replies.{filter_reply}

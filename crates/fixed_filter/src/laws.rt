@@ -1,7 +1,7 @@
 //! Laws of the definitions. These functions do nothing: the contract of each is the law.
 
 ghost use Rattle.std.specs.Prelude.{◌≡◌, ◌-◌, ◌*◌, ◌^◌, ◌<◌, ◌≤◌, ◌≤ℤ◌, ◌-ℤ◌, ◌*ℤ◌, Bool, List, [], ◌∷◌, Some, length, negsuc, pos, suc, true, ℕ, ℤ};
-ghost use Rattle.fixed_text.specs.Runs.{Printed};
+ghost use Rattle.fixed_text.specs.Runs.{Output};
 ghost use Rattle.fixed_text.specs.Texts.{IsReader};
 ghost use Rattle.fixed_text.specs.Words.{is_signed, width};
 ghost use Rattle.fixed_filter.specs.Banks.{places_of};
@@ -59,7 +59,7 @@ pub fn script_law()
         → all_fit (is_signed h.word) (width h.word) (taps_of_channels channels) ≡ true
         → are_samples (is_signed h.word) (width h.word) (length channels) samples ≡ true
         → filter_output (script_text h (channels_and_samples channels samples))
-        ≡ Printed (reply_texts [] (replies (is_signed h.word) (width h.word)
+        ≡ Output (reply_texts [] (replies (is_signed h.word) (width h.word)
         (places_of (shape_of h)) (taps_of_channels channels) [] samples)) }
 {}
 

@@ -4,14 +4,15 @@ ghost use Rattle.std.specs.Prelude.{◌≡◌, ◌++◌, ◌<◌, [], Err, IfSom
 ghost use Rattle.fixed_word.specs.Pieces.{pieces};
 ghost use Rattle.fixed_digits.specs.Numerals.{cap};
 ghost use Rattle.fixed_text.specs.Numbers.{only_number, wholes_in};
-ghost use Rattle.fixed_text.specs.Runs.{Ending, Read, lines_from, then_by};
+ghost use Rattle.fixed_text.specs.Runs.{first_then, lines_from, meaning_of};
+ghost use Rattle.fixed_text.specs.Readings.{Read, at_piece, line_by};
 ghost use Rattle.fixed_text.specs.Answers.{IsAnswerOfRun, IsStepOfLine};
 ghost use Rattle.fixed_filter.specs.Banks.{IsShape, change_at, with_sample};
 ghost use Rattle.fixed_filter.specs.declared.reply.Reply.TheVariants.{Overflow};
 ghost use Rattle.fixed_filter.specs.inside.Kept.{kept_line, kept_read, kept_reply, kept_sample, kept_taps, kept_text, lane_at};
 ghost use Rattle.fixed_filter.specs.inside.Parser.{sample_of, taps_of};
 ghost use Rattle.fixed_filter.specs.Replies.{reply_map};
-ghost use Rattle.fixed_filter.specs.Runs.{IsAnswerOfFilter, filter_line, filter_output, reply_text, start, started};
+ghost use Rattle.fixed_filter.specs.Runs.{filter_line, filter_output, reply_text, start, started};
 
 use crate::bank::Bank;
 use crate::fault::FilterFault;
@@ -206,24 +207,12 @@ impl<T: Word> Run for FilterRun<T> {
     }
 }
 
-/// Returns the output of a run, or its fault as the fault of a script of filters.
-fn answer_of(found: Result<Output, RunFault>) -> Result<Output, FilterFault>
-    ensures { (ending : Ending) → IsAnswerOfRun ending found → IsAnswerOfFilter ending result }
-{
-    match found {
-        Ok(output) => Ok(output),
-        Err(RunFault::Syntax(number)) => Err(FilterFault::Syntax(number)),
-        Err(RunFault::OutOfRange(number)) => Err(FilterFault::OutOfRange(number)),
-        Err(RunFault::Memory) => Err(FilterFault::Memory),
-    }
-}
-
 /// Returns what the lines after the header print, for a word and a shape, or their first fault. Precondition: each
 /// number of fraction bits is at most the width.
 fn run_shape<T: Word>(alloc: Global, shape: Shape, lines: &[u8]) -> Result<Output, RunFault>
     requires { IsShape T.BITS shape }
-    ensures { IsAnswerOfRun (lines_from filter_line (start T.SIGNED T.BITS shape) 2 (pieces lines.now))
-        result }
+    ensures { IsAnswerOfRun (meaning_of (lines_from (line_by filter_line)
+        (start T.SIGNED T.BITS shape) 2 (pieces lines.now))) result }
 {
     let run = FilterRun::<T> {
         alloc,
@@ -235,9 +224,10 @@ fn run_shape<T: Word>(alloc: Global, shape: Shape, lines: &[u8]) -> Result<Outpu
 }
 
 impl InWord for Header {
-    ghost ending = { λ header lines signed bits. then_by 1 (started signed bits (record
-        { out_frac = header.out; coef_frac = header.coef; sample_frac = header.sample }))
-        (λ state. lines_from filter_line state 2 (pieces lines)) };
+    ghost meaning = { λ header lines signed bits. meaning_of (first_then
+        (at_piece 1 (started signed bits (record
+        { out_frac = header.out; coef_frac = header.coef; sample_frac = header.sample })))
+        (λ state. lines_from (line_by filter_line) state 2 (pieces lines))) };
 
     fn run_in<T: Word>(self, alloc: Global, lines: &[u8]) -> Result<Output, RunFault> {
         let most = u128::from(T::BITS);
@@ -264,13 +254,13 @@ impl InWord for Header {
 /// bits exceeds the width, that a tap or a sample does not fit, or that the channel does not exist. Whatever the script
 /// is, the run may fail with `Memory`, if memory runs out, and then returns no bytes.
 pub fn filter_run(alloc: Global, script: &[u8]) -> Result<Output, FilterFault>
-    ensures { IsAnswerOfFilter (filter_output script.now) result }
+    ensures { IsAnswerOfRun (filter_output script.now) result }
 {
     let Some((piece, lines)) = open(script) else {
         return Err(FilterFault::Syntax(1));
     };
     match read_header(piece) {
-        Some(header) => answer_of(header.word.in_word(header, alloc, lines)),
+        Some(header) => header.word.in_word(header, alloc, lines),
         None => Err(FilterFault::Syntax(1)),
     }
 }

@@ -1,7 +1,8 @@
 //! The calculator as a library: one room for many scripts.
 
 ghost use Rattle.std.specs.Prelude.{◌≡◌, IfErr, OnOk, Some};
-ghost use Rattle.fixed_calc.specs.Meaning.{Fault, Output, meaning};
+ghost use Rattle.fixed_calc.specs.Meaning.{meaning};
+ghost use Rattle.fixed_calc.specs.Runs.{Fault, Output};
 
 use fixed_calc::{Cause, Room, RunFault, run_in};
 use std::alloc::Global;

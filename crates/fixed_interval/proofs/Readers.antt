@@ -16,7 +16,7 @@ use Rattle.fixed_text.proofs.Joined.{natural_no_space, whole_no_space}
 use Rattle.fixed_text.proofs.Readers.{are_tokens, reader, word_no_space, word_again, word_only, numbered_again, numbered_only}
 use Rattle.fixed_text.proofs.Inverses.{natural_back, whole_back, inverse_reader, one_reader}
 use Rattle.fixed_text.proofs.Naturals.{in_again, in_only}
-use Rattle.fixed_text.proofs.Steps.{bind_some, guard_some, named_takes, next_some, end_some}
+use Rattle.fixed_text.proofs.Steps.{bind_some, led_only, named_takes, next_some, end_some}
 use Rattle.fixed_text.proofs.Wholes.{whole_again, whole_only}
 use Rattle.fixed_interval.specs.declared.op.Op.{Op}
 use Rattle.fixed_interval.specs.declared.op.Op.TheVariants.{Add, Sub, Mul, Div}
@@ -32,14 +32,17 @@ header_again : (h : IntervalHeader) → header_at (header_tokens h) ≡ Some h
 unfolding header_at format_at
 header_again h = rw (word_again h.word, in_again h.frac, in_again h.count) refl
 
-format_only : (ts : List (List ℕ)) (h : IntervalHeader) → format_at ts ≡ Some h → word_name h.word ∷ natural_text h.frac ∷ natural_text h.count ∷ [] ≡ ts
+abbrev format_tokens : IntervalHeader → List (List ℕ)
+format_tokens h = word_name h.word ∷ natural_text h.frac ∷ natural_text h.count ∷ []
+
+format_only : (ts : List (List ℕ)) (h : IntervalHeader) → format_at ts ≡ Some h → format_tokens h ≡ ts
 unfolding format_at
 format_only ts h e =
     let t = next_some word_named ts (λ word. next_by natural_in word.1 >>= λ frac. next_by natural_in frac.1 >>= λ count. at_end count.1 (record { word = word.0; frac = frac.0; count = count.0 })) h e in
     let u = next_some natural_in t.rest (λ frac. next_by natural_in frac.1 >>= λ count. at_end count.1 (record { word = t.value; frac = frac.0; count = count.0 })) h t.goes_on in
     let v = next_some natural_in u.rest (λ count. at_end count.1 (record { word = t.value; frac = u.value; count = count.0 })) h u.goes_on in
     let done = end_some v.rest (record { word = t.value; frac = u.value; count = v.value }) h v.goes_on in
-    ap (λ (h : IntervalHeader). word_name h.word ∷ natural_text h.frac ∷ natural_text h.count ∷ []) (sym done.1)
+    ap format_tokens (sym done.1)
     ∙ ap (λ name. name ∷ natural_text u.value ∷ natural_text v.value ∷ []) (word_only t.token t.value t.reads)
     ∙ ap (λ frac. t.token ∷ frac ∷ natural_text v.value ∷ []) (in_only u.token u.value u.reads)
     ∙ ap (λ count. t.token ∷ u.token ∷ count ∷ []) (in_only v.token v.value v.reads)
@@ -47,11 +50,7 @@ format_only ts h e =
 
 header_only : (ts : List (List ℕ)) (h : IntervalHeader) → header_at ts ≡ Some h → header_tokens h ≡ ts
 unfolding header_at
-header_only ts h e =
-    let t = next_some Some ts (λ name. cond (bytes_eq name.0 (codes "interval")) (format_at name.1) None) h e in
-    let named = guard_some (bytes_eq t.value (codes "interval")) (format_at t.rest) h t.goes_on in
-    let name : codes "interval" ≡ t.token = sym ((bytes_eq-Decides t.value (codes "interval")).0 named.0) ∙ sym (same_Some t.token t.value t.reads) in
-    ap (λ rest. codes "interval" ∷ rest) (format_only t.rest h named.1) ∙ ap (λ name. name ∷ t.rest) name ∙ sym t.is
+header_only ts h e = led_only (codes "interval") format_at format_tokens ts h (λ rest is. format_only rest h is) e
 
 header_back : (h : IntervalHeader) → header_in (header_tokens h) ≡ Some h
 header_back h = rw (word_again h.word, natural_back h.frac, natural_back h.count) refl

@@ -6,11 +6,12 @@ ghost use Rattle.fixed_word.specs.Decimal.{whole_text};
 ghost use Rattle.fixed_word.specs.Pieces.{pieces};
 ghost use Rattle.fixed_text.specs.Decimals.{decimal_of};
 ghost use Rattle.fixed_digits.specs.Numerals.{cap};
-ghost use Rattle.fixed_text.specs.Runs.{Ending, lines_from, then_by};
+ghost use Rattle.fixed_text.specs.Runs.{first_then, lines_from, meaning_of};
+ghost use Rattle.fixed_text.specs.Readings.{at_piece, line_by};
 ghost use Rattle.fixed_text.specs.Answers.{IsAnswerOfRun, IsStepOfLine};
 ghost use Rattle.fixed_interval.specs.inside.Capped.{capped_request};
 ghost use Rattle.fixed_interval.specs.Ends.{ends_of, fitting};
-ghost use Rattle.fixed_interval.specs.Runs.{IsAnswerOfInterval, answered, ends_by, ends_text, interval_line, interval_output, made_by_root, made_of_two, request_read, set_ends, started, zero_ends};
+ghost use Rattle.fixed_interval.specs.Runs.{answered, ends_by, ends_text, interval_line, interval_output, made_by_root, made_of_two, request_read, set_ends, started, zero_ends};
 ghost use Rattle.fixed_interval.specs.Text.{IntervalRequest};
 
 use crate::fault::IntervalFault;
@@ -221,22 +222,10 @@ impl<T: Word> Run for IntervalRun<T> {
     }
 }
 
-/// Returns the output of a run, or its fault as the fault of a script of intervals.
-fn answer_of(found: Result<Output, RunFault>) -> Result<Output, IntervalFault>
-    ensures { (ending : Ending) → IsAnswerOfRun ending found → IsAnswerOfInterval ending result }
-{
-    match found {
-        Ok(output) => Ok(output),
-        Err(RunFault::Syntax(number)) => Err(IntervalFault::Syntax(number)),
-        Err(RunFault::OutOfRange(number)) => Err(IntervalFault::OutOfRange(number)),
-        Err(RunFault::Memory) => Err(IntervalFault::Memory),
-    }
-}
-
 impl InWord for Header {
-    ghost ending = { λ header lines signed bits. then_by 1
-        (started signed bits header.frac header.count)
-        (λ state. lines_from interval_line state 2 (pieces lines)) };
+    ghost meaning = { λ header lines signed bits. meaning_of (first_then
+        (at_piece 1 (started signed bits header.frac header.count))
+        (λ state. lines_from (line_by interval_line) state 2 (pieces lines))) };
 
     fn run_in<T: Word>(self, alloc: Global, lines: &[u8]) -> Result<Output, RunFault> {
         if self.frac > u128::from(T::BITS) || self.count < 1 || self.count > MOST_REGISTERS {
@@ -265,13 +254,13 @@ impl InWord for Header {
 /// register is not one of these, or that given ends do not fit or are in the wrong order. Whatever the script is, the
 /// run may fail with `Memory`, if memory runs out, and then returns no bytes.
 pub fn interval_run(alloc: Global, script: &[u8]) -> Result<Output, IntervalFault>
-    ensures { IsAnswerOfInterval (interval_output script.now) result }
+    ensures { IsAnswerOfRun (interval_output script.now) result }
 {
     let Some((piece, lines)) = open(script) else {
         return Err(IntervalFault::Syntax(1));
     };
     match read_header(piece) {
-        Some(header) => answer_of(header.word.in_word(header, alloc, lines)),
+        Some(header) => header.word.in_word(header, alloc, lines),
         None => Err(IntervalFault::Syntax(1)),
     }
 }

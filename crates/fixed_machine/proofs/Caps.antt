@@ -6,7 +6,7 @@ use Rattle.fixed_text.specs.declared.names.WordName.{WordName}
 use Rattle.fixed_script.specs.Text.{ScriptLine, SetTo, Apply, OneRegister, TwoRegisters, RegisterAndInt, ThreeRegisters}
 use Rattle.fixed_digits.specs.Numerals.{cap}
 use Rattle.fixed_script.specs.Capped.{cap_whole, capped}
-use Rattle.fixed_machine.specs.Machine.{State, Cell, cause, answer, move, late_cause, is_unoffered, is_out_of_range, is_mismatched}
+use Rattle.fixed_machine.specs.Machine.{State, Cell, cause, answer, move, late_cause_by, is_unoffered, is_out_of_range, is_mismatched, row_by}
 use Rattle.fixed_machine.specs.CapLaw.{CapsAlike}
 use Rattle.fixed_machine.specs.Step.{IsStepOfLine}
 use Rattle.fixed_machine.specs.declared.answer.Answer.{Answer}
@@ -108,8 +108,8 @@ same_cause s l k h = by_range (is_out_of_range s l) refl
     by_range false e = ap (λ (m : ScriptLine). cause s m k) (same_line s l h e)
     by_range true e =
         rw (same_offer s.word l, same_range s l h)
-        (blocked k (is_unoffered s.word l) (is_out_of_range s l) (if is_mismatched s (capped l) then Some (FractionMismatch k) else late_cause s (capped l) k)
-        (if is_mismatched s l then Some (FractionMismatch k) else late_cause s l k) e)
+        (blocked k (is_unoffered s.word l) (is_out_of_range s l) (if is_mismatched s (capped l) then Some (FractionMismatch k) else late_cause_by row_by s (capped l) k)
+        (if is_mismatched s l then Some (FractionMismatch k) else late_cause_by row_by s l k) e)
 
 pub caps_alike : CapsAlike
 caps_alike s l k h = (

@@ -21,7 +21,7 @@ use Rattle.fixed_machine.specs.declared.answer.Answer.TheVariants.{Absent, Bits,
 use Rattle.fixed_script.specs.Text.{ScriptLine, SetTo, Apply, Operands, OneRegister, TwoRegisters, RegisterAndInt, ThreeRegisters}
 use Rattle.fixed_machine.specs.Projection.{project}
 use Rattle.fixed_machine.specs.Offered.{is_offered}
-use Rattle.fixed_machine.specs.Machine.{State, Cell, cell_at, destination, registers_of, cause, integer, OperandValues, late_cause, row_cause, row_by, operand_values, is_unoffered, is_out_of_range, is_mismatched, answer}
+use Rattle.fixed_machine.specs.Machine.{State, Cell, cell_at, destination, registers_of, cause, integer, OperandValues, late_cause_by, row_cause, row_by, operand_values, is_unoffered, is_out_of_range, is_mismatched, answer, answer_by}
 use Rattle.fixed_text.specs.Words.{is_signed, width}
 use Rattle.fixed_machine.specs.inside.Stepping.{IsAnswerOfLine, IsAnswerOfRow, IsApplied, HoldsOperands, values_of, is_value}
 use Rattle.fixed_machine.specs.Step.{IsCell}
@@ -36,25 +36,25 @@ pub record PassesTests (s : State) (line : ScriptLine) : Type 0 where
   pub in_range : is_out_of_range s line ≡ false
   pub one_fraction : is_mismatched s line ≡ false
 
-pub after_tests : (s : State) (line : ScriptLine) (k : ℕ) → PassesTests s line → cause s line k ≡ late_cause s line k
+pub after_tests : (s : State) (line : ScriptLine) (k : ℕ) → PassesTests s line → cause s line k ≡ late_cause_by row_by s line k
 after_tests s line k t = rw (t.offered, t.in_range, t.one_fraction) refl
 
 apply_answer : (s : State) (dest : ℕ) (policy : Policy) (op : Op) (xs : Operands) (how : Option Rounding) → answer s (Apply dest policy op xs how) ≡ project policy (is_signed s.word) (width s.word) (row_by how op (operand_values s.registers xs))
-unfolding answer
+unfolding answer_by
 apply_answer s dest policy op xs how = refl
 
 set_answer : (s : State) (dest : ℕ) (k : ℤ) → answer s (SetTo dest k) ≡ Bits k
-unfolding answer
+unfolding answer_by
 set_answer s dest k = refl
 
 -- what the policy makes of the row is what the line asks for
 pub apply_tells : (s : State) (line : ScriptLine) (dest : ℕ) (policy : Policy) (op : Op) (xs : Operands) (how : Option Rounding) (k : ℕ) (r : Result Answer Cause) → line ≡ Apply dest policy op xs how → PassesTests s line
     → IsAnswerOfRow (is_signed s.word) (width s.word) policy op (row_by how op (operand_values s.registers xs)) k r → IsAnswerOfLine s line k r
-apply_tells s line dest policy op xs how k (Ok a) is t h = (after_tests s line k t ∙ ap (λ (l : ScriptLine). late_cause s l k) is ∙ h.0, h.1 ∙ sym (ap (answer s) is ∙ apply_answer s dest policy op xs how))
-apply_tells s line dest policy op xs how k (Err c) is t h = after_tests s line k t ∙ ap (λ (l : ScriptLine). late_cause s l k) is ∙ h
+apply_tells s line dest policy op xs how k (Ok a) is t h = (after_tests s line k t ∙ ap (λ (l : ScriptLine). late_cause_by row_by s l k) is ∙ h.0, h.1 ∙ sym (ap (answer s) is ∙ apply_answer s dest policy op xs how))
+apply_tells s line dest policy op xs how k (Err c) is t h = after_tests s line k t ∙ ap (λ (l : ScriptLine). late_cause_by row_by s l k) is ∙ h
 
 pub set_tells : (s : State) (line : ScriptLine) (dest : ℕ) (x : ℤ) (k : ℕ) → line ≡ SetTo dest x → PassesTests s line → IsAnswerOfLine s line k (Ok (Bits x))
-set_tells s line dest x k is t = (after_tests s line k t ∙ ap (λ (l : ScriptLine). late_cause s l k) is, sym (ap (answer s) is ∙ set_answer s dest x))
+set_tells s line dest x k is t = (after_tests s line k t ∙ ap (λ (l : ScriptLine). late_cause_by row_by s l k) is, sym (ap (answer s) is ∙ set_answer s dest x))
 
 -- ---- what holds of a line in range
 pub either_false : (a b : Bool) → (a || b) ≡ false → (a ≡ false) × (b ≡ false)
@@ -107,9 +107,9 @@ by_tests k false true r late h = cc
 by_tests k false false true late h = cc
 by_tests k false false false late h = (refl, refl, refl, h)
 
-pub no_cause : (s : State) (line : ScriptLine) (k : ℕ) → cause s line k ≡ None → PassesTests s line × (late_cause s line k ≡ None)
+pub no_cause : (s : State) (line : ScriptLine) (k : ℕ) → cause s line k ≡ None → PassesTests s line × (late_cause_by row_by s line k ≡ None)
 no_cause s line k h =
-    let p = by_tests k (is_unoffered s.word line) (is_out_of_range s line) (is_mismatched s line) (late_cause s line k) h in
+    let p = by_tests k (is_unoffered s.word line) (is_out_of_range s line) (is_mismatched s line) (late_cause_by row_by s line k) h in
     (record { offered = p.0; in_range = p.1; one_fraction = p.2 }, p.3)
 
 -- the number of an answer is a value of the word
@@ -140,7 +140,7 @@ project_valued w Overflowing op (Some x) k h = wrap_fits w x
 project_valued w Strict op (Some x) k h = no_overflow (is_value w x) k h
 
 pub answer_valued : (s : State) (line : ScriptLine) (k : ℕ) → cause s line k ≡ None → IsValued s.word (answer s line)
-unfolding answer
+unfolding answer_by
 answer_valued s (SetTo dest x) k h = set_value s dest x (no_cause s (SetTo dest x) k h).0.in_range
 answer_valued s (Apply dest policy op xs how) k h = project_valued s.word policy op (row_by how op (operand_values s.registers xs)) k (no_cause s (Apply dest policy op xs how) k h).1
 

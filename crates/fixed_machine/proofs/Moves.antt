@@ -3,7 +3,10 @@ use Rattle.std.proofs.Common.{◌≡◌, ◌∙◌, ◌+◌, ◌*◌, ◌≤◌,
 use Rattle.std.proofs.lemmas.List.{drop-drop, length-drop}
 use Rattle.fixed_text.specs.declared.names.WordName.{WordName}
 use Rattle.fixed_word.specs.Pieces.{pieces}
-use Rattle.fixed_machine.specs.Meaning.{Run, after, run_lines}
+use Rattle.fixed_text.specs.Runs.{Run, after}
+use Rattle.fixed_machine.specs.Machine.{State}
+use Rattle.fixed_machine.specs.declared.cause.Cause.{Cause}
+use Rattle.fixed_machine.specs.Meaning.{run_lines}
 use Rattle.fixed_machine.specs.Rooms.{KeepsRoom, Space}
 use Rattle.fixed_machine.specs.Step.{state_in}
 use Rattle.fixed_machine.specs.inside.Moves.{HasMoved, HaveMoved}
@@ -16,7 +19,7 @@ kept_twice a b c first second =
     }
 
 -- the run from a place in the lines
-abbrev pub run_at : WordName → List ℕ → ℕ → ℕ → Space → Run
+abbrev pub run_at : WordName → List ℕ → ℕ → ℕ → Space → Run State Cause
 run_at word lines at number room = after room.answers (run_lines (state_in word room.registers) number (pieces (drop at lines)))
 
 pub run_past : (word : WordName) (lines : List ℕ) (at end number : ℕ) (old new : Space) → HasMoved word number (drop at lines) end old new

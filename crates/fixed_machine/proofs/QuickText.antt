@@ -24,7 +24,8 @@ use Rattle.fixed_machine.specs.Answers.{ended}
 use Rattle.fixed_machine.specs.declared.quick.Applied.{Applied}
 use Rattle.fixed_machine.specs.declared.quick.QuickLine.{QuickLine}
 use Rattle.fixed_machine.specs.inside.Quick.{Stands, HasOperands, IsQuickLine, applied_or_set, quick_operands, quick_number}
-use Rattle.fixed_machine.proofs.Ended.{pieces_ended, line_read}
+use Rattle.fixed_text.proofs.Ended.{pieces_ended}
+use Rattle.fixed_machine.proofs.Ended.{line_read}
 use Rattle.fixed_machine.proofs.Lacks.{line_lacks}
 
 -- ---- names

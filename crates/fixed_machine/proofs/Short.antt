@@ -20,7 +20,7 @@ use Rattle.fixed_script.proofs.HeaderLaws.{tokens_of_header}
 use Rattle.std.proofs.lemmas.List.Sums.{sum_by-take-le}
 use Rattle.fixed_word.specs.Format.{wrap, clamp}
 use Rattle.fixed_machine.specs.Projection.{project}
-use Rattle.fixed_machine.specs.Machine.{State, cause, answer, row_by, operand_values}
+use Rattle.fixed_machine.specs.Machine.{State, cause, answer, row_by, operand_values, answer_by}
 use Rattle.fixed_text.specs.Words.{is_signed, width}
 use Rattle.fixed_script.specs.Lines.{line_of, header_of, line_of_piece, header_of_piece}
 use Rattle.fixed_machine.specs.Meaning.{fractions_of}
@@ -64,7 +64,7 @@ project_short w Overflowing (Some x) h = omega (arith, flag_short w (wrap (is_si
 project_short w Strict (Some x) h = omega (arith, bits_short w x h)
 
 pub answer_short : (s : State) (l : ScriptLine) (k : ℕ) → cause s l k ≡ None → length (answer_text (answer s l)) ≤ 2 * length (line_text l) + 2
-unfolding answer
+unfolding answer_by
 answer_short s (SetTo dest x) k h = simp length-append (omega arith)
 answer_short s (Apply dest policy op xs how) k h =
     let short = project_short s.word policy (row_by how op (operand_values s.registers xs)) (answer_valued s (Apply dest policy op xs how) k h) in

@@ -74,8 +74,11 @@ operand_values cells (TwoRegisters a b) = record { a = cell_at cells a; b = cell
 operand_values cells (RegisterAndInt a k) = record { a = cell_at cells a; b = integer k; c = integer (pos 0) }
 operand_values cells (ThreeRegisters a b c) = record { a = cell_at cells a; b = cell_at cells b; c = cell_at cells c }
 
--- the same with the rounding that a line names, if it names one
-abbrev pub row_by : Option Rounding → Op → OperandValues → Option ℤ
+-- the exact result of an operation on such operands, by the rounding that a line names, if it names one
+abbrev pub Row : Type 0
+Row = Option Rounding → Op → OperandValues → Option ℤ
+
+abbrev pub row_by : Row
 row_by rounding op t = exact op (rounding_of op rounding) t.a.bits t.b.bits t.c.bits t.a.fraction t.b.fraction t.c.fraction
 
 abbrev pub row_of : Op → OperandValues → Option ℤ
@@ -102,27 +105,36 @@ row_cause signed n Strict (Some x) op k = if fits signed n x then None else Some
 row_cause signed n policy (Some x) op k = None
 
 -- the cause of a line, if its first three tests find none
-abbrev pub late_cause : State → ScriptLine → ℕ → Option Cause
-late_cause s (SetTo dest x) k = None
-late_cause s (Apply dest policy op xs rounding) k = row_cause (is_signed s.word) (width s.word) policy (row_by rounding op (operand_values s.registers xs)) op k
+abbrev pub late_cause_by : Row → State → ScriptLine → ℕ → Option Cause
+late_cause_by row s (SetTo dest x) k = None
+late_cause_by row s (Apply dest policy op xs rounding) k = row_cause (is_signed s.word) (width s.word) policy (row rounding op (operand_values s.registers xs)) op k
 
 -- the first of these causes
-abbrev pub cause : State → ScriptLine → ℕ → Option Cause
-cause s line k =
+abbrev pub cause_by : Row → State → ScriptLine → ℕ → Option Cause
+cause_by row s line k =
     if is_unoffered s.word line then Some (Syntax k)
     else if is_out_of_range s line then Some (OutOfRange k)
     else if is_mismatched s line then Some (FractionMismatch k)
-    else late_cause s line k
+    else late_cause_by row s line k
+
+abbrev pub cause : State → ScriptLine → ℕ → Option Cause
+cause = cause_by row_by
 
 -- ---- moves
-unfoldable pub answer : State → ScriptLine → Answer
-answer s (SetTo dest k) = Bits k
-answer s (Apply dest policy op xs rounding) = project policy (is_signed s.word) (width s.word) (row_by rounding op (operand_values s.registers xs))
+unfoldable pub answer_by : Row → State → ScriptLine → Answer
+answer_by row s (SetTo dest k) = Bits k
+answer_by row s (Apply dest policy op xs rounding) = project policy (is_signed s.word) (width s.word) (row rounding op (operand_values s.registers xs))
+
+abbrev pub answer : State → ScriptLine → Answer
+answer = answer_by row_by
 
 abbrev pub stored : List Cell → ℕ → Answer → List Cell
 stored cells dest Absent = cells
 stored cells dest (Bits x) = slice_set cells dest (record { bits = x; fraction = (cell_at cells dest).fraction })
 stored cells dest (Flagged x verdict) = slice_set cells dest (record { bits = x; fraction = (cell_at cells dest).fraction })
 
+abbrev pub move_by : Row → State → ScriptLine → State
+move_by row s line = record { word = s.word; registers = stored s.registers (destination line) (answer_by row s line) }
+
 abbrev pub move : State → ScriptLine → State
-move s line = record { word = s.word; registers = stored s.registers (destination line) (answer s line) }
+move = move_by row_by

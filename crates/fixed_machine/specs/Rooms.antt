@@ -5,7 +5,8 @@ use Rattle.fixed_text.specs.declared.names.WordName.{WordName}
 use Rattle.fixed_script.specs.Headers.{CappedHeader}
 use Rattle.fixed_word.specs.Pieces.{pieces}
 use Rattle.fixed_machine.specs.Machine.{Cell, State}
-use Rattle.fixed_machine.specs.Meaning.{Run, Meaning, Output, Fault, zeros}
+use Rattle.fixed_text.specs.Runs.{Run, Meaning, Output, Fault}
+use Rattle.fixed_machine.specs.Meaning.{zeros}
 use Rattle.fixed_machine.specs.Step.{IsCell}
 use Rattle.fixed_machine.specs.declared.cause.Cause.{Cause}
 use Rattle.fixed_machine.specs.declared.cause.RunFault.{RunFault}
@@ -73,17 +74,17 @@ HoldsState None room = (room.word ≡ None) × (room.registers ≡ [])
 HoldsState (Some s) room = (room.word ≡ Some s.word) × (room.registers ≡ s.registers)
 
 -- the room holds what a run leaves
-pub record Holds (run : Run) (room : Space) : Type 0 where
+pub record Holds (run : Run State Cause) (room : Space) : Type 0 where
   pub its_answers : room.answers ≡ run.output
   pub its_state : HoldsState run.state room
 
--- Ok exactly if the run has no fault, and otherwise the first cause
-abbrev pub IsAnswerOfRun : Run → Result (Unit {0}) Cause → Space → Type 0
-IsAnswerOfRun run (Ok _) room = (run.fault ≡ None) × Holds run room
-IsAnswerOfRun run (Err c) room = (run.fault ≡ Some c) × Holds run room
+-- Ok exactly if the run has no cause, and otherwise the first one
+abbrev pub IsAnswerOfRun : Run State Cause → Result (Unit {0}) Cause → Space → Type 0
+IsAnswerOfRun run (Ok _) room = (run.cause ≡ None) × Holds run room
+IsAnswerOfRun run (Err c) room = (run.cause ≡ Some c) × Holds run room
 
 -- what a run returns, by the meaning
-abbrev pub IsAnswerOfMeaning : Meaning → Result (List ℕ) RunFault → Type 0
+abbrev pub IsAnswerOfMeaning : Meaning Cause → Result (List ℕ) RunFault → Type 0
 IsAnswerOfMeaning m (Ok bytes) = m ≡ Output bytes
 IsAnswerOfMeaning m (Err (Script cause)) = m ≡ Fault cause
 IsAnswerOfMeaning m (Err Memory) = ⊤

@@ -3,7 +3,8 @@
 ghost use Rattle.std.specs.Prelude.{◌≡◌, ◌≤◌, ◌<◌, ◌*◌, ◌+◌, drop, length, Some, None, Err, IfOk, IfErr, IfSome};
 ghost use Rattle.fixed_text.specs.Words.{is_signed, width};
 ghost use Rattle.fixed_word.specs.Pieces.{pieces};
-ghost use Rattle.fixed_machine.specs.Meaning.{after, meaning, run_lines, run_of};
+ghost use Rattle.fixed_text.specs.Runs.{after};
+ghost use Rattle.fixed_machine.specs.Meaning.{meaning, run_lines, script_run};
 ghost use Rattle.fixed_machine.specs.inside.Moves.{HasMoved, HaveMoved};
 ghost use Rattle.fixed_machine.specs.Rooms.{KeepsRoom, IsAnswerOfMeaning, IsAnswerOfRun, Suffices};
 ghost use Rattle.fixed_machine.specs.Step.{state_in};
@@ -154,7 +155,7 @@ fn answer_lines(word: WordName, lines: &[u8], room: &mut Room) -> Result<(), Cau
 /// suffices for the script, as `suffices` tests.
 pub fn run_in(script: &[u8], room: &mut Room) -> Result<(), Cause>
     requires { Suffices script.now room.old }
-    ensures tells { IsAnswerOfRun (run_of script.now) result room.new }
+    ensures tells { IsAnswerOfRun (script_run script.now) result room.new }
     ensures kept { KeepsRoom room.old room.new }
 {
     room.clear();

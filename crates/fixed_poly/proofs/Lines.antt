@@ -12,7 +12,7 @@ use Rattle.fixed_text.specs.Decimals.{decimal_of, decimal_value}
 use Rattle.fixed_text.specs.Answers.{IsRefusal}
 use Rattle.fixed_text.proofs.Caps.{held_alike}
 use Rattle.fixed_text.proofs.Turns.{refused_map}
-use Rattle.fixed_text.specs.Runs.{Reading, Malformed, Misfit, Read, read_map, fitting_number, fitting_numbers}
+use Rattle.fixed_text.specs.Readings.{Reading, Malformed, Misfit, Read, read_map, fitting_number, fitting_numbers}
 use Rattle.fixed_poly.specs.Text.{At}
 use Rattle.fixed_text.specs.Tokens.{tokens_of}
 use Rattle.fixed_poly.specs.Lines.{line_of}

@@ -11,10 +11,10 @@ use Rattle.fixed_text.specs.Texts.{IsReader}
 use Rattle.fixed_text.specs.Tokens.{◌>>=◌, tokens_of, next_by, at_end}
 use Rattle.fixed_text.specs.Words.{word_name, word_named}
 use Rattle.fixed_text.proofs.Joined.{natural_no_space, whole_no_space}
-use Rattle.fixed_text.proofs.Readers.{are_tokens, reader, word_no_space, wholes_no_space, word_again, word_only, wholes_again, wholes_only}
+use Rattle.fixed_text.proofs.Readers.{are_tokens, reader, word_no_space, wholes_no_space, word_again, word_only, wholes_again, wholes_only, number_only}
 use Rattle.fixed_text.proofs.Inverses.{natural_back, whole_back, wholes_back, inverse_reader, one_reader}
 use Rattle.fixed_text.proofs.Naturals.{in_again, in_only}
-use Rattle.fixed_text.proofs.Steps.{guard_some, next_some, end_some}
+use Rattle.fixed_text.proofs.Steps.{led_only, next_some, end_some}
 use Rattle.fixed_text.proofs.Wholes.{whole_again, whole_only}
 use Rattle.fixed_poly.specs.Text.{PolyHeader, PolyLine, Coefs, At, header_tokens, header_text, line_tokens, line_text}
 use Rattle.fixed_poly.specs.Lines.{header_in, header_of, line_in, line_of}
@@ -28,24 +28,23 @@ header_again : (h : PolyHeader) → header_at (header_tokens h) ≡ Some h
 unfolding header_at format_at
 header_again h = rw (word_again h.word, in_again h.frac) refl
 
-format_only : (ts : List (List ℕ)) (h : PolyHeader) → format_at ts ≡ Some h → word_name h.word ∷ natural_text h.frac ∷ [] ≡ ts
+abbrev format_tokens : PolyHeader → List (List ℕ)
+format_tokens h = word_name h.word ∷ natural_text h.frac ∷ []
+
+format_only : (ts : List (List ℕ)) (h : PolyHeader) → format_at ts ≡ Some h → format_tokens h ≡ ts
 unfolding format_at
 format_only ts h e =
     let t = next_some word_named ts (λ word. next_by natural_in word.1 >>= λ frac. at_end frac.1 (record { word = word.0; frac = frac.0 })) h e in
     let u = next_some natural_in t.rest (λ frac. at_end frac.1 (record { word = t.value; frac = frac.0 })) h t.goes_on in
     let done = end_some u.rest (record { word = t.value; frac = u.value }) h u.goes_on in
-    ap (λ (h : PolyHeader). word_name h.word ∷ natural_text h.frac ∷ []) (sym done.1)
+    ap format_tokens (sym done.1)
     ∙ ap (λ name. name ∷ natural_text u.value ∷ []) (word_only t.token t.value t.reads)
     ∙ ap (λ frac. t.token ∷ frac ∷ []) (in_only u.token u.value u.reads)
     ∙ ap (λ rest. t.token ∷ u.token ∷ rest) (sym done.0) ∙ ap (λ rest. t.token ∷ rest) (sym u.is) ∙ sym t.is
 
 header_only : (ts : List (List ℕ)) (h : PolyHeader) → header_at ts ≡ Some h → header_tokens h ≡ ts
 unfolding header_at
-header_only ts h e =
-    let t = next_some Some ts (λ name. cond (bytes_eq name.0 (codes "poly")) (format_at name.1) None) h e in
-    let named = guard_some (bytes_eq t.value (codes "poly")) (format_at t.rest) h t.goes_on in
-    let name : codes "poly" ≡ t.token = sym ((bytes_eq-Decides t.value (codes "poly")).0 named.0) ∙ sym (same_Some t.token t.value t.reads) in
-    ap (λ rest. codes "poly" ∷ rest) (format_only t.rest h named.1) ∙ ap (λ name. name ∷ t.rest) name ∙ sym t.is
+header_only ts h e = led_only (codes "poly") format_at format_tokens ts h (λ rest is. format_only rest h is) e
 
 header_back : (h : PolyHeader) → header_in (header_tokens h) ≡ Some h
 header_back h = rw (word_again h.word, natural_back h.frac) refl
@@ -71,13 +70,6 @@ coefs_only : (ts : List (List ℕ)) (l : PolyLine) (o : Option (List ℤ)) → w
 coefs_only ts l None is e = absurd (none-some l e)
 coefs_only ts l (Some []) is e = absurd (none-some l e)
 coefs_only ts l (Some (c ∷ cs)) is e = ap line_tokens (sym (same_Some (Coefs c cs) l e)) ∙ ap (λ rest. codes "coefs" ∷ rest) (wholes_only ts (c ∷ cs) is)
-
-number_only : (ts : List (List ℕ)) (x : ℤ) → only_number ts ≡ Some x → whole_text x ∷ [] ≡ ts
-unfolding only_number
-number_only ts x e =
-    let t = next_some whole_in ts (λ x. at_end x.1 x.0) x e in
-    let done = end_some t.rest t.value x t.goes_on in
-    ap (λ x. whole_text x ∷ []) (sym done.1) ∙ ap (λ token. token ∷ []) (whole_only t.token t.value t.reads) ∙ ap (λ rest. t.token ∷ rest) (sym done.0) ∙ sym t.is
 
 at_only : (ts : List (List ℕ)) (l : PolyLine) (o : Option ℤ) → only_number ts ≡ o → option_map At o ≡ Some l → line_tokens l ≡ codes "at" ∷ ts
 at_only ts l None is e = absurd (none-some l e)

@@ -4,11 +4,12 @@ ghost use Rattle.std.specs.Prelude.{◌≡◌, ◌++◌, [], Err, OnOk};
 ghost use Rattle.std.specs.Option.{option_map};
 ghost use Rattle.fixed_word.specs.Pieces.{pieces};
 ghost use Rattle.fixed_text.specs.Numbers.{only_number, wholes_in};
-ghost use Rattle.fixed_text.specs.Runs.{Ending, lines_from, then_by};
+ghost use Rattle.fixed_text.specs.Runs.{first_then, lines_from, meaning_of};
+ghost use Rattle.fixed_text.specs.Readings.{at_piece, line_by};
 ghost use Rattle.fixed_text.specs.Answers.{IsAnswerOfRun, IsStepOfLine};
 ghost use Rattle.fixed_poly.specs.Horner.{reply_map};
 ghost use Rattle.fixed_poly.specs.inside.Parser.{coefs_of};
-ghost use Rattle.fixed_poly.specs.Runs.{IsAnswerOfPoly, line_read, poly_line, poly_output, reply_text, started};
+ghost use Rattle.fixed_poly.specs.Runs.{line_read, poly_line, poly_output, reply_text, started};
 ghost use Rattle.fixed_poly.specs.Text.{At};
 
 use crate::evaluation::horner_of;
@@ -121,21 +122,10 @@ impl<T: Word> Run for PolyRun<T> {
     }
 }
 
-/// Returns the output of a run, or its fault as the fault of a script of polynomials.
-fn answer_of(found: Result<Output, RunFault>) -> Result<Output, PolyFault>
-    ensures { (ending : Ending) → IsAnswerOfRun ending found → IsAnswerOfPoly ending result }
-{
-    match found {
-        Ok(output) => Ok(output),
-        Err(RunFault::Syntax(number)) => Err(PolyFault::Syntax(number)),
-        Err(RunFault::OutOfRange(number)) => Err(PolyFault::OutOfRange(number)),
-        Err(RunFault::Memory) => Err(PolyFault::Memory),
-    }
-}
-
 impl InWord for Header {
-    ghost ending = { λ header lines signed bits. then_by 1 (started signed bits header.frac)
-        (λ state. lines_from poly_line state 2 (pieces lines)) };
+    ghost meaning = { λ header lines signed bits. meaning_of (first_then
+        (at_piece 1 (started signed bits header.frac))
+        (λ state. lines_from (line_by poly_line) state 2 (pieces lines))) };
 
     fn run_in<T: Word>(self, alloc: Global, lines: &[u8]) -> Result<Output, RunFault> {
         if self.frac > u128::from(T::BITS) {
@@ -161,13 +151,13 @@ impl InWord for Header {
 /// fraction bits exceeds the width, or that a coefficient or a point does not fit. Whatever the script is, the run may
 /// fail with `Memory`, if memory runs out, and then returns no bytes.
 pub fn poly_run(alloc: Global, script: &[u8]) -> Result<Output, PolyFault>
-    ensures { IsAnswerOfPoly (poly_output script.now) result }
+    ensures { IsAnswerOfRun (poly_output script.now) result }
 {
     let Some((piece, lines)) = open(script) else {
         return Err(PolyFault::Syntax(1));
     };
     match read_header(piece) {
-        Some(header) => answer_of(header.word.in_word(header, alloc, lines)),
+        Some(header) => header.word.in_word(header, alloc, lines),
         None => Err(PolyFault::Syntax(1)),
     }
 }

@@ -5,7 +5,6 @@ use Rattle.std.specs.Str.Parse.{digits_value}
 use Rattle.std.specs.Cmp.Derive.{both_true}
 use Rattle.std.proofs.lemmas.List.Splits.{join_with_byte-slice_split}
 use Rattle.fixed_text.specs.declared.names.WordName.{WordName}
-use Rattle.fixed_text.specs.declared.names.WordName.TheVariants.{I8, I16, I32, I64, U8, U16, U32, U64}
 use Rattle.fixed_word.specs.Decimal.{natural_text}
 use Rattle.fixed_text.specs.Words.{word_name, word_named}
 use Rattle.fixed_script.specs.Text.{ScriptHeader, header_text, header_tokens}
@@ -13,28 +12,8 @@ use Rattle.fixed_digits.specs.Numerals.{cap, is_decimal}
 use Rattle.fixed_text.specs.Tokens.{tokens_of}
 use Rattle.fixed_script.specs.Headers.{CappedHeader, capped_header, capped_fractions, all_decimal}
 use Rattle.fixed_digits.proofs.Decimals.{decimal_of_text, text_of_value, both}
-use Rattle.fixed_text.proofs.Steps.{named_takes}
-use Rattle.fixed_text.proofs.Joined.{no_space, all_no_space, split_joined, natural_no_space}
-
-pub word_again : (w : WordName) → word_named (word_name w) ≡ Some w
-word_again I8 = refl
-word_again I16 = refl
-word_again I32 = refl
-word_again I64 = refl
-word_again U8 = refl
-word_again U16 = refl
-word_again U32 = refl
-word_again U64 = refl
-
-word_no_space : (w : WordName) → no_space (word_name w) ≡ true
-word_no_space I8 = refl
-word_no_space I16 = refl
-word_no_space I32 = refl
-word_no_space I64 = refl
-word_no_space U8 = refl
-word_no_space U16 = refl
-word_no_space U32 = refl
-word_no_space U64 = refl
+use Rattle.fixed_text.proofs.Joined.{all_no_space, split_joined, natural_no_space}
+use Rattle.fixed_text.proofs.Readers.{word_again, word_no_space, word_only}
 
 naturals_no_space : (ns : List ℕ) → all_no_space (map natural_text ns) ≡ true
 naturals_no_space [] = refl
@@ -78,7 +57,7 @@ pub header_found : (piece name : List ℕ) (ts : List (List ℕ)) (w : WordName)
     → (h : ScriptHeader) × (header_text h ≡ piece) × (record { word = w; fractions = capped_fractions ts } ≡ capped_header h)
 header_found piece name [] w tokens lt word decimals = absurd (omega arith)
 header_found piece name (t ∷ ts) w tokens lt word decimals =
-    let named : word_name w ≡ name = named_takes word_name (I8 ∷ I16 ∷ I32 ∷ I64 ∷ U8 ∷ U16 ∷ U32 ∷ U64 ∷ []) name w word in (
+    let named : word_name w ≡ name = word_only name w word in (
       record { word = w; first = digits_value 10 t; others = map (digits_value 10) ts },
       ap (λ x. join_with_byte 32 (x ∷ map natural_text (map (digits_value 10) (t ∷ ts)))) named
           ∙ ap (λ us. join_with_byte 32 (name ∷ us)) (texts_again (t ∷ ts) decimals) ∙ ap (join_with_byte 32) (sym tokens) ∙ join_with_byte-slice_split 32 piece,

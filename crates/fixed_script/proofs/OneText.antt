@@ -22,7 +22,8 @@ use Rattle.fixed_script.proofs.Readers.{policy_again, op_again}
 use Rattle.fixed_digits.proofs.Capping.{no_minus}
 use Rattle.fixed_script.proofs.Joined.{tokens_of_line}
 use Rattle.fixed_script.proofs.Lines.{not_set}
-use Rattle.fixed_script.proofs.HeaderLaws.{word_again, tokens_of_header}
+use Rattle.fixed_text.proofs.Readers.{word_again}
+use Rattle.fixed_script.proofs.HeaderLaws.{tokens_of_header}
 
 heads : {x y : List ℕ} {xs ys : List (List ℕ)} → x ∷ xs ≡ y ∷ ys → x ≡ y
 heads e = cc

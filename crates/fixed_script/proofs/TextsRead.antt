@@ -21,7 +21,8 @@ use Rattle.fixed_script.proofs.Readers.{policy_again, op_again}
 use Rattle.fixed_script.proofs.Joined.{tokens_of_line}
 use Rattle.fixed_script.proofs.Lines.{not_set}
 use Rattle.fixed_script.proofs.OneText.{register_names_none, whole_names_none, rounding_again}
-use Rattle.fixed_script.proofs.HeaderLaws.{word_again, tokens_of_header}
+use Rattle.fixed_text.proofs.Readers.{word_again}
+use Rattle.fixed_script.proofs.HeaderLaws.{tokens_of_header}
 use Rattle.fixed_script.specs.declared.line.Line.{Line}
 use Rattle.fixed_script.specs.Capped.{capped, checked_script_line}
 use Rattle.fixed_word.specs.Pieces.{body}

@@ -13,7 +13,7 @@ use Rattle.fixed_text.specs.declared.decimal.Decimal.{Decimal}
 use Rattle.std.proofs.lemmas.Bool.Decides.{nat_tests}
 use Rattle.fixed_text.specs.Decimals.{decimal_of, decimal_value}
 use Rattle.fixed_digits.specs.Numerals.{cap}
-use Rattle.fixed_text.specs.Runs.{Reading, Misfit, Read, fitting_number}
+use Rattle.fixed_text.specs.Readings.{Reading, Misfit, Read, fitting_number}
 
 width_small : (n : ℕ) → IsWidth n → n ≤ 64
 width_small n w = grind arith

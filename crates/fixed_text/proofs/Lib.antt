@@ -9,6 +9,7 @@ pub mod Only
 pub mod Signed
 pub mod Caps
 pub mod Turns
+pub mod Ended
 pub mod Gathered
 pub mod Readers
 pub mod Inverses

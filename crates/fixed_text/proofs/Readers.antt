@@ -8,13 +8,13 @@ use Rattle.std.proofs.lemmas.Option.{same_Some, none-some}
 use Rattle.fixed_word.specs.Decimal.{natural_text, whole_text}
 use Rattle.fixed_text.specs.declared.names.WordName.{WordName}
 use Rattle.fixed_text.specs.declared.names.WordName.TheVariants.{I8, I16, I32, I64, U8, U16, U32, U64}
-use Rattle.fixed_text.specs.Numbers.{natural_in, numbered_in, whole_in, wholes_in, before_others}
-use Rattle.fixed_text.specs.Tokens.{tokens_of}
+use Rattle.fixed_text.specs.Numbers.{natural_in, numbered_in, only_number, whole_in, wholes_in, before_others}
+use Rattle.fixed_text.specs.Tokens.{tokens_of, at_end}
 use Rattle.fixed_text.specs.Texts.{IsReader, no_space, numbered_text, spaced}
 use Rattle.fixed_text.specs.Words.{word_name, word_named}
 use Rattle.fixed_text.proofs.Joined.{split_joined, whole_no_space}
 use Rattle.fixed_text.proofs.Naturals.{in_only, in_again}
-use Rattle.fixed_text.proofs.Steps.{guard_some, named_takes}
+use Rattle.fixed_text.proofs.Steps.{guard_some, named_takes, next_some, end_some}
 use Rattle.fixed_text.proofs.Wholes.{whole_only, whole_again}
 
 pub joined_split : (piece : List ℕ) → spaced (tokens_of piece) ≡ piece
@@ -61,6 +61,14 @@ wholes_only (t ∷ ts) xs e = by_parts (whole_in t) (wholes_in ts) refl (wholes_
     by_parts (Some y) (Some ys) a later f =
         ap (map whole_text) (sym (same_Some (y ∷ ys) xs f))
         ∙ ap (λ u. u ∷ map whole_text ys) (whole_only t y a) ∙ ap (λ us. t ∷ us) (later ys refl)
+
+-- one whole alone
+pub number_only : (ts : List (List ℕ)) (x : ℤ) → only_number ts ≡ Some x → whole_text x ∷ [] ≡ ts
+unfolding only_number
+number_only ts x e =
+    let t = next_some whole_in ts (λ x. at_end x.1 x.0) x e in
+    let done = end_some t.rest t.value x t.goes_on in
+    ap (λ x. whole_text x ∷ []) (sym done.1) ∙ ap (λ token. token ∷ []) (whole_only t.token t.value t.reads) ∙ ap (λ rest. t.token ∷ rest) (sym done.0) ∙ sym t.is
 
 -- ---- words
 pub word_again : (w : WordName) → word_named (word_name w) ≡ Some w

@@ -31,6 +31,15 @@ next_some read (t ∷ ts) f y e = from (read t) refl e
     from None is e = cc
     from (Some x) is e = record { token = t; rest = ts; value = x; is = refl; reads = is; goes_on = e }
 
+-- a name, and what is read after it
+pub led_only : {A : Type 0} (name : List ℕ) (read : List (List ℕ) → Option A) (tokens : A → List (List ℕ)) (ts : List (List ℕ)) (y : A) → ((rest : List (List ℕ)) → read rest ≡ Some y → tokens y ≡ rest)
+    → (next_by Some ts >>= λ first. cond (bytes_eq first.0 name) (read first.1) None) ≡ Some y → name ∷ tokens y ≡ ts
+led_only name read tokens ts y only e =
+    let t = next_some Some ts (λ first. cond (bytes_eq first.0 name) (read first.1) None) y e in
+    let named = guard_some (bytes_eq t.value name) (read t.rest) y t.goes_on in
+    let is : name ≡ t.token = sym ((bytes_eq-Decides t.value name).0 named.0) ∙ sym (same_Some t.token t.value t.reads) in
+    ap (λ rest. name ∷ rest) (only t.rest named.1) ∙ ap (λ first. first ∷ t.rest) is ∙ sym t.is
+
 pub end_some : {A : Type 0} (ts : List (List ℕ)) (x y : A) → at_end ts x ≡ Some y → (ts ≡ []) × (x ≡ y)
 end_some [] x y e = (refl, same_Some x y e)
 end_some (t ∷ ts) x y e = cc

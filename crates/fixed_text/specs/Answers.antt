@@ -4,7 +4,8 @@ use Rattle.fixed_text.specs.declared.fault.Refusal.{Refusal}
 use Rattle.fixed_text.specs.declared.fault.Refusal.TheVariants.{Unformed, Unfit, Wanting}
 use Rattle.fixed_text.specs.declared.fault.RunFault.{RunFault}
 use Rattle.fixed_text.specs.declared.fault.RunFault.TheVariants.{Syntax, OutOfRange, Memory}
-use Rattle.fixed_text.specs.Runs.{Reading, Malformed, Misfit, Read, Ending, Printed, NoForm, NoRange}
+use Rattle.fixed_text.specs.Runs.{Meaning, Output, Fault}
+use Rattle.fixed_text.specs.Readings.{Reading, Malformed, Misfit, Read, PieceCause, NoForm, NoRange}
 
 -- why nothing was read; any piece may be refused because memory ran out
 abbrev pub IsRefusal : {A : Type 0} → Reading A → Refusal → Type 0
@@ -23,11 +24,12 @@ IsStepOfLine reading (Ok _) state before now = (bytes : List ℕ) × (reading �
 IsStepOfLine reading (Err refusal) state before now = IsRefusal reading refusal
 
 -- ---- how a run ends
-abbrev pub EndsBy : Ending → RunFault → Type 0
-EndsBy ending (Syntax k) = ending ≡ NoForm k
-EndsBy ending (OutOfRange k) = ending ≡ NoRange k
-EndsBy ending Memory = Unit {0}
+-- the cause of a fault; any run may end because memory ran out
+abbrev pub EndsBy : Meaning PieceCause → RunFault → Type 0
+EndsBy meaning (Syntax k) = meaning ≡ Fault (NoForm k)
+EndsBy meaning (OutOfRange k) = meaning ≡ Fault (NoRange k)
+EndsBy meaning Memory = Unit {0}
 
-abbrev pub IsAnswerOfRun : Ending → Result (List ℕ) RunFault → Type 0
-IsAnswerOfRun ending (Ok bytes) = ending ≡ Printed bytes
-IsAnswerOfRun ending (Err fault) = EndsBy ending fault
+abbrev pub IsAnswerOfRun : Meaning PieceCause → Result (List ℕ) RunFault → Type 0
+IsAnswerOfRun meaning (Ok bytes) = meaning ≡ Output bytes
+IsAnswerOfRun meaning (Err fault) = EndsBy meaning fault

@@ -5,5 +5,6 @@ pub mod Decimals
 pub mod Texts
 pub mod Inverse
 pub mod Runs
+pub mod Readings
 pub mod Answers
 pub mod inside

@@ -5,7 +5,7 @@ ghost use Rattle.std.specs.Option.{option_map};
 ghost use Rattle.fixed_text.specs.Decimals.{decimal_of, decimal_value};
 ghost use Rattle.fixed_text.specs.Numbers.{natural_in, numbered_in, only_number, whole_in, wholes_in};
 ghost use Rattle.fixed_digits.specs.Numerals.{cap};
-ghost use Rattle.fixed_text.specs.Runs.{fitting_number, fitting_numbers};
+ghost use Rattle.fixed_text.specs.Readings.{fitting_number, fitting_numbers};
 ghost use Rattle.fixed_text.specs.Answers.{IsAnswerOfReading};
 
 use crate::decimal::{Decimal, read_decimal, value_in};

@@ -1,8 +1,9 @@
 //! The loop that all runs share.
 
-ghost use Rattle.std.specs.Prelude.{◌≡◌, Bool, List, MatchOption, None, Some, ℕ};
+ghost use Rattle.std.specs.Prelude.{◌≡◌, Bool, List, MatchOption, None, Some, drop, ℕ};
 ghost use Rattle.fixed_word.specs.Pieces.{body, pieces};
-ghost use Rattle.fixed_text.specs.Runs.{Ending, Reading, lines_from, opened, piece_by};
+ghost use Rattle.fixed_text.specs.Runs.{Meaning, first_piece, lines_from, meaning_of};
+ghost use Rattle.fixed_text.specs.Readings.{PieceCause, Reading, line_by};
 ghost use Rattle.fixed_text.specs.Answers.{IsAnswerOfRun, IsStepOfLine};
 ghost use Rattle.fixed_text.specs.Words.{is_signed, width};
 ghost use Rattle.fixed_text.specs.inside.Pieces.{IsStepOfPiece};
@@ -29,8 +30,9 @@ pub trait Run: Sized + Drop {
 /// Returns the first piece of a script, without its newline, and the bytes after it. Returns `None` if the script is
 /// empty or its first piece has no newline.
 pub fn open(script: &[u8]) -> Option<(&[u8], &[u8])>
-    ensures { MatchOption result (opened script.now ≡ None)
-        (λ found. opened script.now ≡ Some (found.0.now, pieces found.1.now)) }
+    ensures { MatchOption result (body (first_piece (pieces script.now)) ≡ None)
+        (λ found. (body (first_piece (pieces script.now)) ≡ Some found.0.now)
+        × (drop 1 (pieces script.now) ≡ pieces found.1.now)) }
 {
     if script.is_empty() {
         return None;
@@ -49,7 +51,7 @@ fn line_piece<R: Run>(
     number: u64,
     output: &mut Output,
 ) -> Result<(), RunFault>
-    ensures { IsStepOfPiece number (piece_by (R.line run.old) (body piece.now)) result
+    ensures { IsStepOfPiece (line_by R.line run.old number piece.now) result
         run.new output.old output.new }
 {
     match body_of(piece) {
@@ -66,7 +68,7 @@ fn line_piece<R: Run>(
 /// Returns what the lines of a script print, which are the pieces from 2 on, or their first fault. Whatever the lines
 /// are, it may fail with `RunFault::Memory`, if memory runs out.
 pub fn run_lines<R: Run>(alloc: Global, mut run: R, lines: &[u8]) -> Result<Output, RunFault>
-    ensures { IsAnswerOfRun (lines_from R.line run 2 (pieces lines.now)) result }
+    ensures { IsAnswerOfRun (meaning_of (lines_from (line_by R.line) run 2 (pieces lines.now))) result }
 {
     let mut output = Output::new(alloc);
     let mut at = 0;
@@ -85,12 +87,12 @@ pub fn run_lines<R: Run>(alloc: Global, mut run: R, lines: &[u8]) -> Result<Outp
 
 /// A header, by which a run goes on in the word that it names.
 pub trait InWord {
-    // How the lines after the header end, in a word that is signed or not and has so many bits.
-    ghost ending: { Self → List ℕ → Bool → ℕ → Ending };
+    // What the lines after the header print, or their first cause, in a word that is signed or not and has so many bits.
+    ghost meaning: { Self → List ℕ → Bool → ℕ → Meaning PieceCause };
 
     /// Returns what the lines after the header print in this word, or the first fault.
     fn run_in<T: Word>(self, alloc: Global, lines: &[u8]) -> Result<Output, RunFault>
-        ensures { IsAnswerOfRun (ending self lines.now T.SIGNED T.BITS) result };
+        ensures { IsAnswerOfRun (meaning self lines.now T.SIGNED T.BITS) result };
 }
 
 impl WordName {
@@ -101,7 +103,7 @@ impl WordName {
         alloc: Global,
         lines: &[u8],
     ) -> Result<Output, RunFault>
-        ensures { IsAnswerOfRun (H.ending header lines.now (is_signed self) (width self)) result }
+        ensures { IsAnswerOfRun (H.meaning header lines.now (is_signed self) (width self)) result }
     {
         match self {
             WordName::I8 => header.run_in::<i8>(alloc, lines),

@@ -2,7 +2,7 @@
 -- bits. `proofs/Simulated` shows that such a run prints what specs/Runs says of every script.
 use Rattle.std.specs.Prelude.{◌+◌, ◌%◌, ◌^◌, ℕ, ℤ, pos, Bool, true, List, [], ◌∷◌, ◌++◌, length, map, slice_index_or, Option, Some, None, nat_lt, if◌then◌else◌}
 use Rattle.std.specs.List.{zip}
-use Rattle.fixed_text.specs.Runs.{Reading, Malformed, in_range, read_map, fitting_number, fitting_numbers}
+use Rattle.fixed_text.specs.Readings.{Reading, Malformed, in_range, read_map, fitting_number, fitting_numbers}
 use Rattle.fixed_filter.specs.declared.reply.Reply.{Reply}
 use Rattle.fixed_filter.specs.declared.shape.Shape.{Shape}
 use Rattle.fixed_filter.specs.Banks.{Filter, change_at, fresh, places_of, with_sample}

@@ -1,5 +1,5 @@
 use Rattle.std.proofs.Common.{List, ℕ, sym, subst}
-use Rattle.fixed_text.specs.Runs.{Reading}
+use Rattle.fixed_text.specs.Readings.{Reading}
 use Rattle.fixed_text.specs.Answers.{IsStepOfLine}
 use Rattle.fixed_filter.specs.inside.Kept.{KeptState}
 use Rattle.fixed_text.specs.Numbers.{only_number}

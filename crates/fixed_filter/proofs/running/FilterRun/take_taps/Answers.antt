@@ -2,7 +2,7 @@ use Rattle.std.proofs.Common.{◌<◌, length, [], map, refl, arith, ap, sym, �
 use Rattle.std.proofs.lemmas.Bool.Decides.{nat_tests}
 use Rattle.std.proofs.lemmas.List.{length-map}
 use Rattle.fixed_filter.specs.inside.Kept.{KeptState, filter_map}
-use Rattle.fixed_text.specs.Runs.{Read}
+use Rattle.fixed_text.specs.Readings.{Read}
 use Rattle.fixed_filter.proofs.Lines.{some_taps, taps_taken}
 use Rattle.fixed_filter.proofs.running.FilterRun.take_taps.Goals as goal
 
