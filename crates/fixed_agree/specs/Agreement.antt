@@ -6,7 +6,7 @@ use Rattle.fixed_script.specs.Names.{shape}
 use Rattle.fixed_script.specs.Text.{Operands, OneRegister, TwoRegisters, RegisterAndInt, Apply, shape_of}
 use Rattle.fixed_machine.specs.Machine.{State, Cell, OperandValues, operand_values, integer, answer}
 use Rattle.fixed_text.specs.Words.{is_signed, width}
-use Rattle.fixed_machine.specs.Offered.{is_offered}
+use Rattle.fixed_script.specs.Offered.{is_offered}
 use Rattle.fixed_word.specs.Format.{InRange}
 
 -- in every state of a word of that sign and width, `result` is the machine's answer to every line of the policy and the

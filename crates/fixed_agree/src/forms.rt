@@ -1,9 +1,9 @@
 //! Four forms of one operation on the same operands, and how their results agree.
-#![tactic(auto, unfolding(fixed_machine::specs::Offered::is_offered))]
+#![tactic(auto, unfolding(fixed_script::specs::Offered::is_offered))]
 
 ghost use Rattle.std.specs.Prelude.{◌≡◌, ◌≤◌, ◌%◌, ◌^◌, ◌*ℤ◌, pos, IsSome, None, Some, if◌then◌else◌, is_some, option_map, true, ◌+ℤ◌, ◌-ℤ◌};
 ghost use Rattle.fixed_machine.specs.Machine.{row_of};
-ghost use Rattle.fixed_machine.specs.Offered.{is_offered};
+ghost use Rattle.fixed_script.specs.Offered.{is_offered};
 ghost use Rattle.fixed_agree.specs.Agreement.{IsBinary, IsByInteger, IsOfferedOnBoth, IsUnary, one_operand, three_operands, two_operands, with_integer};
 ghost use Rattle.fixed_agree.specs.Forms.{FormsAgree, ShiftsAgree};
 ghost use Rattle.fixed_kernel.specs.Rows.{exact_add_prod};

@@ -1,9 +1,9 @@
 //! The wrapping calls return the machine's answer under `wrapping`: the wrapped number.
-#![tactic(auto, unfolding(fixed_machine::specs::Rows::exact, fixed_machine::specs::Offered::is_offered), using(crate::proofs::Answered::projected))]
+#![tactic(auto, unfolding(fixed_machine::specs::Rows::exact, fixed_script::specs::Offered::is_offered), using(crate::proofs::Answered::projected))]
 
 ghost use Rattle.std.specs.Prelude.{◌≡◌, ◌≤◌, true, false, IsSome};
 ghost use Rattle.fixed_machine.specs.Machine.{row_of};
-ghost use Rattle.fixed_machine.specs.Offered.{is_offered};
+ghost use Rattle.fixed_script.specs.Offered.{is_offered};
 ghost use Rattle.fixed_agree.specs.Agreement.{IsBinary, IsByInteger, IsOfferedOnBoth, IsUnary, MachineAnswers, one_operand, three_operands, two_operands, with_integer};
 
 use crate::answers::bits_of;

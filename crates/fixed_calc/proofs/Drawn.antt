@@ -17,7 +17,7 @@ use Rattle.fixed_machine.specs.declared.answer.Answer.TheVariants.{Absent, Bits,
 use Rattle.fixed_script.specs.Names.{shape}
 use Rattle.fixed_script.specs.Text.{ScriptLine, SetTo, Apply, Operands, OneRegister, TwoRegisters, ThreeRegisters, IsLine, shape_of, line_text}
 use Rattle.fixed_machine.specs.Rows.{exact}
-use Rattle.fixed_machine.specs.Offered.{is_offered}
+use Rattle.fixed_script.specs.Offered.{is_offered}
 use Rattle.fixed_text.specs.Words.{is_signed, width}
 use Rattle.fixed_machine.specs.Machine.{State, Cell, cell_at, destination, is_unoffered, is_out_of_range, is_mismatched, row_by, operand_values, row_cause, late_cause_by, cause, stored, answer, move, integer}
 use Rattle.fixed_calc.specs.inside.Draws.{draw}

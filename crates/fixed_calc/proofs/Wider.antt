@@ -14,7 +14,7 @@ use Rattle.fixed_machine.specs.declared.answer.Answer.{Answer}
 use Rattle.fixed_machine.specs.declared.answer.Answer.TheVariants.{Absent, Bits, Flagged}
 use Rattle.fixed_machine.specs.declared.cause.Cause.TheVariants.{Overflow}
 use Rattle.fixed_script.specs.Text.{ScriptLine, SetTo, Apply}
-use Rattle.fixed_machine.specs.Offered.{is_offered}
+use Rattle.fixed_script.specs.Offered.{is_offered}
 use Rattle.fixed_machine.specs.Projection.{project}
 use Rattle.fixed_machine.specs.Machine.{State, is_unoffered, is_out_of_range, is_mismatched, literals_of, registers_of, row_by, operand_values, row_cause, late_cause_by, cause, answer, move, stored, destination, answer_by}
 use Rattle.fixed_text.specs.Words.{is_signed, width}

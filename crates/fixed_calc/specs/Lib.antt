@@ -12,7 +12,7 @@ pub use Rattle.fixed_stream.specs.Memory
 pub use Rattle.fixed_machine.specs.Answers
 pub use Rattle.fixed_machine.specs.Rows
 pub use Rattle.fixed_machine.specs.Projection
-pub use Rattle.fixed_machine.specs.Offered
+pub use Rattle.fixed_script.specs.Offered
 pub use Rattle.fixed_machine.specs.Machine
 pub use Rattle.fixed_machine.specs.Meaning
 pub use Rattle.fixed_machine.specs.Step

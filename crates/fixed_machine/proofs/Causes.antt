@@ -20,7 +20,7 @@ use Rattle.fixed_machine.specs.declared.answer.Answer.{Answer}
 use Rattle.fixed_machine.specs.declared.answer.Answer.TheVariants.{Absent, Bits, Flagged}
 use Rattle.fixed_script.specs.Text.{ScriptLine, SetTo, Apply, Operands, OneRegister, TwoRegisters, RegisterAndInt, ThreeRegisters}
 use Rattle.fixed_machine.specs.Projection.{project}
-use Rattle.fixed_machine.specs.Offered.{is_offered}
+use Rattle.fixed_script.specs.Offered.{is_offered}
 use Rattle.fixed_machine.specs.Machine.{State, Cell, cell_at, destination, registers_of, cause, integer, OperandValues, late_cause_by, row_cause, row_by, operand_values, is_unoffered, is_out_of_range, is_mismatched, answer, answer_by}
 use Rattle.fixed_text.specs.Words.{is_signed, width}
 use Rattle.fixed_machine.specs.inside.Stepping.{IsAnswerOfLine, IsAnswerOfRow, IsApplied, HoldsOperands, values_of, is_value}

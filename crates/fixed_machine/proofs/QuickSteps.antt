@@ -19,7 +19,7 @@ use Rattle.fixed_machine.specs.declared.quick.QuickLine.{QuickLine}
 use Rattle.fixed_machine.specs.declared.register.Register.{Register}
 use Rattle.fixed_machine.specs.declared.register.OperandRegisters.{OperandRegisters}
 use Rattle.fixed_machine.specs.Rows.{exact}
-use Rattle.fixed_machine.specs.Offered.{is_offered}
+use Rattle.fixed_script.specs.Offered.{is_offered}
 use Rattle.fixed_machine.specs.Machine.{State, Cell, OperandValues, cell_at, is_unoffered, is_out_of_range, is_mismatched, operand_values, row_of, row_by, integer}
 use Rattle.fixed_machine.specs.Step.{FitsFormat, IsCell, cell_of, cells_of, state_in}
 use Rattle.fixed_machine.specs.inside.Quick.{quick_number, quick_operands}

@@ -1,7 +1,6 @@
 pub mod Answers
 pub mod Rows
 pub mod Projection
-pub mod Offered
 pub mod Machine
 pub mod Meaning
 pub mod Step

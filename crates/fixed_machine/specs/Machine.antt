@@ -14,7 +14,7 @@ use Rattle.fixed_script.specs.Text.{ScriptLine, SetTo, Apply, Operands, OneRegis
 use Rattle.fixed_word.specs.Format.{fits}
 use Rattle.fixed_machine.specs.Rows.{exact, rounding_of}
 use Rattle.fixed_machine.specs.Projection.{project}
-use Rattle.fixed_machine.specs.Offered.{is_offered}
+use Rattle.fixed_script.specs.Offered.{is_offered}
 use Rattle.fixed_machine.specs.declared.cause.Cause.{Cause}
 use Rattle.fixed_machine.specs.declared.cause.Cause.TheVariants.{Syntax, OutOfRange, FractionMismatch, ZeroDivisor, NegativeRoot, Overflow}
 

@@ -4,7 +4,7 @@ ghost use Rattle.std.specs.Prelude.{◌≡◌, ◌≤◌, ◌<◌, ◌^◌, ℕ,
 ghost use Rattle.fixed_script.specs.declared.names.Op.{Op as Operation};
 ghost use Rattle.fixed_word.specs.Format.{fits};
 ghost use Rattle.fixed_word.specs.Standing.{StandsFor};
-ghost use Rattle.fixed_machine.specs.Offered.{is_offered};
+ghost use Rattle.fixed_script.specs.Offered.{is_offered};
 ghost use Rattle.fixed_machine.specs.Machine.{row_by};
 ghost use Rattle.fixed_text.specs.Words.{is_signed, width};
 ghost use Rattle.fixed_machine.specs.Step.{FitsFormat, IsCell, cell_of};

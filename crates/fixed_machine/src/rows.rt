@@ -7,7 +7,7 @@ ghost use Rattle.fixed_machine.specs.Rows.{exact as exact_row, rounding_of};
 ghost use Rattle.fixed_kernel.specs.Rows.{by_divisor};
 ghost use Rattle.fixed_kernel.specs.RoundedRows.{rounded_div, rounded_recip};
 ghost use Rattle.fixed_script.specs.Text.{takes_rounding as rounds};
-ghost use Rattle.fixed_machine.specs.Offered.{is_offered};
+ghost use Rattle.fixed_script.specs.Offered.{is_offered};
 ghost use Rattle.fixed_machine.specs.inside.Groups.{group, OfOne, SumOrProduct, ByDivisor};
 
 use fixed_kernel::{
@@ -62,7 +62,7 @@ fn group_of(op: Op) -> Group
 
 /// Returns the outcome of an operation on one number, or `None` if its row is undefined.
 #[inline(always)]
-#[tactic(auto, unfolding(crate::specs::Rows::exact, crate::specs::Offered::is_offered))]
+#[tactic(auto, unfolding(crate::specs::Rows::exact, fixed_script::specs::Offered::is_offered))]
 fn outcome_of_one<T: Word>(policy: Policy, op: Op, x: T, frac: u32) -> Option<Outcome<T>>
     requires group { group op ≡ OfOne }
     requires offered { is_offered T.SIGNED policy op ≡ true }

@@ -5,7 +5,7 @@ ghost use Rattle.std.specs.List.{All};
 ghost use Rattle.fixed_script.specs.Capped.{checked_script_line, literal_value};
 ghost use Rattle.fixed_script.specs.Text.{may_round as rounds};
 ghost use Rattle.fixed_word.specs.Format.{highest, lowest, with_sign};
-ghost use Rattle.fixed_machine.specs.Offered.{is_offered as offered};
+ghost use Rattle.fixed_script.specs.Offered.{is_offered as offered};
 ghost use Rattle.fixed_machine.specs.Machine.{cell_at as cell_in, destination as destination_of, is_unoffered as unoffered, is_out_of_range as out_of_range, is_mismatched as mismatched, stored, integer};
 ghost use Rattle.fixed_text.specs.Words.{is_signed as signed, width};
 ghost use Rattle.fixed_machine.specs.inside.Stepping.{IsAnswerOfLine, IsApplied, HoldsOperands, script_line_of, values_of, is_value};
@@ -50,7 +50,7 @@ fn is_shaped(line: &Line) -> bool
 
 /// Returns whether the operation is offered under that policy on the word.
 #[inline(always)]
-#[tactic(auto, unfolding(crate::specs::Offered::is_offered))]
+#[tactic(auto, unfolding(fixed_script::specs::Offered::is_offered))]
 pub(crate) fn is_offered(word: WordName, policy: Policy, op: Op) -> bool
     ensures { result ≡ offered (signed word) policy op }
 {

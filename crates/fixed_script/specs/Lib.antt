@@ -1,4 +1,5 @@
 pub mod Names
+pub mod Offered
 pub mod Text
 pub mod Capped
 pub mod Headers

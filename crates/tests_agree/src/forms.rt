@@ -1,5 +1,5 @@
 //! The forms of one operation of each kind, where the number does not fit.
-#![tactic(auto, unfolding(fixed_machine::specs::Rows::exact, fixed_machine::specs::Offered::is_offered))]
+#![tactic(auto, unfolding(fixed_machine::specs::Rows::exact, fixed_script::specs::Offered::is_offered))]
 
 use fixed_agree::forms::{
     Forms, Shifts, add_prod, add_signed, add_unsigned, binary, by_integer, mul_acc, mul_add, shl,

@@ -1,5 +1,5 @@
 //! Each function that `forms` does not call, once: those of strict, and those of unsigned words.
-#![tactic(auto, unfolding(fixed_machine::specs::Rows::exact, fixed_machine::specs::Offered::is_offered, fixed_kernel::specs::Rows::power_over))]
+#![tactic(auto, unfolding(fixed_machine::specs::Rows::exact, fixed_script::specs::Offered::is_offered, fixed_kernel::specs::Rows::power_over))]
 
 use fixed_agree::{checked, overflowing, saturating, strict, wrapping};
 use fixed_machine::Answer;

@@ -1,5 +1,5 @@
 use Rattle.std.proofs.Common.{◌≡◌, true, false, get_or, rules}
-use Rattle.fixed_machine.specs.Offered.{is_offered}
+use Rattle.fixed_script.specs.Offered.{is_offered}
 use Rattle.fixed_machine.specs.Step.{cell_of, cells_of}
 use Rattle.fixed_script.specs.Names.{shape}
 use Rattle.fixed_text.specs.Words.{is_signed}
