@@ -143,7 +143,13 @@ fn blocks_near_the_ends<T: Word + Into<i128> + std::fmt::Debug>() {
         for signs in 0..32_u32 {
             let taps: Vec<T> = (0..5).map(|tap| word(signs >> tap & 1 == 1, 3)).collect();
             let input: Vec<T> = (0..9).map(|at| word(at % 7 < 5, peak.min(most))).collect();
-            stops += u32::from(stops_alike(shape(down), &taps, &[T::ZERO; 5], &input, &input));
+            stops += u32::from(stops_alike(
+                shape(down),
+                &taps,
+                &[T::ZERO; 5],
+                &input,
+                &input,
+            ));
         }
     }
     assert!((1..1536).contains(&stops), "{stops}");

@@ -10,11 +10,10 @@ use crate::sample::Sample;
 use crate::shape::Shape;
 use fixed_word::{RawWord, Valued, Word};
 
-/// Returns by how many places products move down to those of outputs, if no partial sum needs a test after a sample for
-/// which the taps reach only samples of this block. This is so if the partial sums fit for every block whose samples
-/// are no greater than the greatest of this one. Otherwise, if products move up or down by more than the width, or if
-/// the taps reach past samples after each sample, this returns `None`. Precondition: each number of fraction bits is at
-/// most the width.
+/// Returns the places by which products move down to those of outputs, if no partial sum needs a test while the taps
+/// reach only samples of this block: each partial sum then fits for every block whose greatest magnitude of a sample is
+/// that of this one. Returns `None` if one may not fit, if products move up, or down by more than the width, or if the
+/// block has no more samples than there are taps. Precondition: each number of fraction bits is at most the width.
 pub(crate) fn untested_places<T: Word, A: Sample<T>, B: Sample<T>>(
     shape: &Shape,
     taps: &[A],
@@ -54,8 +53,8 @@ pub(crate) fn places_with_room<T: Word>(
     }
 }
 
-/// Returns whether each such partial sum fits, of products that are shifted right by `down`. Precondition: `down` is at
-/// most the width.
+/// Returns whether each partial sum of `count` taps fits, whose magnitudes add up to `weight`, for all samples whose
+/// magnitudes are at most `peak`. Products are shifted right by `down`. Precondition: `down` is at most the width.
 fn has_room<T: Word>(down: u32, weight: u128, peak: u64, count: usize) -> bool
     requires { down ≤ T.BITS }
     ensures { IsTrue result

@@ -15,4 +15,4 @@ returns-in-Some g c =
     let room = rw count at c.in-Some.ensures in
     let sum = rw (c.deref.ensures.value, c.deref-in-Some.ensures.value) at c.wrapped_sum_of_past.ensures in
     let reply = ap (λ z. Value z) sum ∙ sym (bounded_reply number signed n c.self.inside.taps.items c.self.inside.past.items c.self.inside.weight c.self.inside.peak c.in-Some.down (places_of shape) g.met.T.RawWord.width_law held.0 held.2 room) in
-    subst (λ filter. Value (number c.wrapped_sum_of_past.result) ≡ reply_of number signed n shape filter) (sym c.self.view_is) reply
+    subst (λ filter. Value (number c.wrapped_sum_of_past.result) ≡ reply_of number signed n shape filter) c.self.view_is reply
