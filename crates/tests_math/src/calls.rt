@@ -1,10 +1,12 @@
 //! Known lengths, reciprocal roots, logarithms and powers.
 
+ghost use Rattle.std.specs.Prelude.{◌≤◌};
+
 use crate::fitting::log2_with_16;
 use crate::found::{Found, bits_of, check, check_fit};
 use fixed_elementary::{exp2_of, hypot_of, log2_of, recip_sqrt_of};
 use fixed_math::{CheckedMath, OverflowingMath, SaturatingMath, WrappingMath};
-use fixed_num::{Fixed, FixedI32};
+use fixed_num::{FixedI8, FixedI32};
 use fixed_word::Side;
 
 fn length(a: i8, b: i8) -> Found {
@@ -147,43 +149,43 @@ fn powers(rt: HostRuntime) {
     assert!(rt; power_past_the_end() == Side::Above);
 }
 
-/// The calls of each policy at one number.
+/// The calls of each policy at one number: the length of the pair of it twice, and the power of 2.
 fn calls<N: CheckedMath + OverflowingMath + SaturatingMath + WrappingMath>(
     number: N,
-) -> (Option<N>, (N, bool), N, N) {
-    let checked = number.checked_hypot(number);
-    let overflowing = number.overflowing_hypot(number);
-    let saturated = number.saturating_hypot(number);
+) -> (Option<N>, (N, bool), N, N, N)
+    requires { N.FRACTION ≤ N.BITS }
+{
     (
-        checked,
-        overflowing,
-        saturated,
+        number.checked_hypot(number),
+        number.overflowing_hypot(number),
+        number.saturating_hypot(number),
         number.wrapping_hypot(number),
+        number.saturating_exp2(),
     )
 }
 
-/// What those calls leave of a number of 8 bits, by its bits.
-fn left_by_calls(bits: i8) -> (Option<i8>, (i8, bool), i8, i8) {
-    let (checked, (left, past), saturated, wrapped) = calls(Fixed::<i8, 4> { bits });
-    let checked = match checked {
-        Some(number) => Some(number.bits),
-        None => None,
-    };
-    (checked, (left.bits, past), saturated.bits, wrapped.bits)
+/// What those calls leave of a number of 8 bits: whether checked is none, overflowing, then saturating, wrapping and the
+/// power.
+fn left_by_calls<const F: u32>(bits: i8) -> (bool, (i8, bool), [i8; 3])
+    requires { F ≤ 8 }
+{
+    let (checked, (left, past), saturated, wrapped, power) = calls(FixedI8::<F> { bits });
+    (
+        checked.is_none(),
+        (left.bits, past),
+        [saturated.bits, wrapped.bits, power.bits],
+    )
 }
 
 #[test]
 fn typed_calls(rt: HostRuntime) {
-    assert!(rt; left_by_calls(96) == (None, (-121, true), 127, -121));
-    let ten = FixedI32::<16> { bits: 655360 };
-    assert!(rt; log2_with_16(ten).bits == 217705);
-    let most = Fixed::<i8, 4> { bits: 127 };
-    assert!(rt; most.saturating_exp2().bits == 127);
+    assert!(rt; left_by_calls::<4>(96) == (true, (-121, true), [127, -121, 127]));
 }
 
 #[test]
 fn typed_calls_of_32_bits(rt: HostRuntime) {
     let ten = FixedI32::<16> { bits: 655360 };
+    assert!(rt; log2_with_16(ten).bits == 217705);
     assert!(rt; bits_of(ten.checked_log2()) == Some(217705));
     assert!(rt; ten.wrapping_recip_sqrt().bits == 20724);
     let none = FixedI32::<16> { bits: 0 };

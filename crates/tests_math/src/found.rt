@@ -1,6 +1,6 @@
 //! What a call on words leaves, as plain numbers, and the one assertion on it.
 
-use fixed_num::FixedI32;
+use fixed_num::{FixedI8, FixedI32};
 use fixed_word::{Outcome, Side};
 use std::process::Abort;
 
@@ -31,4 +31,37 @@ pub fn bits_of(number: Option<FixedI32<16>>) -> Option<i32> {
         Some(number) => Some(number.bits),
         None => None,
     }
+}
+
+fn short_bits_of<const F: u32>(number: Option<FixedI8<F>>) -> Option<i8> {
+    match number {
+        Some(number) => Some(number.bits),
+        None => None,
+    }
+}
+
+/// The bits of numbers of 8 bits.
+pub fn short_bits<const F: u32>(numbers: [FixedI8<F>; 3]) -> [i8; 3] {
+    let [first, second, third] = numbers;
+    [first.bits, second.bits, third.bits]
+}
+
+/// The bits of numbers of 8 bits, where there is one.
+pub fn checked_bits<const F: u32>(numbers: [Option<FixedI8<F>>; 3]) -> [Option<i8>; 3] {
+    let [first, second, third] = numbers;
+    [
+        short_bits_of(first),
+        short_bits_of(second),
+        short_bits_of(third),
+    ]
+}
+
+/// The bits of numbers of 8 bits, each with its verdict.
+pub fn flagged_bits<const F: u32>(numbers: [(FixedI8<F>, bool); 3]) -> [(i8, bool); 3] {
+    let [first, second, third] = numbers;
+    [
+        (first.0.bits, first.1),
+        (second.0.bits, second.1),
+        (third.0.bits, third.1),
+    ]
 }

@@ -3,12 +3,12 @@
 ghost use Rattle.std.specs.Prelude.{◌≤◌, ◌<ℤ◌, pos};
 
 use crate::fitting::ln_with_16;
-use crate::found::{Found, bits_of, check, check_fit, found_of};
+use crate::found::{Found, bits_of, check, check_fit, checked_bits, found_of, short_bits};
 use fixed_natural::{
     CheckedNatural, OverflowingNatural, SaturatingNatural, WrappingNatural, exp_of, ln_of,
     log10_of, pow_of,
 };
-use fixed_num::{Fixed, FixedI32};
+use fixed_num::{FixedI8, FixedI32};
 use fixed_word::Side;
 
 /// The natural logarithm of bits above 0.
@@ -185,43 +185,57 @@ fn powers_of_numbers(rt: HostRuntime) {
     check_fit(&rt, "pow", operands, long_power(), 2479700524);
 }
 
-/// The calls of each policy at one number above 0.
+/// The calls of each policy at one number above 0: the logarithms, the power of e and the number to its own power.
 fn calls<N: CheckedNatural + OverflowingNatural + SaturatingNatural + WrappingNatural>(
     number: N,
-) -> (Option<N>, (N, bool), N, N)
+) -> ([Option<N>; 3], (N, bool), [N; 3], N)
     requires fraction { N.FRACTION ≤ N.BITS }
     requires positive { pos 0 <ℤ N.number number }
 {
-    let checked = number.checked_ln();
-    let overflowing = number.overflowing_log10();
-    let saturated = number.saturating_ln();
-    (checked, overflowing, saturated, number.wrapping_ln())
+    (
+        [
+            number.checked_ln(),
+            number.checked_exp(),
+            number.checked_pow(number),
+        ],
+        number.overflowing_log10(),
+        [
+            number.saturating_ln(),
+            number.saturating_exp(),
+            number.saturating_pow(number),
+        ],
+        number.wrapping_ln(),
+    )
 }
 
-/// What those calls leave of the least number of 8 bits above 0, by its bits.
-fn left_by_calls() -> (Option<i8>, (i8, bool), i8, i8) {
-    let (checked, (left, past), saturated, wrapped) = calls(Fixed::<i8, 4> { bits: 1 });
-    let checked = match checked {
-        Some(number) => Some(number.bits),
-        None => None,
-    };
-    (checked, (left.bits, past), saturated.bits, wrapped.bits)
+/// What those calls leave of a number of 8 bits above 0, by its bits.
+fn left_by_calls<const F: u32>(bits: i8) -> ([Option<i8>; 3], (i8, bool), [i8; 3], i8)
+    requires fraction { F ≤ 8 }
+    requires positive { pos 0 <ℤ bits }
+{
+    let (checked, (left, past), saturating, wrapped) = calls(FixedI8::<F> { bits });
+    (
+        checked_bits(checked),
+        (left.bits, past),
+        short_bits(saturating),
+        wrapped.bits,
+    )
 }
 
 #[test]
 fn natural_calls(rt: HostRuntime) {
-    assert!(rt; left_by_calls() == (Some(-45), (-20, false), -45, -45));
-    let ten = FixedI32::<16> { bits: 655360 };
-    assert!(rt; ln_with_16(ten).bits == 150902);
-    let most = Fixed::<i8, 4> { bits: 127 };
-    assert!(rt; most.checked_exp().is_none());
-    assert!(rt; most.saturating_exp().bits == 127);
-    assert!(rt; most.saturating_pow(most).bits == 127);
+    let (checked, overflowing, saturating, wrapped) = left_by_calls::<4>(1);
+    assert!(rt; checked == [Some(-45), Some(17), Some(13)]);
+    assert!(rt; overflowing == (-20, false) && saturating == [-45, 17, 13] && wrapped == -45);
+    let (checked, overflowing, saturating, wrapped) = left_by_calls::<4>(127);
+    assert!(rt; checked == [Some(33), None, None]);
+    assert!(rt; overflowing == (14, false) && saturating == [33, 127, 127] && wrapped == 33);
 }
 
 #[test]
 fn natural_calls_of_32_bits(rt: HostRuntime) {
     let ten = FixedI32::<16> { bits: 655360 };
+    assert!(rt; ln_with_16(ten).bits == 150902);
     assert!(rt; bits_of(ten.checked_log10()) == Some(65536));
     assert!(rt; bits_of(ten.checked_exp()) == Some(1443526462));
     assert!(rt; bits_of(ten.checked_pow(ten)) == None);

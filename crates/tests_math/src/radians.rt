@@ -3,9 +3,9 @@
 
 ghost use Rattle.std.specs.Prelude.{◌≡◌, ◌≢◌, ◌≤◌, pos};
 
-use crate::found::{Found, check, check_fit, found_of};
+use crate::found::{Found, check, check_fit, checked_bits, flagged_bits, found_of, short_bits};
 use crate::turns_fitting::sine_and_cosine_in_radians;
-use fixed_num::{Fixed, FixedI32};
+use fixed_num::{FixedI8, FixedI32};
 use fixed_turns::{
     CheckedRadians, OverflowingRadians, SaturatingRadians, WrappingRadians, atan2_of, cos_of,
     sin_cos_of, sin_of,
@@ -184,24 +184,6 @@ fn unsigned_sines_and_cosines_of_radians(rt: HostRuntime) {
     }
 }
 
-/// The calls of each policy at one number.
-fn calls<N: CheckedRadians + OverflowingRadians + SaturatingRadians + WrappingRadians>(
-    number: N,
-) -> (Option<N>, Option<N>, (N, bool), (N, bool), N, N, N, N)
-    requires { N.FRACTION ≤ N.BITS }
-{
-    (
-        number.checked_sin(),
-        number.checked_cos(),
-        number.overflowing_sin(),
-        number.overflowing_cos(),
-        number.saturating_sin(),
-        number.saturating_cos(),
-        number.wrapping_sin(),
-        number.wrapping_cos(),
-    )
-}
-
 /// The calls of both at one number.
 fn calls_of_both<N: CheckedRadians + OverflowingRadians + SaturatingRadians + WrappingRadians>(
     number: N,
@@ -216,32 +198,46 @@ fn calls_of_both<N: CheckedRadians + OverflowingRadians + SaturatingRadians + Wr
     )
 }
 
-/// The sines that those calls leave of a number of 8 bits, by their bits: checked, overflowing, saturating, wrapping.
-fn sines_of(bits: i8) -> (Option<i8>, (i8, bool), i8, i8) {
-    let (checked, _, (left, past), _, saturating, _, wrapping, _) = calls(Fixed::<i8, 4> { bits });
-    let checked = match checked {
-        Some(sine) => Some(sine.bits),
-        None => None,
-    };
-    (checked, (left.bits, past), saturating.bits, wrapping.bits)
+/// The calls of each policy at one point: the sine and the cosine of y radians, the angle of the point, and at last
+/// the calls of both.
+fn calls<N: CheckedRadians + OverflowingRadians + SaturatingRadians + WrappingRadians>(
+    y: N,
+    x: N,
+) -> (
+    ([Option<N>; 3], [(N, bool); 3], [N; 3], [N; 3]),
+    (Option<(N, N)>, ((N, bool), (N, bool)), (N, N), (N, N)),
+)
+    requires fraction { N.FRACTION ≤ N.BITS }
+    requires some { N.number x ≡ pos 0 → N.number y ≢ pos 0 }
+{
+    let each = (
+        [y.checked_sin(), y.checked_cos(), y.checked_atan2(x)],
+        [
+            y.overflowing_sin(),
+            y.overflowing_cos(),
+            y.overflowing_atan2(x),
+        ],
+        [
+            y.saturating_sin(),
+            y.saturating_cos(),
+            y.saturating_atan2(x),
+        ],
+        [y.wrapping_sin(), y.wrapping_cos(), y.wrapping_atan2(x)],
+    );
+    (each, calls_of_both(y))
 }
 
-/// The cosines, in the same order.
-fn cosines_of(bits: i8) -> (Option<i8>, (i8, bool), i8, i8) {
-    let (_, checked, _, (left, past), _, saturating, _, wrapping) = calls(Fixed::<i8, 4> { bits });
-    let checked = match checked {
-        Some(cosine) => Some(cosine.bits),
-        None => None,
-    };
-    (checked, (left.bits, past), saturating.bits, wrapping.bits)
-}
-
-/// Both without integer bits, of which the cosine of 0 does not fit: whether checked is none, overflowing with the
-/// verdict on the cosine, saturating, wrapping.
-fn both_of_small(bits: i8) -> (bool, (i8, i8, bool), (i8, i8), (i8, i8)) {
-    let (checked, (sine, (cosine, past)), saturating, wrapping) = calls_of_both(Fixed::<i8, 7> {
-        bits,
-    });
+/// What the calls of both leave: whether checked is none, overflowing with the verdict on the cosine, saturating,
+/// wrapping.
+fn bits_of_both<const F: u32>(
+    both: (
+        Option<(FixedI8<F>, FixedI8<F>)>,
+        ((FixedI8<F>, bool), (FixedI8<F>, bool)),
+        (FixedI8<F>, FixedI8<F>),
+        (FixedI8<F>, FixedI8<F>),
+    ),
+) -> (bool, (i8, i8, bool), (i8, i8), (i8, i8)) {
+    let (checked, (sine, (cosine, past)), saturating, wrapping) = both;
     (
         checked.is_none(),
         (sine.0.bits, cosine.bits, past),
@@ -250,12 +246,65 @@ fn both_of_small(bits: i8) -> (bool, (i8, i8, bool), (i8, i8), (i8, i8)) {
     )
 }
 
+/// What those calls leave of numbers of 8 bits, by their bits: checked, overflowing, saturating, wrapping, and both.
+fn left_by_calls<const F: u32>(
+    y: i8,
+    x: i8,
+) -> (
+    ([Option<i8>; 3], [(i8, bool); 3], [i8; 3], [i8; 3]),
+    (bool, (i8, i8, bool), (i8, i8), (i8, i8)),
+)
+    requires fraction { F ≤ 8 }
+    requires some { x ≡ pos 0 → y ≢ pos 0 }
+{
+    let (each, both) = calls(FixedI8::<F> { bits: y }, FixedI8::<F> { bits: x });
+    let (checked, overflowing, saturating, wrapping) = each;
+    let each = (
+        checked_bits(checked),
+        flagged_bits(overflowing),
+        short_bits(saturating),
+        short_bits(wrapping),
+    );
+    (each, bits_of_both(both))
+}
+
 #[test]
 fn radian_calls(rt: HostRuntime) {
-    assert!(rt; sines_of(-20) == (Some(-15), (-15, false), -15, -15));
-    assert!(rt; cosines_of(-20) == (Some(5), (5, false), 5, 5));
-    assert!(rt; both_of_small(0) == (true, (0, -128, true), (0, 127), (0, -128)));
-    assert!(rt; both_of_small(127) == (false, (107, 70, false), (107, 70), (107, 70)));
+    let ((checked, overflowing, saturating, wrapping), _) = left_by_calls::<4>(-20, 20);
+    assert!(rt; checked == [Some(-15), Some(5), Some(-13)]);
+    assert!(rt; overflowing == [(-15, false), (5, false), (-13, false)]);
+    assert!(rt; saturating == [-15, 5, -13]);
+    assert!(rt; wrapping == [-15, 5, -13]);
+}
+
+#[test]
+fn radian_calls_at_angles(rt: HostRuntime) {
+    let ((checked, overflowing, saturating, wrapping), _) = left_by_calls::<4>(48, -64);
+    assert!(rt; checked == [Some(2), Some(-16), Some(40)]);
+    assert!(rt; overflowing == [(2, false), (-16, false), (40, false)]);
+    assert!(rt; saturating == [2, -16, 40]);
+    assert!(rt; wrapping == [2, -16, 40]);
+    let none = FixedI8::<4> { bits: 0 };
+    assert!(rt; none.checked_atan2(none).is_none());
+}
+
+/// The angle on the axis above the origin does not fit without integer bits.
+#[test]
+fn radian_calls_past_the_end(rt: HostRuntime) {
+    let ((checked, overflowing, saturating, wrapping), _) = left_by_calls::<7>(32, 0);
+    assert!(rt; checked == [Some(32), Some(124), None]);
+    assert!(rt; overflowing == [(32, false), (124, false), (-55, true)]);
+    assert!(rt; saturating == [32, 124, 127]);
+    assert!(rt; wrapping == [32, 124, -55]);
+}
+
+/// The cosine of 0 does not fit without integer bits.
+#[test]
+fn radian_calls_of_both(rt: HostRuntime) {
+    let (_, small) = left_by_calls::<7>(0, 1);
+    assert!(rt; small == (true, (0, -128, true), (0, 127), (0, -128)));
+    let (_, great) = left_by_calls::<7>(127, 127);
+    assert!(rt; great == (false, (107, 70, false), (107, 70), (107, 70)));
     let (sine, cosine) = sine_and_cosine_in_radians(FixedI32::<16> { bits: 12345 });
     assert!(rt; sine.bits == 12272 && cosine.bits == 64377);
 }
@@ -524,51 +573,4 @@ fn fine_angles_in_radians(rt: HostRuntime) {
     ] {
         assert!(rt; is_near(y, x, nearest), "fine angle of {y} and {x}");
     }
-}
-
-/// The calls of each policy at one point.
-fn calls_at<N: CheckedRadians + OverflowingRadians + SaturatingRadians + WrappingRadians>(
-    y: N,
-    x: N,
-) -> (Option<N>, (N, bool), N, N)
-    requires fraction { N.FRACTION ≤ N.BITS }
-    requires some { N.number x ≡ pos 0 → N.number y ≢ pos 0 }
-{
-    (
-        y.checked_atan2(x),
-        y.overflowing_atan2(x),
-        y.saturating_atan2(x),
-        y.wrapping_atan2(x),
-    )
-}
-
-/// The angle that those calls leave of the point of 3 up and 4 to the left, by its bits.
-fn left_by_calls() -> (Option<i8>, (i8, bool), i8, i8) {
-    let (y, x) = (Fixed::<i8, 4> { bits: 48 }, Fixed::<i8, 4> { bits: -64 });
-    let (checked, (left, past), saturating, wrapping) = calls_at(y, x);
-    let checked = match checked {
-        Some(angle) => Some(angle.bits),
-        None => None,
-    };
-    (checked, (left.bits, past), saturating.bits, wrapping.bits)
-}
-
-/// The angle on the axis above the origin without integer bits, which does not fit.
-fn above_by_calls() -> (bool, (i8, bool), i8, i8) {
-    let (y, x) = (Fixed::<i8, 7> { bits: 32 }, Fixed::<i8, 7> { bits: 0 });
-    let (checked, (left, past), saturating, wrapping) = calls_at(y, x);
-    (
-        checked.is_none(),
-        (left.bits, past),
-        saturating.bits,
-        wrapping.bits,
-    )
-}
-
-#[test]
-fn radian_angle_calls(rt: HostRuntime) {
-    assert!(rt; left_by_calls() == (Some(40), (40, false), 40, 40));
-    assert!(rt; above_by_calls() == (true, (-55, true), 127, -55));
-    let none = Fixed::<i8, 4> { bits: 0 };
-    assert!(rt; none.checked_atan2(none).is_none());
 }

@@ -2,9 +2,9 @@
 
 ghost use Rattle.std.specs.Prelude.{◌≡◌, ◌≢◌, ◌≤◌, pos};
 
-use crate::found::{Found, check, check_fit};
+use crate::found::{Found, check, check_fit, checked_bits, flagged_bits, short_bits};
 use crate::turns_fitting::{angle_of, sine_and_cosine};
-use fixed_num::{Fixed, FixedI32};
+use fixed_num::{FixedI8, FixedI32};
 use fixed_turns::{
     CheckedTurns, OverflowingTurns, SaturatingTurns, WrappingTurns, atan2_turns_of, cos_turns_of,
     sin_turns_of,
@@ -108,53 +108,80 @@ fn sines_of_other_words(rt: HostRuntime) {
     }
 }
 
-/// The calls of each policy at one number.
+/// The calls of each policy at one point: the sine and the cosine of y turns, and the angle of the point.
 fn calls<N: CheckedTurns + OverflowingTurns + SaturatingTurns + WrappingTurns>(
-    number: N,
-) -> (Option<N>, Option<N>, (N, bool), (N, bool), N, N, N, N)
-    requires { N.FRACTION ≤ N.BITS }
+    y: N,
+    x: N,
+) -> ([Option<N>; 3], [(N, bool); 3], [N; 3], [N; 3])
+    requires fraction { N.FRACTION ≤ N.BITS }
+    requires some { N.number x ≡ pos 0 → N.number y ≢ pos 0 }
 {
     (
-        number.checked_sin_turns(),
-        number.checked_cos_turns(),
-        number.overflowing_sin_turns(),
-        number.overflowing_cos_turns(),
-        number.saturating_sin_turns(),
-        number.saturating_cos_turns(),
-        number.wrapping_sin_turns(),
-        number.wrapping_cos_turns(),
+        [
+            y.checked_sin_turns(),
+            y.checked_cos_turns(),
+            y.checked_atan2_turns(x),
+        ],
+        [
+            y.overflowing_sin_turns(),
+            y.overflowing_cos_turns(),
+            y.overflowing_atan2_turns(x),
+        ],
+        [
+            y.saturating_sin_turns(),
+            y.saturating_cos_turns(),
+            y.saturating_atan2_turns(x),
+        ],
+        [
+            y.wrapping_sin_turns(),
+            y.wrapping_cos_turns(),
+            y.wrapping_atan2_turns(x),
+        ],
     )
 }
 
-/// The sines that those calls leave of a number of 8 bits, by their bits: checked, overflowing, saturating, wrapping.
-fn sines_of(bits: i8) -> (Option<i8>, (i8, bool), i8, i8) {
-    let (checked, _, (left, past), _, saturating, _, wrapping, _) = calls(Fixed::<i8, 4> { bits });
-    let checked = match checked {
-        Some(sine) => Some(sine.bits),
-        None => None,
-    };
-    (checked, (left.bits, past), saturating.bits, wrapping.bits)
-}
-
-/// The cosines, in the same order.
-fn cosines_of(bits: i8) -> (Option<i8>, (i8, bool), i8, i8) {
-    let (_, checked, _, (left, past), _, saturating, _, wrapping) = calls(Fixed::<i8, 4> { bits });
-    let checked = match checked {
-        Some(cosine) => Some(cosine.bits),
-        None => None,
-    };
-    (checked, (left.bits, past), saturating.bits, wrapping.bits)
+/// What those calls leave of numbers of 8 bits, by their bits: checked, overflowing, saturating, wrapping.
+fn left_by_calls<const F: u32>(y: i8, x: i8) -> ([Option<i8>; 3], [(i8, bool); 3], [i8; 3], [i8; 3])
+    requires fraction { F ≤ 8 }
+    requires some { x ≢ pos 0 }
+{
+    let (checked, overflowing, saturating, wrapping) = calls(
+        FixedI8::<F> { bits: y },
+        FixedI8::<F> { bits: x },
+    );
+    (
+        checked_bits(checked),
+        flagged_bits(overflowing),
+        short_bits(saturating),
+        short_bits(wrapping),
+    )
 }
 
 #[test]
 fn turn_calls(rt: HostRuntime) {
-    assert!(rt; sines_of(-5) == (Some(-15), (-15, false), -15, -15));
-    assert!(rt; cosines_of(-5) == (Some(-6), (-6, false), -6, -6));
-    let quarter = Fixed::<i8, 7> { bits: 32 };
-    assert!(rt; quarter.checked_sin_turns().is_none());
-    assert!(rt; quarter.saturating_sin_turns().bits == 127);
-    let (sine, cosine) = sine_and_cosine(FixedI32::<16> { bits: 12345 });
+    let (checked, overflowing, saturating, wrapping) = left_by_calls::<4>(-5, 5);
+    assert!(rt; checked == [Some(-15), Some(-6), Some(-2)]);
+    assert!(rt; overflowing == [(-15, false), (-6, false), (-2, false)]);
+    assert!(rt; saturating == [-15, -6, -2]);
+    assert!(rt; wrapping == [-15, -6, -2]);
+}
+
+/// The sine of a quarter turn does not fit without integer bits.
+#[test]
+fn turn_calls_past_the_end(rt: HostRuntime) {
+    let (checked, overflowing, saturating, wrapping) = left_by_calls::<7>(32, -32);
+    assert!(rt; checked == [None, Some(0), Some(48)]);
+    assert!(rt; overflowing == [(-128, true), (0, false), (48, false)]);
+    assert!(rt; saturating == [127, 0, 48]);
+    assert!(rt; wrapping == [-128, 0, 48]);
+}
+
+#[test]
+fn strict_turn_calls(rt: HostRuntime) {
+    let number = FixedI32::<16> { bits: 12345 };
+    let (sine, cosine) = sine_and_cosine(number);
     assert!(rt; sine.bits == 60684 && cosine.bits == 24748);
+    assert!(rt; angle_of(number, number).bits == 8192);
 }
 
 /// The angle of a point other than the origin.
@@ -191,38 +218,13 @@ fn angles(rt: HostRuntime) {
     check_fit(&rt, "angle", [7, 0, 16], angle_above(), 16384);
 }
 
-/// The calls of each policy at one point.
-fn calls_at<N: CheckedTurns + OverflowingTurns + SaturatingTurns + WrappingTurns>(
-    y: N,
-    x: N,
-) -> (Option<N>, (N, bool), N, N)
-    requires fraction { N.FRACTION ≤ N.BITS }
-    requires some { N.number x ≡ pos 0 → N.number y ≢ pos 0 }
-{
-    (
-        y.checked_atan2_turns(x),
-        y.overflowing_atan2_turns(x),
-        y.saturating_atan2_turns(x),
-        y.wrapping_atan2_turns(x),
-    )
-}
-
-/// The angle that those calls leave of the point of 3 up and 4 to the left, by its bits.
-fn left_by_calls() -> (Option<i8>, (i8, bool), i8, i8) {
-    let (y, x) = (Fixed::<i8, 4> { bits: 48 }, Fixed::<i8, 4> { bits: -64 });
-    let (checked, (left, past), saturating, wrapping) = calls_at(y, x);
-    let checked = match checked {
-        Some(angle) => Some(angle.bits),
-        None => None,
-    };
-    (checked, (left.bits, past), saturating.bits, wrapping.bits)
-}
-
 #[test]
-fn angle_calls(rt: HostRuntime) {
-    assert!(rt; left_by_calls() == (Some(6), (6, false), 6, 6));
-    let none = Fixed::<i8, 4> { bits: 0 };
+fn turn_calls_at_angles(rt: HostRuntime) {
+    let (checked, overflowing, saturating, wrapping) = left_by_calls::<4>(48, -64);
+    assert!(rt; checked == [Some(0), Some(16), Some(6)]);
+    assert!(rt; overflowing == [(0, false), (16, false), (6, false)]);
+    assert!(rt; saturating == [0, 16, 6]);
+    assert!(rt; wrapping == [0, 16, 6]);
+    let none = FixedI8::<4> { bits: 0 };
     assert!(rt; none.checked_atan2_turns(none).is_none());
-    let number = FixedI32::<16> { bits: 12345 };
-    assert!(rt; angle_of(number, number).bits == 8192);
 }
