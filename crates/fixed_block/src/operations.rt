@@ -243,7 +243,7 @@ impl<T: Word> Pairs<T> for Add {
 
     #[inline(always)]
     fn is_tested_first(&self) -> bool {
-        T::BITS <= 16 && !T::SIGNED
+        T::BITS == 8 || T::BITS == 16 && !T::SIGNED
     }
 }
 
@@ -268,7 +268,7 @@ impl<T: Word> Pairs<T> for Sub {
 
     #[inline(always)]
     fn is_tested_first(&self) -> bool {
-        T::BITS <= 16 && !T::SIGNED
+        T::BITS == 8 || T::BITS == 16 && !T::SIGNED
     }
 }
 

@@ -1,9 +1,6 @@
-use Rattle.std.proofs.Common.{ap, sym, ◌∙◌, arith, length, pos, take}
-use Rattle.fixed_word.specs.Format.{wrap}
+use Rattle.std.proofs.Common.{ap, sym, ◌∙◌, arith, length, take}
 use Rattle.fixed_word.proofs.Wraps.{width_pos}
-use Rattle.fixed_policy.specs.DotProduct.{pairs}
-use Rattle.fixed_filter.specs.Replies.{accumulator}
-use Rattle.fixed_filter.proofs.Sums.{as_many, of_slice}
+use Rattle.fixed_filter.proofs.Sums.{of_slice}
 use Rattle.fixed_filter.proofs.Untested.{wrap_of_zero, wrapped_step}
 use Rattle.fixed_filter.proofs.accumulation.wrapped_sum_of_past.Goals as goal
 
