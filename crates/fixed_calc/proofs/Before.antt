@@ -1,6 +1,7 @@
 -- A script without a rounding word has the meaning that it had before.
 use Rattle.std.proofs.Common.{◌≡◌, ℕ, suc, ℤ, Bool, true, false, List, [], ◌∷◌, ◌++◌, drop, Option, Some, None, Result, if◌then◌else◌, refl, sym, ap, subst, ◌∙◌, arith, append_assoc}
 use Rattle.std.specs.Option.{option_map, option_and_then}
+use Rattle.std.specs.Prelude.{slice_index_or}
 use Rattle.std.specs.List.{All, join_with_byte}
 use Rattle.std.specs.Str.{bytes_eq}
 use Rattle.std.proofs.lemmas.Bool.{false≢true}
@@ -16,7 +17,7 @@ use Rattle.fixed_script.specs.declared.names.Op.TheVariants.{Neg, Add, Sub, Mul,
 use Rattle.fixed_script.specs.Names.{policy_name, op_name, rounding_name}
 use Rattle.fixed_script.specs.Text.{ScriptLine, SetTo, Apply, Operands, IsLine, register_text, operand_tokens, line_text}
 use Rattle.fixed_text.specs.Inverse.{if_its_text}
-use Rattle.fixed_script.specs.Lines.{line_in, line_of, line_of_piece}
+use Rattle.fixed_script.specs.Lines.{line_in, line_of, line_of_piece, header_of_piece}
 use Rattle.fixed_script.proofs.Joined.{tokens_of_line}
 use Rattle.fixed_text.proofs.Inverses.{its_text, has_text}
 use Rattle.fixed_script.proofs.TextsRead.{line_back, line_is}
@@ -24,12 +25,13 @@ use Rattle.fixed_machine.specs.Answers.{answer_text}
 use Rattle.fixed_machine.specs.Projection.{project}
 use Rattle.fixed_machine.specs.Rows.{exact}
 use Rattle.fixed_machine.specs.Machine.{State, OperandValues, operand_values, row_of, row_by, row_cause, is_unoffered, is_out_of_range, is_mismatched, stored, answer_by}
-use Rattle.fixed_text.specs.Runs.{first_piece, first_then, meaning_of}
+use Rattle.fixed_text.specs.Runs.{meaning_of, run_then}
 use Rattle.fixed_text.proofs.Turns.{lines_alike}
-use Rattle.fixed_machine.specs.Meaning.{by_cause, step_by, script_header, script_line, script_run}
+use Rattle.fixed_machine.specs.Meaning.{step_by, started, script_run}
+use Rattle.fixed_machine.specs.inside.Lines.{by_cause, script_line}
 use Rattle.fixed_machine.specs.declared.cause.Cause.{Cause}
 use Rattle.fixed_machine.specs.declared.cause.Cause.TheVariants.{Syntax, OutOfRange, FractionMismatch}
-use Rattle.fixed_calc.specs.Before.{old_row, names_none, without_rounding, old_line_of, old_line_of_piece, old_line, ReadsOldLines, EndsInRounding, MeansAsBefore}
+use Rattle.fixed_calc.specs.Before.{old_row, names_none, without_rounding, old_line_of, old_line_of_piece, ReadsOldLines, EndsInRounding, MeansAsBefore}
 use Rattle.fixed_calc.proofs.Headed.{body_by}
 
 -- ---- the old reading
@@ -173,6 +175,9 @@ step_alike s k (Some (SetTo dest x)) free = refl
 step_alike s k (Some (Apply dest policy op xs None)) free = ap (row_step s k dest policy op xs) (same_row op (operand_values s.registers xs))
 step_alike s k (Some (Apply dest policy op xs (Some r))) free = absurd (false≢true (free _ refl))
 
+abbrev old_line : State → ℕ → List ℕ → Result (State × List ℕ) Cause
+old_line s k piece = step_by old_row s k (old_line_of_piece piece)
+
 abbrev Fine : List ℕ → Type 0
 Fine piece = EndsInRounding piece → ⊥
 
@@ -187,4 +192,4 @@ pub means_as_before : MeansAsBefore
 unfolding script_run
 means_as_before script free =
     let ps = pieces script in
-    λ i. meaning_of (first_then (script_header (first_piece ps)) (λ s. lines_alike script_line old_line Fine line_alike s 2 (drop 1 ps) (others_fine ps free) i))
+    λ i. meaning_of (run_then None (started (header_of_piece (slice_index_or ps 0 []))) (λ s. lines_alike script_line old_line Fine line_alike s 2 (drop 1 ps) (others_fine ps free) i))

@@ -13,8 +13,9 @@ use Rattle.fixed_machine.specs.Answers.{answer_text, ended}
 use Rattle.fixed_script.specs.Text.{header_text, header_tokens, ScriptLine, line_text}
 use Rattle.fixed_script.specs.Lines.{line_of_piece}
 use Rattle.fixed_machine.specs.Machine.{State, Cell, row_by, cause, answer, move}
-use Rattle.fixed_text.specs.Runs.{Run, Output, Fault, step_then, lines_from}
-use Rattle.fixed_machine.specs.Meaning.{by_cause, step_by, run_lines, script_run, start, zeros, fractions_of, meaning}
+use Rattle.fixed_text.specs.Runs.{Run, Output, Fault, lines_from, run_then}
+use Rattle.fixed_machine.specs.Meaning.{step_by, script_run, start, zeros, fractions_of, meaning}
+use Rattle.fixed_machine.specs.inside.Lines.{by_cause, run_lines}
 use Rattle.fixed_calc.specs.Demo.{demo_header, demo_lines, demo_text, answers_from, demo_answers}
 use Rattle.fixed_text.proofs.Ended.{pieces_ended}
 use Rattle.fixed_machine.proofs.Ended.{line_read, header_read}
@@ -42,10 +43,10 @@ pub record Gives (run : Run State Cause) (bytes : List ℕ) : Type 0 where
   pub no_cause : run.cause ≡ None
   pub its_output : run.output ≡ bytes
 
-step_gives : (s : State) (k : ℕ) (p : List ℕ) (l : ScriptLine) (bytes : List ℕ) (next : State → Run State Cause) → line_of_piece p ≡ Some l → cause s l k ≡ None → Gives (next (move s l)) bytes → Gives (step_then s (step_by row_by s k (line_of_piece p)) next) (answer_text (answer s l) ++ bytes)
+step_gives : (s : State) (k : ℕ) (p : List ℕ) (l : ScriptLine) (bytes : List ℕ) (next : State → Run State Cause) → line_of_piece p ≡ Some l → cause s l k ≡ None → Gives (next (move s l)) bytes → Gives (run_then (Some s) (step_by row_by s k (line_of_piece p)) next) (answer_text (answer s l) ++ bytes)
 step_gives s k p l bytes next is none later =
-    subst (λ (o : Option ScriptLine). Gives (step_then s (step_by row_by s k o) next) (answer_text (answer s l) ++ bytes)) (sym is)
-    (subst (λ (o : Option Cause). Gives (step_then s (by_cause o (move s l, answer_text (answer s l))) next) (answer_text (answer s l) ++ bytes)) (sym none)
+    subst (λ (o : Option ScriptLine). Gives (run_then (Some s) (step_by row_by s k o) next) (answer_text (answer s l) ++ bytes)) (sym is)
+    (subst (λ (o : Option Cause). Gives (run_then (Some s) (by_cause o (move s l, answer_text (answer s l))) next) (answer_text (answer s l) ++ bytes)) (sym none)
     (record { no_cause = later.no_cause; its_output = ap (λ (bs : List ℕ). answer_text (answer s l) ++ bs) later.its_output }))
 
 lines_give : (s : State) (k : ℕ) (ls : List ScriptLine) → IsReady s → All IsDrawn ls → Gives (run_lines s k (map ended_line ls)) (flat_map answer_text (answers_from s ls))

@@ -8,8 +8,9 @@ use Rattle.std.proofs.lemmas.List.{take_more, take_all}
 use Rattle.fixed_word.specs.Pieces.{pieces, body}
 use Rattle.fixed_script.specs.Text.{ScriptHeader, header_text}
 use Rattle.fixed_script.specs.Lines.{header_of, header_of_piece}
-use Rattle.fixed_text.specs.Runs.{Output, first_then}
-use Rattle.fixed_machine.specs.Meaning.{started, run_lines, script_run, meaning}
+use Rattle.fixed_text.specs.Runs.{Output, run_then}
+use Rattle.fixed_machine.specs.Meaning.{started, script_run, meaning}
+use Rattle.fixed_machine.specs.inside.Lines.{run_lines}
 use Rattle.fixed_machine.proofs.Runs.{run_pieces}
 use Rattle.fixed_calc.specs.Widening.{script_of}
 use Rattle.fixed_text.proofs.Cutting.{pieces_joined}
@@ -41,7 +42,7 @@ header_piece p h e = header_by p h (body p) refl e
 abbrev IsHeaded : List ℕ → Type 0
 IsHeaded script = (header : ScriptHeader) × ((lines : List ℕ) × (script ≡ script_of header lines))
 
-headed_by : (script p : List ℕ) (ps : List (List ℕ)) (o : Option ScriptHeader) → header_of_piece p ≡ o → pieces script ≡ p ∷ ps → (first_then (started o) (λ s. run_lines s 2 ps)).cause ≡ None → IsHeaded script
+headed_by : (script p : List ℕ) (ps : List (List ℕ)) (o : Option ScriptHeader) → header_of_piece p ≡ o → pieces script ≡ p ∷ ps → (run_then None (started o) (λ s. run_lines s 2 ps)).cause ≡ None → IsHeaded script
 headed_by script p ps None is cut fine = cc
 headed_by script p ps (Some h) is cut fine = (
   h,

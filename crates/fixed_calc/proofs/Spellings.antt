@@ -22,12 +22,13 @@ use Rattle.fixed_script.specs.Capped.{capped, checked_script_line, literal_value
 use Rattle.fixed_script.specs.Lines.{line_of, line_of_piece, header_of_piece}
 use Rattle.fixed_script.proofs.TextsRead.{reads_lines}
 use Rattle.fixed_machine.specs.Answers.{answer_text, ended}
-use Rattle.fixed_machine.specs.Machine.{State, OperandValues, operand_values, row_by, row_cause, late_cause_by, literals_of, registers_of, is_unoffered, is_out_of_range, is_mismatched, stored, cause, answer, move, answer_by}
+use Rattle.fixed_machine.specs.Machine.{State, OperandValues, operand_values, row_by, row_cause, late_cause_by, literals_of, registers_of, is_unoffered, is_out_of_range, is_mismatched, stored, cause, answer, answer_by}
 use Rattle.fixed_text.specs.Words.{is_signed, width}
 use Rattle.fixed_machine.specs.Rows.{exact}
 use Rattle.fixed_machine.specs.Projection.{project}
-use Rattle.fixed_text.specs.Runs.{step_then, first_then, lines_from, meaning_of}
-use Rattle.fixed_machine.specs.Meaning.{by_cause, step_by, started, run_lines, script_run}
+use Rattle.fixed_text.specs.Runs.{lines_from, meaning_of, run_then}
+use Rattle.fixed_machine.specs.Meaning.{step_by, started, script_run}
+use Rattle.fixed_machine.specs.inside.Lines.{by_cause, run_lines}
 use Rattle.fixed_machine.proofs.Runs.{run_pieces}
 use Rattle.fixed_machine.specs.declared.cause.Cause.TheVariants.{Syntax, OutOfRange, FractionMismatch}
 use Rattle.fixed_calc.specs.Spelled.{spelled_line, Spelling, Written, NoForm, in_front, spell_then, spelled_lines, spelled_from, spelled_pieces, spelled, KeepsMeaning}
@@ -234,7 +235,7 @@ abbrev KeepsLines : ℕ → List (List ℕ) → Type 0
 KeepsLines k ps = (s : State) (bytes : List ℕ) → spelled_lines k ps ≡ Written bytes → run_lines s k (pieces bytes) ≡ run_lines s k ps
 
 piece_kept : (s : State) (k : ℕ) (p : List ℕ) (ps : List (List ℕ)) (bytes : List ℕ) (o : Option ScriptLine) (rest : Spelling) → line_of_piece p ≡ o → spelled_lines (k + 1) ps ≡ rest → KeepsLines (k + 1) ps
-    → spell_then k o rest ≡ Written bytes → run_lines s k (pieces bytes) ≡ step_then s (step_by row_by s k o) (λ t. run_lines t (k + 1) ps)
+    → spell_then k o rest ≡ Written bytes → run_lines s k (pieces bytes) ≡ run_then (Some s) (step_by row_by s k o) (λ t. run_lines t (k + 1) ps)
 unfolding lines_from
 piece_kept s k p ps bytes None rest is later keeps e = cc
 piece_kept s k p ps bytes (Some l) (NoForm j) is later keeps e = cc
@@ -243,23 +244,23 @@ piece_kept s k p ps bytes (Some l) (Written more) is later keeps e =
     let written = written_same (ended t ++ more) bytes e in
     let cut = ended_pieces t more (pieces_ended t more (line_lacks (spelled_line l))) in
     ap (λ bs. run_lines s k (pieces bs)) (sym written) ∙ ap (run_lines s k) cut
-    ∙ ap (λ o. step_then s (step_by row_by s k o) (λ u. run_lines u (k + 1) (pieces more))) (line_read (spelled_line l) (still_line l (piece_line p l is)))
-    ∙ (λ i. step_then s (step_spelled s k l i) (λ u. keeps u more later i))
+    ∙ ap (λ o. run_then (Some s) (step_by row_by s k o) (λ u. run_lines u (k + 1) (pieces more))) (line_read (spelled_line l) (still_line l (piece_line p l is)))
+    ∙ (λ i. run_then (Some s) (step_spelled s k l i) (λ u. keeps u more later i))
 
 lines_kept : (ps : List (List ℕ)) (k : ℕ) → KeepsLines k ps
 unfolding lines_from spelled_lines
 lines_kept [] k s bytes e = ap (λ bs. run_lines s k (pieces bs)) (sym (written_same [] bytes e))
 lines_kept (p ∷ ps) k s bytes e = piece_kept s k p ps bytes (line_of_piece p) (spelled_lines (k + 1) ps) refl refl (lines_kept ps (k + 1)) e
 
-header_kept : (o : Option ScriptHeader) (ps : List (List ℕ)) (bytes : List ℕ) (rest : Spelling) → spelled_lines 2 ps ≡ rest → (spelled_from o ps ≡ Written bytes) → run_pieces (pieces bytes) ≡ first_then (started o) (λ s. run_lines s 2 ps)
+header_kept : (o : Option ScriptHeader) (ps : List (List ℕ)) (bytes : List ℕ) (rest : Spelling) → spelled_lines 2 ps ≡ rest → (spelled_from o ps ≡ Written bytes) → run_pieces (pieces bytes) ≡ run_then None (started o) (λ s. run_lines s 2 ps)
 header_kept None ps bytes rest later e = cc
 header_kept (Some h) ps bytes (NoForm k) later e = let f : in_front (ended (header_text h)) (NoForm k) ≡ Written bytes = ap (in_front (ended (header_text h))) (sym later) ∙ e in cc
 header_kept (Some h) ps bytes (Written more) later e =
     let f : in_front (ended (header_text h)) (Written more) ≡ Written bytes = ap (in_front (ended (header_text h))) (sym later) ∙ e in
     let written = written_same (ended (header_text h) ++ more) bytes f in
     let cut = ended_pieces (header_text h) more (script_pieces h more) in
-    ap (λ bs. run_pieces (pieces bs)) (sym written) ∙ ap run_pieces cut ∙ ap (λ o. first_then (started o) (λ s. run_lines s 2 (pieces more))) (header_read h)
-    ∙ (λ i. first_then (started (Some h)) (λ s. lines_kept ps 2 s more later i))
+    ap (λ bs. run_pieces (pieces bs)) (sym written) ∙ ap run_pieces cut ∙ ap (λ o. run_then None (started o) (λ s. run_lines s 2 (pieces more))) (header_read h)
+    ∙ (λ i. run_then None (started (Some h)) (λ s. lines_kept ps 2 s more later i))
 
 pieces_kept : (ps : List (List ℕ)) (bytes : List ℕ) → spelled_pieces ps ≡ Written bytes → run_pieces (pieces bytes) ≡ run_pieces ps
 pieces_kept [] bytes e = cc

@@ -11,11 +11,13 @@ use Rattle.fixed_text.specs.Words.{width}
 use Rattle.fixed_machine.specs.Answers.{answer_text, ended}
 use Rattle.fixed_script.specs.Text.{ScriptHeader, header_text, header_tokens, ScriptLine}
 use Rattle.fixed_machine.specs.Machine.{State, row_by, cause, answer, move}
-use Rattle.fixed_text.specs.Runs.{Run, Output, Fault, after, step_then, lines_from}
-use Rattle.fixed_machine.specs.Meaning.{by_cause, step_by, run_lines, script_run, start, has_wide, fractions_of, meaning}
+use Rattle.fixed_text.specs.Runs.{Run, Output, Fault, lines_from, run_then}
+use Rattle.fixed_text.specs.inside.Ends.{after}
+use Rattle.fixed_machine.specs.Meaning.{step_by, script_run, start, has_wide, fractions_of, meaning}
+use Rattle.fixed_machine.specs.inside.Lines.{by_cause, run_lines}
 use Rattle.fixed_calc.specs.Widening.{IsWider, script_of, with_word, row_fits, fits_then, rows_fit}
 use Rattle.fixed_digits.proofs.Decimals.{both}
-use Rattle.fixed_digits.proofs.Lacking.{lacks, naturals_lack, joined_lack}
+use Rattle.fixed_digits.proofs.Lacking.{naturals_lack, joined_lack}
 use Rattle.fixed_machine.proofs.Runs.{run_of_lines, run_of_wide}
 use Rattle.fixed_calc.proofs.Twice.{output_of}
 use Rattle.fixed_text.proofs.Ended.{pieces_ended, word_lacks}
@@ -33,15 +35,15 @@ module _ (wide : WordName) where
   AreAlike k ps s = IsWider s.word wide → rows_fit s ps ≡ true → IsAlike (run_lines s k ps) (run_lines (widened wide s) k ps)
 
   moved : (s : State) (k : ℕ) (l : ScriptLine) (next : State → Run State Cause) → IsWider s.word wide → row_fits s l ≡ true → cause s l k ≡ None
-      → step_then (widened wide s) (step_by row_by (widened wide s) k (Some l)) next ≡ after (answer_text (answer s l)) (next (widened wide (move s l)))
+      → run_then (Some (widened wide s)) (step_by row_by (widened wide s) k (Some l)) next ≡ after (answer_text (answer s l)) (next (widened wide (move s l)))
   moved s k l next wider fit none =
       let t = widened wide s in
-      ap (λ (o : Option Cause). step_then t (by_cause o (move t l, answer_text (answer t l))) next) (still_no_cause s wide wider l k fit none)
+      ap (λ (o : Option Cause). run_then (Some t) (by_cause o (move t l, answer_text (answer t l))) next) (still_no_cause s wide wider l k fit none)
       ∙ (λ i. after (answer_text (same_answer s wide wider l fit i)) (next (same_move s wide wider l fit i)))
 
   one_line : (s : State) (k : ℕ) (ps : List (List ℕ)) (l : ScriptLine) (o : Option Cause) → cause s l k ≡ o → IsWider s.word wide → row_fits s l ≡ true
       → IsAlike (run_lines (move s l) (k + 1) ps) (run_lines (widened wide (move s l)) (k + 1) ps)
-      → IsAlike (step_then s (by_cause o (move s l, answer_text (answer s l))) (λ t. run_lines t (k + 1) ps)) (step_then (widened wide s) (step_by row_by (widened wide s) k (Some l)) (λ t. run_lines t (k + 1) ps))
+      → IsAlike (run_then (Some s) (by_cause o (move s l, answer_text (answer s l))) (λ t. run_lines t (k + 1) ps)) (run_then (Some (widened wide s)) (step_by row_by (widened wide s) k (Some l)) (λ t. run_lines t (k + 1) ps))
   one_line s k ps l (Some c) is wider fit later fine = cc
   one_line s k ps l None is wider fit later fine =
       let e = moved s k l (λ t. run_lines t (k + 1) ps) wider fit is in
@@ -49,7 +51,7 @@ module _ (wide : WordName) where
       (ap (λ (r : Run State Cause). r.cause) e ∙ rest.0, ap (λ (r : Run State Cause). r.output) e ∙ ap (λ (bytes : List ℕ). answer_text (answer s l) ++ bytes) rest.1)
 
   one_piece : (s : State) (k : ℕ) (ps : List (List ℕ)) (o : Option ScriptLine) → ((t : State) → AreAlike (k + 1) ps t) → IsWider s.word wide → fits_then s o (λ t. rows_fit t ps) ≡ true
-      → IsAlike (step_then s (step_by row_by s k o) (λ t. run_lines t (k + 1) ps)) (step_then (widened wide s) (step_by row_by (widened wide s) k o) (λ t. run_lines t (k + 1) ps))
+      → IsAlike (run_then (Some s) (step_by row_by s k o) (λ t. run_lines t (k + 1) ps)) (run_then (Some (widened wide s)) (step_by row_by (widened wide s) k o) (λ t. run_lines t (k + 1) ps))
   one_piece s k ps None later wider fit fine = cc
   one_piece s k ps (Some l) later wider fit fine =
       let parts = both (row_fits s l) (rows_fit (move s l) ps) fit in

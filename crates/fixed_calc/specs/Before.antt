@@ -1,6 +1,6 @@
 -- What a script meant before a line could name its rounding: the same run, over lines without a rounding, whose rows use
 -- none.
-use Rattle.std.specs.Prelude.{◌≡◌, ◌↔◌, ◌++◌, ℕ, Bool, true, false, List, [], ◌∷◌, Option, Some, None, Result}
+use Rattle.std.specs.Prelude.{◌≡◌, ◌↔◌, ◌++◌, ℕ, Bool, true, false, List, [], ◌∷◌, Option, Some, None}
 use Rattle.std.specs.Option.{option_map, option_and_then}
 use Rattle.std.specs.List.{All}
 use Rattle.fixed_word.specs.declared.rounding.Rounding.{Rounding}
@@ -8,15 +8,15 @@ use Rattle.fixed_word.specs.Pieces.{pieces, body}
 use Rattle.fixed_word.specs.Quotient.{truncated_quotient}
 use Rattle.fixed_kernel.specs.Rows.{by_divisor, exact_mul, exact_div, exact_recip, exact_mul_add, exact_add_prod}
 use Rattle.fixed_text.specs.Inverse.{if_its_text}
-use Rattle.fixed_text.specs.Runs.{run_of, Meaning, meaning_of}
+use Rattle.fixed_text.specs.Runs.{Meaning, meaning_of}
 use Rattle.fixed_text.specs.Tokens.{tokens_of}
 use Rattle.fixed_script.specs.declared.names.Op.TheVariants.{Mul, Div, Recip, MulAdd, AddProd, DivInt}
 use Rattle.fixed_script.specs.Names.{rounding_name}
 use Rattle.fixed_script.specs.Text.{ScriptLine, SetTo, Apply, IsLine, line_text}
 use Rattle.fixed_script.specs.Lines.{line_in}
 use Rattle.fixed_machine.specs.declared.cause.Cause.{Cause}
-use Rattle.fixed_machine.specs.Machine.{State, Row, row_of}
-use Rattle.fixed_machine.specs.Meaning.{script_header, step_by, meaning}
+use Rattle.fixed_machine.specs.Machine.{Row, row_of}
+use Rattle.fixed_machine.specs.Meaning.{run_by, meaning}
 
 -- ---- reading
 abbrev pub names_none : ScriptLine → Bool
@@ -46,11 +46,8 @@ old_row rounding AddProd t = Some (exact_add_prod t.a.bits t.b.bits t.c.bits t.a
 old_row rounding DivInt t = by_divisor t.b.bits (truncated_quotient t.a.bits t.b.bits)
 old_row rounding op t = row_of op t
 
-abbrev pub old_line : State → ℕ → List ℕ → Result (State × List ℕ) Cause
-old_line s k piece = step_by old_row s k (old_line_of_piece piece)
-
 abbrev pub old_meaning : List ℕ → Meaning Cause
-old_meaning script = meaning_of (run_of script_header old_line script)
+old_meaning script = meaning_of (run_by old_row old_line_of_piece script)
 
 -- ---- the laws
 -- the old reading finds exactly the lines that name no rounding

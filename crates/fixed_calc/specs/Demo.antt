@@ -8,7 +8,7 @@ use Rattle.fixed_machine.specs.declared.answer.Answer.{Answer}
 use Rattle.fixed_machine.specs.declared.answer.Answer.TheVariants.{Absent, Flagged}
 use Rattle.fixed_script.specs.Text.{ScriptHeader, header_text, ScriptLine, SetTo, Apply, OneRegister, TwoRegisters, ThreeRegisters, line_text}
 use Rattle.fixed_machine.specs.Answers.{ended}
-use Rattle.fixed_machine.specs.Machine.{State, answer, move}
+use Rattle.fixed_machine.specs.Machine.{State, row_by, answer_by, move_by}
 use Rattle.fixed_machine.specs.Meaning.{start}
 
 -- ---- the draws
@@ -58,7 +58,7 @@ demo_text n = ended (header_text demo_header) ++ flat_map (λ line. ended (line_
 -- the answers of lines, one after another, from a state on
 abbrev pub answers_from : State → List ScriptLine → List Answer
 answers_from s [] = []
-answers_from s (line ∷ lines) = answer s line ∷ answers_from (move s line) lines
+answers_from s (line ∷ lines) = answer_by row_by s line ∷ answers_from (move_by row_by s line) lines
 
 unfoldable pub demo_answers : ℕ → List Answer
 demo_answers n = answers_from (start demo_header) (demo_lines n)

@@ -1,6 +1,6 @@
 -- What a script of channels and samples prints.
 use Rattle.std.proofs.Common.{◌≡◌, ◌+◌, ◌&&◌, ℕ, suc, ℤ, Bool, true, false, eqb, cond, if◌then◌else◌, List, [], ◌∷◌, ◌++◌, length, map, drop, Option, Some, None, Result, refl, sym, ap, ◌∙◌, append_assoc}
-use Rattle.std.specs.Prelude.{nat_lt}
+use Rattle.std.specs.Prelude.{nat_lt, slice_index_or}
 use Rattle.std.specs.Option.{option_map_or}
 use Rattle.std.specs.List.{list_all}
 use Rattle.std.specs.Cmp.Derive.{both_true}
@@ -8,8 +8,8 @@ use Rattle.std.proofs.lemmas.List.{append-nil, map-append}
 use Rattle.fixed_word.specs.Decimal.{whole_text}
 use Rattle.fixed_word.specs.Format.{fits}
 use Rattle.fixed_word.specs.Pieces.{pieces, body}
-use Rattle.fixed_text.specs.Runs.{lines_from, first_piece, first_then, Meaning, meaning_of, Output, Fault}
-use Rattle.fixed_text.specs.Readings.{Reading, Malformed, Read, in_range, read_map, fitting_number, fitting_numbers, PieceCause, at_piece, piece_by, line_by}
+use Rattle.fixed_text.specs.Runs.{run_then, lines_from, Meaning, meaning_of, Output, Fault}
+use Rattle.fixed_text.specs.Readings.{Reading, Malformed, Read, in_range, read_map, fitting_number, fitting_numbers, PieceCause, at_piece, first_at, piece_by, line_by}
 use Rattle.fixed_text.proofs.Ended.{pieces_ended, body_ended, word_lacks}
 use Rattle.fixed_text.proofs.Turns.{line_moves}
 use Rattle.fixed_text.specs.Words.{is_signed, width}
@@ -147,7 +147,7 @@ module _ (signed : Bool) (n : ℕ) (shape : Shape) where
 
 -- ---- the script
 abbrev opened : Reading FilterState → List (List ℕ) → Meaning PieceCause
-opened reading ps = meaning_of (first_then (at_piece 1 reading) (λ s. lines_from step s 2 ps))
+opened reading ps = meaning_of (run_then None (first_at reading) (λ s. lines_from step s 2 ps))
 
 pub script_printed : (h : FilterHeader) (cs : List (ℤ × List ℤ)) (samples : List (ℕ × ℤ)) → shape_fits (width h.word) (shape_of h) ≡ true → all_fit (is_signed h.word) (width h.word) (taps_of_channels cs) ≡ true
     → are_samples (is_signed h.word) (width h.word) (length (taps_of_channels cs)) samples ≡ true
@@ -156,7 +156,7 @@ script_printed h cs samples shape_fit fit sampled =
     let lines = channels_and_samples cs samples in
     let ps = map ended (map line_text lines) in
     let first = start (is_signed h.word) (width h.word) (shape_of h) in
-    ap (λ (ps : List (List ℕ)). opened (piece_by filter_first (body (first_piece ps))) (drop 1 ps)) (pieces_of_texts (header_text h ∷ map line_text lines) (both_true (header_lacks h) (lines_lack lines)))
+    ap (λ (ps : List (List ℕ)). opened (piece_by filter_first (body (slice_index_or ps 0 []))) (drop 1 ps)) (pieces_of_texts (header_text h ∷ map line_text lines) (both_true (header_lacks h) (lines_lack lines)))
     ∙ ap (λ (o : Option (List ℕ)). opened (piece_by filter_first o) ps) (body_ended (header_text h))
     ∙ ap (λ (o : Option FilterHeader). opened (header_read o) ps) (header_reader.again h)
     ∙ ap (λ (b : Bool). opened (in_range b (Read first)) ps) shape_fit

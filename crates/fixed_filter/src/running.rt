@@ -4,8 +4,8 @@ ghost use Rattle.std.specs.Prelude.{◌≡◌, ◌++◌, ◌<◌, [], Err, IfSom
 ghost use Rattle.fixed_word.specs.Pieces.{pieces};
 ghost use Rattle.fixed_digits.specs.Numerals.{cap};
 ghost use Rattle.fixed_text.specs.Numbers.{only_number, wholes_in};
-ghost use Rattle.fixed_text.specs.Runs.{first_then, lines_from, meaning_of};
-ghost use Rattle.fixed_text.specs.Readings.{Read, at_piece, line_by};
+ghost use Rattle.fixed_text.specs.Runs.{lines_from, meaning_of, run_then};
+ghost use Rattle.fixed_text.specs.Readings.{Read, first_at, line_by};
 ghost use Rattle.fixed_text.specs.Answers.{IsAnswerOfRun, IsStepOfLine};
 ghost use Rattle.fixed_filter.specs.Banks.{IsShape, change_at, with_sample};
 ghost use Rattle.fixed_filter.specs.declared.reply.Reply.TheVariants.{Overflow};
@@ -224,8 +224,8 @@ fn run_shape<T: Word>(alloc: Global, shape: Shape, lines: &[u8]) -> Result<Outpu
 }
 
 impl InWord for Header {
-    ghost meaning = { λ header lines signed bits. meaning_of (first_then
-        (at_piece 1 (started signed bits (record
+    ghost meaning = { λ header lines signed bits. meaning_of (run_then None
+        (first_at (started signed bits (record
         { out_frac = header.out; coef_frac = header.coef; sample_frac = header.sample })))
         (λ state. lines_from (line_by filter_line) state 2 (pieces lines))) };
 

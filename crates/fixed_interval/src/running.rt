@@ -6,8 +6,8 @@ ghost use Rattle.fixed_word.specs.Decimal.{whole_text};
 ghost use Rattle.fixed_word.specs.Pieces.{pieces};
 ghost use Rattle.fixed_text.specs.Decimals.{decimal_of};
 ghost use Rattle.fixed_digits.specs.Numerals.{cap};
-ghost use Rattle.fixed_text.specs.Runs.{first_then, lines_from, meaning_of};
-ghost use Rattle.fixed_text.specs.Readings.{at_piece, line_by};
+ghost use Rattle.fixed_text.specs.Runs.{lines_from, meaning_of, run_then};
+ghost use Rattle.fixed_text.specs.Readings.{first_at, line_by};
 ghost use Rattle.fixed_text.specs.Answers.{IsAnswerOfRun, IsStepOfLine};
 ghost use Rattle.fixed_interval.specs.inside.Capped.{capped_request};
 ghost use Rattle.fixed_interval.specs.Ends.{ends_of, fitting};
@@ -223,8 +223,8 @@ impl<T: Word> Run for IntervalRun<T> {
 }
 
 impl InWord for Header {
-    ghost meaning = { λ header lines signed bits. meaning_of (first_then
-        (at_piece 1 (started signed bits header.frac header.count))
+    ghost meaning = { λ header lines signed bits. meaning_of (run_then None
+        (first_at (started signed bits header.frac header.count))
         (λ state. lines_from (line_by interval_line) state 2 (pieces lines))) };
 
     fn run_in<T: Word>(self, alloc: Global, lines: &[u8]) -> Result<Output, RunFault> {

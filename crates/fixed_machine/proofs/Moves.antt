@@ -3,10 +3,11 @@ use Rattle.std.proofs.Common.{◌≡◌, ◌∙◌, ◌+◌, ◌*◌, ◌≤◌,
 use Rattle.std.proofs.lemmas.List.{drop-drop, length-drop}
 use Rattle.fixed_text.specs.declared.names.WordName.{WordName}
 use Rattle.fixed_word.specs.Pieces.{pieces}
-use Rattle.fixed_text.specs.Runs.{Run, after}
+use Rattle.fixed_text.specs.Runs.{Run}
+use Rattle.fixed_text.specs.inside.Ends.{after}
 use Rattle.fixed_machine.specs.Machine.{State}
 use Rattle.fixed_machine.specs.declared.cause.Cause.{Cause}
-use Rattle.fixed_machine.specs.Meaning.{run_lines}
+use Rattle.fixed_machine.specs.inside.Lines.{run_lines}
 use Rattle.fixed_machine.specs.Rooms.{KeepsRoom, Space}
 use Rattle.fixed_machine.specs.Step.{state_in}
 use Rattle.fixed_machine.specs.inside.Moves.{HasMoved, HaveMoved}

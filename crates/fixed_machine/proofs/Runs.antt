@@ -1,6 +1,7 @@
 -- A run, one line at a time.
 use Rattle.std.proofs.Common.{◌≡◌, ◌+◌, ◌≤◌, ◌*◌, if◌then◌else◌, Bool, true, false, subst, ℕ, List, [], ◌∷◌, ◌++◌, map, length, drop, nat_lt, Option, Some, None, Ok, Err, Result, refl, sym, ap, ◌∙◌, arith}
 use Rattle.std.specs.List.{All}
+use Rattle.std.specs.Prelude.{slice_index_or}
 use Rattle.std.proofs.lemmas.List.Elements.{All-nil, All-cons}
 use Rattle.std.proofs.lemmas.Bool.Decides.{nat_tests}
 use Rattle.fixed_text.specs.declared.names.WordName.{WordName}
@@ -12,9 +13,11 @@ use Rattle.fixed_digits.specs.Numerals.{cap}
 use Rattle.fixed_script.specs.Text.{ScriptHeader, ScriptLine}
 use Rattle.fixed_machine.specs.Machine.{State, Cell, row_by, answer, move}
 use Rattle.fixed_text.specs.Words.{width}
-use Rattle.fixed_text.specs.Runs.{Run, after, stopped, first_piece, first_then}
+use Rattle.fixed_text.specs.Runs.{Run, run_then}
+use Rattle.fixed_text.specs.inside.Ends.{after, stopped}
 use Rattle.fixed_text.proofs.Turns.{nothing_left, turn, cause_turn}
-use Rattle.fixed_machine.specs.Meaning.{by_cause, step_by, script_header, script_line, run_lines, script_run, started, start, has_wide, fractions_of, zeros}
+use Rattle.fixed_machine.specs.Meaning.{step_by, script_run, started, start, has_wide, fractions_of, zeros}
+use Rattle.fixed_machine.specs.inside.Lines.{by_cause, script_line, run_lines}
 use Rattle.fixed_script.specs.Lines.{line_of_piece, header_of_piece}
 use Rattle.fixed_machine.specs.Rooms.{Space, IsAnswerOfRun, HoldsState}
 use Rattle.fixed_machine.specs.Step.{IsStepOfLine, state_in, IsCell}
@@ -70,22 +73,22 @@ told_fault r s k p answers c room e a w h =
 
 -- ---- the header
 abbrev pub run_pieces : List (List ℕ) → Run State Cause
-run_pieces ps = first_then (script_header (first_piece ps)) (λ s. run_lines s 2 (drop 1 ps))
+run_pieces ps = run_then None (started (header_of_piece (slice_index_or ps 0 []))) (λ s. run_lines s 2 (drop 1 ps))
 
 pub run_of_nil : (script : List ℕ) → script ≡ [] → script_run script ≡ stopped None (Syntax 1)
 unfolding script_run header_of_piece
 run_of_nil script is = rw is refl
 
 module _ (script p : List ℕ) (ps : List (List ℕ)) (cut : pieces script ≡ p ∷ ps) where
-  pub run_of_pieces : (h : Option ScriptHeader) → header_of_piece p ≡ h → script_run script ≡ first_then (started h) (λ s. run_lines s 2 ps)
+  pub run_of_pieces : (h : Option ScriptHeader) → header_of_piece p ≡ h → script_run script ≡ run_then None (started h) (λ s. run_lines s 2 ps)
   unfolding script_run
-  run_of_pieces h is = ap run_pieces cut ∙ ap (λ h. first_then (started h) (λ s. run_lines s 2 ps)) is
+  run_of_pieces h is = ap run_pieces cut ∙ ap (λ h. run_then None (started h) (λ s. run_lines s 2 ps)) is
 
   pub run_of_wide : (h : ScriptHeader) → header_of_piece p ≡ Some h → has_wide h.word (fractions_of h) ≡ true → script_run script ≡ stopped None (OutOfRange 1)
-  run_of_wide h is wide = run_of_pieces (Some h) is ∙ ap (λ (b : Bool). first_then (if b then Err (OutOfRange 1) else Ok (start h)) (λ s. run_lines s 2 ps)) wide
+  run_of_wide h is wide = run_of_pieces (Some h) is ∙ ap (λ (b : Bool). run_then None (if b then Err (OutOfRange 1) else Ok (start h, [])) (λ s. run_lines s 2 ps)) wide
 
   pub run_of_lines : (h : ScriptHeader) → header_of_piece p ≡ Some h → has_wide h.word (fractions_of h) ≡ false → script_run script ≡ run_lines (start h) 2 ps
-  run_of_lines h is narrow = run_of_pieces (Some h) is ∙ ap (λ (b : Bool). first_then (if b then Err (OutOfRange 1) else Ok (start h)) (λ s. run_lines s 2 ps)) narrow
+  run_of_lines h is narrow = run_of_pieces (Some h) is ∙ ap (λ (b : Bool). run_then None (if b then Err (OutOfRange 1) else Ok (start h, [])) (λ s. run_lines s 2 ps)) narrow
 
 pub told_none : (r : Run State Cause) (c : Cause) (room : Space) → r ≡ stopped None c → room.answers ≡ [] → room.word ≡ None → room.registers ≡ [] → IsAnswerOfRun r (Err c) room
 told_none r c room e a w g = (ap (λ (x : Run State Cause). x.cause) e, record { its_answers = a ∙ sym (ap (λ (x : Run State Cause). x.output) e); its_state = subst (λ (st : Option State). HoldsState st room) (sym (ap (λ (x : Run State Cause). x.state) e)) (w, g) })

@@ -1,5 +1,6 @@
 -- What private functions alone cite.
 pub mod Buffers
+pub mod Lines
 pub mod Moves
 pub mod Quick
 pub mod QuickSteps

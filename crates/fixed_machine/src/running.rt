@@ -3,8 +3,9 @@
 ghost use Rattle.std.specs.Prelude.{◌≡◌, ◌≤◌, ◌<◌, ◌*◌, ◌+◌, drop, length, Some, None, Err, IfOk, IfErr, IfSome};
 ghost use Rattle.fixed_text.specs.Words.{is_signed, width};
 ghost use Rattle.fixed_word.specs.Pieces.{pieces};
-ghost use Rattle.fixed_text.specs.Runs.{after};
-ghost use Rattle.fixed_machine.specs.Meaning.{meaning, run_lines, script_run};
+ghost use Rattle.fixed_text.specs.inside.Ends.{after};
+ghost use Rattle.fixed_machine.specs.Meaning.{meaning, script_run};
+ghost use Rattle.fixed_machine.specs.inside.Lines.{run_lines};
 ghost use Rattle.fixed_machine.specs.inside.Moves.{HasMoved, HaveMoved};
 ghost use Rattle.fixed_machine.specs.Rooms.{KeepsRoom, IsAnswerOfMeaning, IsAnswerOfRun, Suffices};
 ghost use Rattle.fixed_machine.specs.Step.{state_in};

@@ -5,8 +5,8 @@ use Rattle.std.specs.Str.{bytes_eq}
 use Rattle.std.specs.Cmp.Derive.{both_true}
 use Rattle.std.proofs.lemmas.Option.{same_Some, none-some}
 use Rattle.std.proofs.lemmas.Slice.Eq.{bytes_eq-Decides}
-use Rattle.fixed_word.specs.Decimal.{natural_text, whole_text}
-use Rattle.fixed_text.specs.Numbers.{natural_in, only_number, whole_in, wholes_in}
+use Rattle.fixed_word.specs.Decimal.{natural_text}
+use Rattle.fixed_text.specs.Numbers.{natural_in, only_number, wholes_in}
 use Rattle.fixed_text.specs.Texts.{IsReader}
 use Rattle.fixed_text.specs.Tokens.{◌>>=◌, tokens_of, next_by, at_end}
 use Rattle.fixed_text.specs.Words.{word_name, word_named}
@@ -15,7 +15,7 @@ use Rattle.fixed_text.proofs.Readers.{are_tokens, reader, word_no_space, wholes_
 use Rattle.fixed_text.proofs.Inverses.{natural_back, whole_back, wholes_back, inverse_reader, one_reader}
 use Rattle.fixed_text.proofs.Naturals.{in_again, in_only}
 use Rattle.fixed_text.proofs.Steps.{led_only, next_some, end_some}
-use Rattle.fixed_text.proofs.Wholes.{whole_again, whole_only}
+use Rattle.fixed_text.proofs.Wholes.{whole_again}
 use Rattle.fixed_poly.specs.Text.{PolyHeader, PolyLine, Coefs, At, header_tokens, header_text, line_tokens, line_text}
 use Rattle.fixed_poly.specs.Lines.{header_in, header_of, line_in, line_of}
 use Rattle.fixed_poly.specs.inside.Parser.{format_at, header_at, coefs_of, line_at}

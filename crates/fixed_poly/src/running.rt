@@ -1,11 +1,11 @@
 //! The run of a script.
 
-ghost use Rattle.std.specs.Prelude.{◌≡◌, ◌++◌, [], Err, OnOk};
+ghost use Rattle.std.specs.Prelude.{◌≡◌, ◌++◌, [], Err, None, OnOk};
 ghost use Rattle.std.specs.Option.{option_map};
 ghost use Rattle.fixed_word.specs.Pieces.{pieces};
 ghost use Rattle.fixed_text.specs.Numbers.{only_number, wholes_in};
-ghost use Rattle.fixed_text.specs.Runs.{first_then, lines_from, meaning_of};
-ghost use Rattle.fixed_text.specs.Readings.{at_piece, line_by};
+ghost use Rattle.fixed_text.specs.Runs.{lines_from, meaning_of, run_then};
+ghost use Rattle.fixed_text.specs.Readings.{first_at, line_by};
 ghost use Rattle.fixed_text.specs.Answers.{IsAnswerOfRun, IsStepOfLine};
 ghost use Rattle.fixed_poly.specs.Horner.{reply_map};
 ghost use Rattle.fixed_poly.specs.inside.Parser.{coefs_of};
@@ -123,8 +123,8 @@ impl<T: Word> Run for PolyRun<T> {
 }
 
 impl InWord for Header {
-    ghost meaning = { λ header lines signed bits. meaning_of (first_then
-        (at_piece 1 (started signed bits header.frac))
+    ghost meaning = { λ header lines signed bits. meaning_of (run_then None
+        (first_at (started signed bits header.frac))
         (λ state. lines_from (line_by poly_line) state 2 (pieces lines))) };
 
     fn run_in<T: Word>(self, alloc: Global, lines: &[u8]) -> Result<Output, RunFault> {

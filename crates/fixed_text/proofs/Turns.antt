@@ -7,7 +7,8 @@ use Rattle.std.proofs.lemmas.Grind.{common_steps}
 use Rattle.fixed_word.specs.Pieces.{pieces, body}
 use Rattle.fixed_text.specs.declared.fault.RunFault.{RunFault}
 use Rattle.fixed_text.specs.declared.fault.RunFault.TheVariants.{Syntax, OutOfRange, Memory}
-use Rattle.fixed_text.specs.Runs.{Run, after, step_then, lines_from, meaning_of, Output, Fault}
+use Rattle.fixed_text.specs.Runs.{Run, run_then, lines_from, meaning_of}
+use Rattle.fixed_text.specs.inside.Ends.{after}
 use Rattle.fixed_text.specs.Readings.{Reading, Malformed, Misfit, Read, read_map, PieceCause, at_piece, piece_by, line_by}
 use Rattle.fixed_text.specs.declared.fault.Refusal.{Refusal}
 use Rattle.fixed_text.specs.declared.fault.Refusal.TheVariants.{Unformed, Unfit, Wanting}
@@ -23,12 +24,12 @@ module _ {S C : Type 0} where
   after-after xs ys run = λ i. record { state = run.state; output = sym (append_assoc xs ys run.output) i; cause = run.cause }
 
   module _ (line : S → ℕ → List ℕ → Result (S × List ℕ) C) where
-    pub line_step : (s : S) (k : ℕ) (p : List ℕ) (ps : List (List ℕ)) → lines_from line s k (p ∷ ps) ≡ step_then s (line s k p) (λ t. lines_from line t (k + 1) ps)
+    pub line_step : (s : S) (k : ℕ) (p : List ℕ) (ps : List (List ℕ)) → lines_from line s k (p ∷ ps) ≡ run_then (Some s) (line s k p) (λ t. lines_from line t (k + 1) ps)
     unfolding lines_from
     line_step s k p ps = refl
 
     pub line_moves : (s t : S) (k : ℕ) (p bytes : List ℕ) (ps : List (List ℕ)) → line s k p ≡ Ok (t, bytes) → lines_from line s k (p ∷ ps) ≡ after bytes (lines_from line t (k + 1) ps)
-    line_moves s t k p bytes ps e = line_step s k p ps ∙ ap (λ (r : Result (S × List ℕ) C). step_then s r (λ t. lines_from line t (k + 1) ps)) e
+    line_moves s t k p bytes ps e = line_step s k p ps ∙ ap (λ (r : Result (S × List ℕ) C). run_then (Some s) r (λ t. lines_from line t (k + 1) ps)) e
 
     -- the lines from here, after what is printed
     abbrev pub from_here : List ℕ → S → ℕ → List ℕ → Run S C
@@ -48,7 +49,7 @@ module _ {S C : Type 0} where
     pub cause_turn : (printed : List ℕ) (s : S) (k : ℕ) (rest p : List ℕ) (ps : List (List ℕ)) (c : C) → pieces rest ≡ p ∷ ps → line s k p ≡ Err c → from_here printed s k rest ≡ record { state = Some s; output = printed; cause = Some c }
     cause_turn printed s k rest p ps c cut caused =
         ap (λ ps. after printed (lines_from line s k ps)) cut
-        ∙ ap (after printed) (line_step s k p ps ∙ ap (λ (r : Result (S × List ℕ) C). step_then s r (λ t. lines_from line t (k + 1) ps)) caused)
+        ∙ ap (after printed) (line_step s k p ps ∙ ap (λ (r : Result (S × List ℕ) C). run_then (Some s) r (λ t. lines_from line t (k + 1) ps)) caused)
         ∙ (λ i. record { state = Some s; output = append-nil printed i; cause = Some c })
 
   -- lines that say the same of such pieces
@@ -57,7 +58,7 @@ module _ {S C : Type 0} where
   unfolding lines_from
   lines_alike line other Fine same s k [] fine = refl
   lines_alike line other Fine same s k (p ∷ ps) fine =
-      λ i. step_then s (same s k p (fine 0 [] (omega arith)) i) (λ t. lines_alike line other Fine same t (k + 1) ps (λ n d lt. fine (suc n) d (omega arith)) i)
+      λ i. run_then (Some s) (same s k p (fine 0 [] (omega arith)) i) (λ t. lines_alike line other Fine same t (k + 1) ps (λ n d lt. fine (suc n) d (omega arith)) i)
 
 -- ---- a run by readings
 -- the fault of a piece is the run's
@@ -92,10 +93,10 @@ module _ {S K : Type 0} (line : S → List ℕ → Reading (S × List ℕ)) (kep
   turn_alike s k p ps same stays later = by_body (body p)
     where
       kept_then : Reading (K × List ℕ) → Run K PieceCause
-      kept_then r = step_then (keep s) (at_piece k r) (λ t. lines_from (line_by kept) t (k + 1) ps)
+      kept_then r = run_then (Some (keep s)) (at_piece k r) (λ t. lines_from (line_by kept) t (k + 1) ps)
 
       line_then : Reading (S × List ℕ) → Run S PieceCause
-      line_then r = step_then s (at_piece k r) (λ t. lines_from (line_by line) t (k + 1) ps)
+      line_then r = run_then (Some s) (at_piece k r) (λ t. lines_from (line_by line) t (k + 1) ps)
 
       by_reading : (r : Reading (S × List ℕ)) → ((moved : S × List ℕ) → r ≡ Read moved → Fine moved.0 (length ps)) → kept_then (read_map keep_moved r) ≡ run_map keep (line_then r)
       by_reading Malformed fine = refl

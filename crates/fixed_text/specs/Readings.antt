@@ -1,5 +1,5 @@
 -- A piece in its place, as the runs of filters, polynomials and intervals read it.
-use Rattle.std.specs.Prelude.{ℕ, ℤ, Bool, List, Option, Some, None, Result, Ok, Err, if◌then◌else◌}
+use Rattle.std.specs.Prelude.{ℕ, ℤ, Bool, List, [], Option, Some, None, Result, Ok, Err, if◌then◌else◌}
 use Rattle.std.specs.List.{list_all}
 use Rattle.fixed_word.specs.Format.{fits}
 use Rattle.fixed_word.specs.Pieces.{body}
@@ -49,6 +49,10 @@ piece_by read (Some bytes) = read bytes
 abbrev pub line_by : {S : Type 0} → (S → List ℕ → Reading (S × List ℕ)) → S → ℕ → List ℕ → Result (S × List ℕ) PieceCause
 line_by line s k piece = at_piece k (piece_by (line s) (body piece))
 
+-- a first piece prints nothing
+abbrev pub first_at : {S : Type 0} → Reading S → Result (S × List ℕ) PieceCause
+first_at reading = at_piece 1 (read_map (λ s. (s, [])) reading)
+
 -- what a script prints, or its first cause, by the readings of its first piece and of its lines
 abbrev pub output_by : {S : Type 0} → (List ℕ → Reading S) → (S → List ℕ → Reading (S × List ℕ)) → List ℕ → Meaning PieceCause
-output_by first line script = meaning_of (run_of (λ piece. at_piece 1 (piece_by first (body piece))) (line_by line) script)
+output_by first line script = meaning_of (run_of (λ piece. first_at (piece_by first (body piece))) (line_by line) script)

@@ -1,8 +1,8 @@
 //! The loop that all runs share.
 
-ghost use Rattle.std.specs.Prelude.{◌≡◌, Bool, List, MatchOption, None, Some, drop, ℕ};
+ghost use Rattle.std.specs.Prelude.{◌≡◌, Bool, List, [], MatchOption, None, Some, drop, slice_index_or, ℕ};
 ghost use Rattle.fixed_word.specs.Pieces.{body, pieces};
-ghost use Rattle.fixed_text.specs.Runs.{Meaning, first_piece, lines_from, meaning_of};
+ghost use Rattle.fixed_text.specs.Runs.{Meaning, lines_from, meaning_of};
 ghost use Rattle.fixed_text.specs.Readings.{PieceCause, Reading, line_by};
 ghost use Rattle.fixed_text.specs.Answers.{IsAnswerOfRun, IsStepOfLine};
 ghost use Rattle.fixed_text.specs.Words.{is_signed, width};
@@ -30,8 +30,8 @@ pub trait Run: Sized + Drop {
 /// Returns the first piece of a script, without its newline, and the bytes after it. Returns `None` if the script is
 /// empty or its first piece has no newline.
 pub fn open(script: &[u8]) -> Option<(&[u8], &[u8])>
-    ensures { MatchOption result (body (first_piece (pieces script.now)) ≡ None)
-        (λ found. (body (first_piece (pieces script.now)) ≡ Some found.0.now)
+    ensures { MatchOption result (body (slice_index_or (pieces script.now) 0 []) ≡ None)
+        (λ found. (body (slice_index_or (pieces script.now) 0 []) ≡ Some found.0.now)
         × (drop 1 (pieces script.now) ≡ pieces found.1.now)) }
 {
     if script.is_empty() {

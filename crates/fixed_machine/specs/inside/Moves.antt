@@ -2,8 +2,8 @@
 use Rattle.std.specs.Prelude.{◌≡◌, ℕ, ◌≤◌, ◌<◌, ◌*◌, ◌+◌, List, length, drop, Some}
 use Rattle.fixed_text.specs.declared.names.WordName.{WordName}
 use Rattle.fixed_word.specs.Pieces.{pieces}
-use Rattle.fixed_text.specs.Runs.{after}
-use Rattle.fixed_machine.specs.Meaning.{run_lines}
+use Rattle.fixed_text.specs.inside.Ends.{after}
+use Rattle.fixed_machine.specs.inside.Lines.{run_lines}
 use Rattle.fixed_machine.specs.Step.{state_in}
 use Rattle.fixed_machine.specs.Rooms.{Space}
 

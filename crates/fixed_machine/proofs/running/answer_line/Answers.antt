@@ -2,8 +2,8 @@ use Rattle.std.proofs.Common.{◌≡◌, ◌+◌, ◌∙◌, ◌++◌, List, ℕ
 use Rattle.std.proofs.lemmas.List.{length-drop, length-append, length-take}
 use Rattle.fixed_machine.specs.Answers.{answer_text}
 use Rattle.fixed_word.specs.Pieces.{pieces}
-use Rattle.fixed_text.specs.Runs.{after}
-use Rattle.fixed_machine.specs.Meaning.{run_lines}
+use Rattle.fixed_text.specs.inside.Ends.{after}
+use Rattle.fixed_machine.specs.inside.Lines.{run_lines}
 use Rattle.fixed_machine.specs.Step.{state_in}
 use Rattle.fixed_machine.proofs.Runs.{run_fault, run_moves, told_fault, move_short}
 use Rattle.fixed_machine.proofs.running.answer_line.Goals as goal

@@ -1,8 +1,8 @@
 use Rattle.std.proofs.Common.{◌∙◌, List, ℕ, ap, sym, arith, refl, drop}
 use Rattle.std.proofs.lemmas.List.{drop_all, length-drop, take_rest}
 use Rattle.fixed_word.specs.Pieces.{pieces}
-use Rattle.fixed_text.specs.Runs.{after}
-use Rattle.fixed_machine.specs.Meaning.{run_lines}
+use Rattle.fixed_text.specs.inside.Ends.{after}
+use Rattle.fixed_machine.specs.inside.Lines.{run_lines}
 use Rattle.fixed_machine.specs.inside.Moves.{HasMoved}
 use Rattle.fixed_machine.proofs.Moves.{kept_twice, run_past, space_past}
 use Rattle.fixed_machine.specs.Step.{state_in}

@@ -1,7 +1,7 @@
 use Rattle.std.proofs.Common.{◌≡◌, ◌≤◌, ◌+◌, ◌*◌, ◌-◌, length, drop, Some}
 use Rattle.fixed_word.specs.Pieces.{pieces}
-use Rattle.fixed_text.specs.Runs.{after}
-use Rattle.fixed_machine.specs.Meaning.{run_lines}
+use Rattle.fixed_text.specs.inside.Ends.{after}
+use Rattle.fixed_machine.specs.inside.Lines.{run_lines}
 use Rattle.fixed_machine.specs.Step.{state_in}
 use Rattle.fixed_machine.specs.Rooms.{KeepsRoom}
 use Rattle.fixed_machine.proofs.running.answer_lines_as.Given as goal

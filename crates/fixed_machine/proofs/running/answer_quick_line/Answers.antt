@@ -3,8 +3,8 @@ use Rattle.std.proofs.lemmas.List.{length-drop, length-append, length-take}
 use Rattle.fixed_script.specs.Text.{ScriptLine}
 use Rattle.fixed_machine.specs.Answers.{answer_text}
 use Rattle.fixed_word.specs.Pieces.{pieces}
-use Rattle.fixed_text.specs.Runs.{after}
-use Rattle.fixed_machine.specs.Meaning.{run_lines}
+use Rattle.fixed_text.specs.inside.Ends.{after}
+use Rattle.fixed_machine.specs.inside.Lines.{run_lines}
 use Rattle.fixed_machine.specs.Step.{IsStepOfLine, state_in}
 use Rattle.fixed_machine.proofs.Runs.{run_moves, move_short}
 use Rattle.fixed_machine.proofs.running.answer_quick_line.Goals as goal

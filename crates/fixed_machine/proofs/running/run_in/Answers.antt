@@ -3,7 +3,7 @@ use Rattle.std.proofs.lemmas.List.{take_rest, nil_from_length, length-map}
 use Rattle.fixed_digits.specs.Numerals.{cap}
 use Rattle.fixed_script.specs.Headers.{CappedHeader}
 use Rattle.fixed_word.specs.Pieces.{pieces}
-use Rattle.fixed_text.specs.Runs.{stopped}
+use Rattle.fixed_text.specs.inside.Ends.{stopped}
 use Rattle.fixed_machine.specs.Meaning.{fractions_of, has_wide, zeros}
 use Rattle.fixed_machine.specs.Rooms.{spaces_of}
 use Rattle.fixed_machine.proofs.Short.{header_room}

@@ -1,6 +1,6 @@
 use Rattle.std.proofs.Common.{◌+◌, ◌++◌, ℕ, List, take, drop, sym, ap, subst, ◌∙◌, arith, length-drop}
 use Rattle.std.proofs.lemmas.List.{drop_all, drop-drop}
-use Rattle.fixed_text.specs.Runs.{Run, Meaning, meaning_of, after}
+use Rattle.fixed_text.specs.Runs.{Meaning, meaning_of}
 use Rattle.fixed_text.specs.Readings.{PieceCause, line_by}
 use Rattle.fixed_text.specs.Answers.{EndsBy}
 use Rattle.fixed_text.proofs.Turns.{from_here, turn, fault_turn, nothing_left, whole_rest}

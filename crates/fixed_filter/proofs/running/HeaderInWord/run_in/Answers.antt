@@ -1,8 +1,8 @@
-use Rattle.std.proofs.Common.{◌≤◌, sym, subst, arith}
+use Rattle.std.proofs.Common.{◌≤◌, None, sym, subst, arith}
 use Rattle.fixed_word.specs.Pieces.{pieces}
 use Rattle.fixed_text.specs.Answers.{IsAnswerOfRun}
-use Rattle.fixed_text.specs.Runs.{first_then, lines_from, meaning_of}
-use Rattle.fixed_text.specs.Readings.{Reading, at_piece, line_by}
+use Rattle.fixed_text.specs.Runs.{run_then, lines_from, meaning_of}
+use Rattle.fixed_text.specs.Readings.{Reading, first_at, line_by}
 use Rattle.fixed_filter.specs.declared.shape.Shape.{Shape}
 use Rattle.fixed_filter.specs.Runs.{FilterState, filter_line}
 use Rattle.fixed_filter.proofs.Lines.{started_in}
@@ -20,5 +20,5 @@ returns g c =
     let out : h.out ≤ g.T.Valued.BITS = omega arith in
     let coef : h.coef ≤ g.T.Valued.BITS = omega arith in
     let sample : h.sample ≤ g.T.Valued.BITS = omega arith in
-    subst (λ (r : Reading FilterState). IsAnswerOfRun (meaning_of (first_then (at_piece 1 r) (λ state. lines_from (line_by filter_line) state 2 (pieces c.args.lines.now)))) c.run_shape.result) (sym (started_in g.T.RawWord.SIGNED g.T.Valued.BITS shape out coef sample))
+    subst (λ (r : Reading FilterState). IsAnswerOfRun (meaning_of (run_then None (first_at r) (λ state. lines_from (line_by filter_line) state 2 (pieces c.args.lines.now)))) c.run_shape.result) (sym (started_in g.T.RawWord.SIGNED g.T.Valued.BITS shape out coef sample))
     c.run_shape.ensures

@@ -1,8 +1,8 @@
-use Rattle.std.proofs.Common.{◌≤◌, sym, subst, arith}
+use Rattle.std.proofs.Common.{◌≤◌, None, sym, subst, arith}
 use Rattle.fixed_word.specs.Pieces.{pieces}
 use Rattle.fixed_text.specs.Answers.{IsAnswerOfRun}
-use Rattle.fixed_text.specs.Runs.{first_then, lines_from, meaning_of}
-use Rattle.fixed_text.specs.Readings.{Reading, at_piece, line_by}
+use Rattle.fixed_text.specs.Runs.{run_then, lines_from, meaning_of}
+use Rattle.fixed_text.specs.Readings.{Reading, first_at, line_by}
 use Rattle.fixed_poly.specs.Runs.{PolyState, poly_line}
 use Rattle.fixed_poly.proofs.Lines.{started_in}
 use Rattle.fixed_poly.proofs.running.HeaderInWord.run_in.Goals as goal
@@ -13,5 +13,5 @@ returns g c =
     let j = c.from.ensures in
     let k = c.BITS.ensures in
     let within : c.args.self.frac ≤ g.T.Valued.BITS = omega arith in
-    subst (λ (r : Reading PolyState). IsAnswerOfRun (meaning_of (first_then (at_piece 1 r) (λ state. lines_from (line_by poly_line) state 2 (pieces c.args.lines.now)))) c.run_lines.result) (sym (started_in g.T.RawWord.SIGNED g.T.Valued.BITS c.args.self.frac within))
+    subst (λ (r : Reading PolyState). IsAnswerOfRun (meaning_of (run_then None (first_at r) (λ state. lines_from (line_by poly_line) state 2 (pieces c.args.lines.now)))) c.run_lines.result) (sym (started_in g.T.RawWord.SIGNED g.T.Valued.BITS c.args.self.frac within))
     (rw c.new.ensures.items at c.run_lines.ensures)
