@@ -3,7 +3,7 @@
 use std::fs;
 use std::path::PathBuf;
 use zugyelmas::calc::{
-    Cause, Failed, Room, RunFault, Source, Status, SureSink, calc_main, demo_script, run_in,
+    Cause, Failed, Room, ScriptFault, Source, Status, SureSink, calc_main, demo_script, run_in,
 };
 use zugyelmas::memory::Global;
 use zugyelmas::prelude::*;
@@ -82,11 +82,11 @@ fn a_proof_of_ones_own() {
     }
 }
 
-fn run_again(script: &[u8], room: &mut Room) -> Result<(), RunFault> {
+fn run_again(script: &[u8], room: &mut Room) -> Result<(), ScriptFault> {
     if !room.suffices(script) {
-        *room = Room::for_script(Global, script).map_err(|_| RunFault::Memory)?;
+        *room = Room::for_script(Global, script).map_err(|_| ScriptFault::Memory)?;
     }
-    run_in(script, room).map_err(RunFault::Script)
+    run_in(script, room).map_err(ScriptFault::Script)
 }
 
 #[test]
@@ -97,7 +97,7 @@ fn one_room() {
     let longer = b"i8 4 4\nr0 set 7\nr1 checked add r0 r0\n";
     assert_eq!(run_again(longer, &mut room), Ok(()));
     assert_eq!(room.answers(), b"7\n14\n");
-    let fault = RunFault::Script(Cause::OutOfRange(2));
+    let fault = ScriptFault::Script(Cause::OutOfRange(2));
     assert_eq!(run_again(b"i8 4\nr0 set 128\n", &mut room), Err(fault));
 }
 

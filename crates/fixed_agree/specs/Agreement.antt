@@ -2,8 +2,8 @@
 use Rattle.std.specs.Prelude.{◌≡◌, ℕ, ℤ, pos, Bool, true, false, Option, Some, None}
 use Rattle.fixed_machine.specs.Types.{Policy, Op}
 use Rattle.fixed_machine.specs.declared.answer.Answer.{Answer}
-use Rattle.fixed_script.specs.Names.{shape}
-use Rattle.fixed_script.specs.Text.{Operands, OneRegister, TwoRegisters, RegisterAndInt, Apply, shape_of}
+use Rattle.fixed_script.specs.Names.{arity}
+use Rattle.fixed_script.specs.Text.{Operands, OneRegister, TwoRegisters, RegisterAndInt, Apply, arity_of}
 use Rattle.fixed_machine.specs.Machine.{State, Cell, OperandValues, operand_values, integer, answer}
 use Rattle.fixed_text.specs.Words.{is_signed, width}
 use Rattle.fixed_script.specs.Offered.{is_offered}
@@ -34,13 +34,13 @@ three_operands a b c f g h = record { a = holding a f; b = holding b g; c = hold
 
 -- ---- operations, by the operands that they take
 abbrev pub IsUnary : Op → Type 0
-IsUnary op = shape op ≡ shape_of (OneRegister 0)
+IsUnary op = arity op ≡ arity_of (OneRegister 0)
 
 abbrev pub IsBinary : Op → Type 0
-IsBinary op = shape op ≡ shape_of (TwoRegisters 0 0)
+IsBinary op = arity op ≡ arity_of (TwoRegisters 0 0)
 
 abbrev pub IsByInteger : Op → Type 0
-IsByInteger op = shape op ≡ shape_of (RegisterAndInt 0 (pos 0))
+IsByInteger op = arity op ≡ arity_of (RegisterAndInt 0 (pos 0))
 
 -- the operation is offered under the policy on words of both signs
 abbrev pub IsOfferedOnBoth : Policy → Op → Type 0

@@ -15,7 +15,7 @@ use fixed_word::{SignedWord, UnsignedWord, Word};
 /// Runs an operation on one number that is offered on all words.
 pub fn unary<T: Word, const F: u32>(op: Op, a: Fixed<T, F>) -> Answer
     requires fraction { F ≤ T.BITS }
-    requires shape { IsUnary op }
+    requires arity { IsUnary op }
     requires offered { IsOfferedOnBoth Policy.Checked op }
     ensures { MachineAnswers T.SIGNED T.BITS Policy.Checked op
         (one_operand (T.value a.bits) F) result }
@@ -31,7 +31,7 @@ pub fn unary<T: Word, const F: u32>(op: Op, a: Fixed<T, F>) -> Answer
 /// Runs an operation on one number that is offered on signed words.
 pub fn unary_signed<T: SignedWord, const F: u32>(op: Op, a: Fixed<T, F>) -> Answer
     requires fraction { F ≤ T.BITS }
-    requires shape { IsUnary op }
+    requires arity { IsUnary op }
     requires offered { is_offered true Policy.Checked op ≡ true }
     ensures { MachineAnswers T.SIGNED T.BITS Policy.Checked op
         (one_operand (T.value a.bits) F) result }
@@ -46,7 +46,7 @@ pub fn unary_signed<T: SignedWord, const F: u32>(op: Op, a: Fixed<T, F>) -> Answ
 /// Runs an operation on one number that is offered on unsigned words.
 pub fn unary_unsigned<T: UnsignedWord, const F: u32>(op: Op, a: Fixed<T, F>) -> Answer
     requires fraction { F ≤ T.BITS }
-    requires shape { IsUnary op }
+    requires arity { IsUnary op }
     requires offered { is_offered false Policy.Checked op ≡ true }
     ensures { MachineAnswers T.SIGNED T.BITS Policy.Checked op
         (one_operand (T.value a.bits) F) result }
@@ -61,7 +61,7 @@ pub fn unary_unsigned<T: UnsignedWord, const F: u32>(op: Op, a: Fixed<T, F>) -> 
 #[tactic(auto, unfolding(fixed_machine::specs::Rows::exact, fixed_script::specs::Offered::is_offered), using(crate::proofs::Rows::checked_row))]
 pub fn binary<T: Word, const F: u32>(op: Op, a: Fixed<T, F>, b: Fixed<T, F>) -> Answer
     requires fraction { F ≤ T.BITS }
-    requires shape { IsBinary op }
+    requires arity { IsBinary op }
     requires offered { is_offered T.SIGNED Policy.Checked op ≡ true }
     ensures { MachineAnswers T.SIGNED T.BITS Policy.Checked op
         (two_operands (T.value a.bits) (T.value b.bits) F) result }
@@ -83,7 +83,7 @@ pub fn binary<T: Word, const F: u32>(op: Op, a: Fixed<T, F>, b: Fixed<T, F>) -> 
 /// Runs an operation on a number and an integer.
 pub fn by_integer<T: Word, const F: u32>(op: Op, a: Fixed<T, F>, k: T) -> Answer
     requires fraction { F ≤ T.BITS }
-    requires shape { IsByInteger op }
+    requires arity { IsByInteger op }
     requires offered { is_offered T.SIGNED Policy.Checked op ≡ true }
     ensures { MachineAnswers T.SIGNED T.BITS Policy.Checked op
         (with_integer (T.value a.bits) (T.value k) F) result }

@@ -39,7 +39,7 @@ pub struct Forms {
 /// Runs the forms of an operation on one number that is offered on all words. Precondition: the row is defined.
 pub fn unary<T: Word, const F: u32>(op: Op, a: Fixed<T, F>) -> Forms
     requires fraction { F ≤ T.BITS }
-    requires shape { IsUnary op }
+    requires arity { IsUnary op }
     requires offered { IsOfferedOnBoth Policy.Overflowing op }
     requires row { IsSome (row_of op (one_operand (T.value a.bits) F)) }
     ensures { FormsAgree T.SIGNED T.BITS (row_of op (one_operand (T.value a.bits) F)) result }
@@ -55,7 +55,7 @@ pub fn unary<T: Word, const F: u32>(op: Op, a: Fixed<T, F>) -> Forms
 /// Runs the forms of an operation on one number that is offered on signed words. Precondition: the row is defined.
 pub fn unary_signed<T: SignedWord, const F: u32>(op: Op, a: Fixed<T, F>) -> Forms
     requires fraction { F ≤ T.BITS }
-    requires shape { IsUnary op }
+    requires arity { IsUnary op }
     requires offered { is_offered true Policy.Overflowing op ≡ true }
     requires row { IsSome (row_of op (one_operand (T.value a.bits) F)) }
     ensures { FormsAgree T.SIGNED T.BITS (row_of op (one_operand (T.value a.bits) F)) result }
@@ -71,7 +71,7 @@ pub fn unary_signed<T: SignedWord, const F: u32>(op: Op, a: Fixed<T, F>) -> Form
 /// Runs the forms of an operation on two numbers. Precondition: the row is defined.
 pub fn binary<T: Word, const F: u32>(op: Op, a: Fixed<T, F>, b: Fixed<T, F>) -> Forms
     requires fraction { F ≤ T.BITS }
-    requires shape { IsBinary op }
+    requires arity { IsBinary op }
     requires offered { is_offered T.SIGNED Policy.Overflowing op ≡ true }
     requires row { IsSome (row_of op (two_operands (T.value a.bits) (T.value b.bits) F)) }
     ensures { FormsAgree T.SIGNED T.BITS
@@ -88,7 +88,7 @@ pub fn binary<T: Word, const F: u32>(op: Op, a: Fixed<T, F>, b: Fixed<T, F>) -> 
 /// Runs the forms of an operation on a number and an integer. Precondition: the row is defined.
 pub fn by_integer<T: Word, const F: u32>(op: Op, a: Fixed<T, F>, k: T) -> Forms
     requires fraction { F ≤ T.BITS }
-    requires shape { IsByInteger op }
+    requires arity { IsByInteger op }
     requires offered { is_offered T.SIGNED Policy.Overflowing op ≡ true }
     requires row { IsSome (row_of op (with_integer (T.value a.bits) (T.value k) F)) }
     ensures { FormsAgree T.SIGNED T.BITS

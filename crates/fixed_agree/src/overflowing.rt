@@ -16,7 +16,7 @@ use fixed_word::{SignedWord, UnsignedWord, Word};
 /// Runs an operation on one number that is offered on all words. Precondition: the row is defined.
 pub fn unary<T: Word, const F: u32>(op: Op, a: Fixed<T, F>) -> Answer
     requires fraction { F ≤ T.BITS }
-    requires shape { IsUnary op }
+    requires arity { IsUnary op }
     requires offered { IsOfferedOnBoth Policy.Overflowing op }
     requires row { IsSome (row_of op (one_operand (T.value a.bits) F)) }
     ensures { MachineAnswers T.SIGNED T.BITS Policy.Overflowing op
@@ -33,7 +33,7 @@ pub fn unary<T: Word, const F: u32>(op: Op, a: Fixed<T, F>) -> Answer
 /// Runs an operation on one number that is offered on signed words. Precondition: the row is defined.
 pub fn unary_signed<T: SignedWord, const F: u32>(op: Op, a: Fixed<T, F>) -> Answer
     requires fraction { F ≤ T.BITS }
-    requires shape { IsUnary op }
+    requires arity { IsUnary op }
     requires offered { is_offered true Policy.Overflowing op ≡ true }
     requires row { IsSome (row_of op (one_operand (T.value a.bits) F)) }
     ensures { MachineAnswers T.SIGNED T.BITS Policy.Overflowing op
@@ -49,7 +49,7 @@ pub fn unary_signed<T: SignedWord, const F: u32>(op: Op, a: Fixed<T, F>) -> Answ
 /// Runs an operation on one number that is offered on unsigned words. Precondition: the row is defined.
 pub fn unary_unsigned<T: UnsignedWord, const F: u32>(op: Op, a: Fixed<T, F>) -> Answer
     requires fraction { F ≤ T.BITS }
-    requires shape { IsUnary op }
+    requires arity { IsUnary op }
     requires offered { is_offered false Policy.Overflowing op ≡ true }
     requires row { IsSome (row_of op (one_operand (T.value a.bits) F)) }
     ensures { MachineAnswers T.SIGNED T.BITS Policy.Overflowing op
@@ -61,7 +61,7 @@ pub fn unary_unsigned<T: UnsignedWord, const F: u32>(op: Op, a: Fixed<T, F>) -> 
 /// Runs an operation on two numbers. Precondition: the row is defined.
 pub fn binary<T: Word, const F: u32>(op: Op, a: Fixed<T, F>, b: Fixed<T, F>) -> Answer
     requires fraction { F ≤ T.BITS }
-    requires shape { IsBinary op }
+    requires arity { IsBinary op }
     requires offered { is_offered T.SIGNED Policy.Overflowing op ≡ true }
     requires row { IsSome (row_of op (two_operands (T.value a.bits) (T.value b.bits) F)) }
     ensures { MachineAnswers T.SIGNED T.BITS Policy.Overflowing op
@@ -82,7 +82,7 @@ pub fn binary<T: Word, const F: u32>(op: Op, a: Fixed<T, F>, b: Fixed<T, F>) -> 
 /// Runs an operation on a number and an integer. Precondition: the row is defined.
 pub fn by_integer<T: Word, const F: u32>(op: Op, a: Fixed<T, F>, k: T) -> Answer
     requires fraction { F ≤ T.BITS }
-    requires shape { IsByInteger op }
+    requires arity { IsByInteger op }
     requires offered { is_offered T.SIGNED Policy.Overflowing op ≡ true }
     requires row { IsSome (row_of op (with_integer (T.value a.bits) (T.value k) F)) }
     ensures { MachineAnswers T.SIGNED T.BITS Policy.Overflowing op

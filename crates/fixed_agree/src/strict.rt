@@ -16,7 +16,7 @@ use fixed_word::{SignedWord, UnsignedWord, Word};
 /// Runs an operation on one number that is offered on all words. Precondition: the row is defined and its number fits.
 pub fn unary<T: Word, const F: u32>(op: Op, a: Fixed<T, F>) -> Answer
     requires fraction { F ≤ T.BITS }
-    requires shape { IsUnary op }
+    requires arity { IsUnary op }
     requires offered { IsOfferedOnBoth Policy.Strict op }
     requires row { RowFits T.SIGNED T.BITS (row_of op (one_operand (T.value a.bits) F)) }
     ensures { MachineAnswers T.SIGNED T.BITS Policy.Strict op
@@ -34,7 +34,7 @@ pub fn unary<T: Word, const F: u32>(op: Op, a: Fixed<T, F>) -> Answer
 /// fits.
 pub fn unary_signed<T: SignedWord, const F: u32>(op: Op, a: Fixed<T, F>) -> Answer
     requires fraction { F ≤ T.BITS }
-    requires shape { IsUnary op }
+    requires arity { IsUnary op }
     requires offered { is_offered true Policy.Strict op ≡ true }
     requires row { RowFits T.SIGNED T.BITS (row_of op (one_operand (T.value a.bits) F)) }
     ensures { MachineAnswers T.SIGNED T.BITS Policy.Strict op
@@ -51,7 +51,7 @@ pub fn unary_signed<T: SignedWord, const F: u32>(op: Op, a: Fixed<T, F>) -> Answ
 /// fits.
 pub fn unary_unsigned<T: UnsignedWord, const F: u32>(op: Op, a: Fixed<T, F>) -> Answer
     requires fraction { F ≤ T.BITS }
-    requires shape { IsUnary op }
+    requires arity { IsUnary op }
     requires offered { is_offered false Policy.Strict op ≡ true }
     requires row { RowFits T.SIGNED T.BITS (row_of op (one_operand (T.value a.bits) F)) }
     ensures { MachineAnswers T.SIGNED T.BITS Policy.Strict op
@@ -67,7 +67,7 @@ pub fn unary_unsigned<T: UnsignedWord, const F: u32>(op: Op, a: Fixed<T, F>) -> 
 #[tactic(auto, unfolding(fixed_machine::specs::Rows::exact, fixed_script::specs::Offered::is_offered), using(crate::proofs::Rows::strict_row))]
 pub fn binary<T: Word, const F: u32>(op: Op, a: Fixed<T, F>, b: Fixed<T, F>) -> Answer
     requires fraction { F ≤ T.BITS }
-    requires shape { IsBinary op }
+    requires arity { IsBinary op }
     requires offered { is_offered T.SIGNED Policy.Strict op ≡ true }
     requires row { RowFits T.SIGNED T.BITS
         (row_of op (two_operands (T.value a.bits) (T.value b.bits) F)) }
@@ -91,7 +91,7 @@ pub fn binary<T: Word, const F: u32>(op: Op, a: Fixed<T, F>, b: Fixed<T, F>) -> 
 /// Runs an operation on a number and an integer. Precondition: the row is defined and its number fits.
 pub fn by_integer<T: Word, const F: u32>(op: Op, a: Fixed<T, F>, k: T) -> Answer
     requires fraction { F ≤ T.BITS }
-    requires shape { IsByInteger op }
+    requires arity { IsByInteger op }
     requires offered { is_offered T.SIGNED Policy.Strict op ≡ true }
     requires row { RowFits T.SIGNED T.BITS
         (row_of op (with_integer (T.value a.bits) (T.value k) F)) }

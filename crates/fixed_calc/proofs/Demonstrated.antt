@@ -6,8 +6,8 @@ use Rattle.std.specs.Cmp.Derive.{both_true}
 use Rattle.std.proofs.lemmas.List.Elements.{All-nil, All-cons}
 use Rattle.fixed_word.specs.Pieces.{pieces}
 use Rattle.fixed_machine.specs.declared.cause.Cause.{Cause}
-use Rattle.fixed_machine.specs.declared.cause.RunFault.{RunFault}
-use Rattle.fixed_machine.specs.declared.cause.RunFault.TheVariants.{Script}
+use Rattle.fixed_machine.specs.declared.cause.ScriptFault.{ScriptFault}
+use Rattle.fixed_machine.specs.declared.cause.ScriptFault.TheVariants.{Script}
 use Rattle.fixed_machine.specs.Rooms.{IsAnswerOfMeaning}
 use Rattle.fixed_machine.specs.Answers.{answer_text, ended}
 use Rattle.fixed_script.specs.Text.{header_text, header_tokens, ScriptLine, line_text}
@@ -106,7 +106,7 @@ unfolding demo_answers
 demo_one_each n = answers_length (start demo_header) (demo_lines n) ∙ lines_length n
 
 -- what a run of the script answers
-pub never_faults : (n : ℕ) (script : List ℕ) (fault : RunFault) (cause : Cause) → script ≡ demo_text n → IsAnswerOfMeaning (meaning script) (Err fault) → fault ≡ Script cause → ⊥
+pub never_faults : (n : ℕ) (script : List ℕ) (fault : ScriptFault) (cause : Cause) → script ≡ demo_text n → IsAnswerOfMeaning (meaning script) (Err fault) → fault ≡ Script cause → ⊥
 never_faults n script fault cause is tells e =
     let faulty : meaning script ≡ Fault cause = rw e at tells in
     let fine : meaning script ≡ Output (flat_map answer_text (demo_answers n)) = ap meaning is ∙ demo_output n in

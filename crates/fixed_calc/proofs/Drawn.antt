@@ -14,8 +14,8 @@ use Rattle.fixed_script.specs.declared.names.Op.{Op}
 use Rattle.fixed_script.specs.declared.names.Op.TheVariants.{Add, Sub, Mul, Div, MulAdd, AddProd, Sqrt}
 use Rattle.fixed_machine.specs.declared.answer.Answer.{Answer}
 use Rattle.fixed_machine.specs.declared.answer.Answer.TheVariants.{Absent, Bits, Flagged}
-use Rattle.fixed_script.specs.Names.{shape}
-use Rattle.fixed_script.specs.Text.{ScriptLine, SetTo, Apply, Operands, OneRegister, TwoRegisters, ThreeRegisters, IsLine, shape_of, line_text}
+use Rattle.fixed_script.specs.Names.{arity}
+use Rattle.fixed_script.specs.Text.{ScriptLine, SetTo, Apply, Operands, OneRegister, TwoRegisters, ThreeRegisters, IsLine, arity_of, line_text}
 use Rattle.fixed_machine.specs.Rows.{exact}
 use Rattle.fixed_script.specs.Offered.{is_offered}
 use Rattle.fixed_text.specs.Words.{is_signed, width}
@@ -161,7 +161,7 @@ set_drawn d t there small = record {
   no_cause = λ s k ready. after_tests s (SetTo d (pos t)) k (set_tests s d t ready there small);
 }
 
-apply_drawn : (d : ℕ) (policy : Policy) (op : Op) (xs : Operands) → shape op ≡ shape_of xs → d < 8
+apply_drawn : (d : ℕ) (policy : Policy) (op : Op) (xs : Operands) → arity op ≡ arity_of xs → d < 8
     → ((s : State) → IsReady s → PassesTests s (Apply d policy op xs None)) → ((s : State) (k : ℕ) → late_cause_by row_by s (Apply d policy op xs None) k ≡ None) → IsDrawn (Apply d policy op xs None)
 apply_drawn d policy op xs shaped there tests total = record {
   is_line = (shaped, refl);

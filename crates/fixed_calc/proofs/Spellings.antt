@@ -12,13 +12,13 @@ use Rattle.std.specs.Prelude.{unwrap_or}
 use Rattle.fixed_script.specs.declared.names.Policy.{Policy}
 use Rattle.fixed_script.specs.declared.names.Op.{Op}
 use Rattle.fixed_script.specs.declared.names.Op.TheVariants.{Neg, Add, Sub, Mul, Div, Recip, MulAdd, AddProd, MulInt, DivInt, DivEuclid, DivEuclidInt, RemEuclidInt, NextMultipleOf, Dist, Sqrt, Abs, Signum, Rem, RemInt, RemEuclid, NextPowerOfTwo}
-use Rattle.fixed_script.specs.declared.line.Shape.{Shape}
-use Rattle.fixed_script.specs.declared.line.Shape.TheVariants.{Unary, Binary, ByInteger, Ternary}
+use Rattle.fixed_script.specs.declared.line.Arity.{Arity}
+use Rattle.fixed_script.specs.declared.line.Arity.TheVariants.{Unary, Binary, ByInteger, Ternary}
 use Rattle.fixed_script.specs.declared.line.Line.{Line}
 use Rattle.fixed_script.specs.declared.line.Line.TheVariants.{Set, One, Two, Int, Three}
-use Rattle.fixed_script.specs.Names.{policy_name, op_name, rounding_name, shape, default_rounding}
+use Rattle.fixed_script.specs.Names.{policy_name, op_name, rounding_name, arity, default_rounding}
 use Rattle.fixed_script.specs.Text.{ScriptHeader, ScriptLine, SetTo, Apply, Operands, OneRegister, TwoRegisters, RegisterAndInt, ThreeRegisters, IsLine, may_round, register_text, operand_tokens, header_text, line_text}
-use Rattle.fixed_script.specs.Capped.{capped, checked_script_line, literal_value, of_shape}
+use Rattle.fixed_script.specs.Capped.{capped, checked_script_line, literal_value, of_arity}
 use Rattle.fixed_script.specs.Lines.{line_of, line_of_piece, header_of_piece}
 use Rattle.fixed_script.proofs.TextsRead.{reads_lines}
 use Rattle.fixed_machine.specs.Answers.{answer_text, ended}
@@ -42,7 +42,7 @@ use Rattle.fixed_machine.proofs.Lacks.{line_lacks}
 use Rattle.fixed_calc.proofs.WidenedRuns.{script_pieces}
 
 -- ---- the line that was read, and the rounding that is added
-shape_seen : (s t : Shape) (l x : ScriptLine) → of_shape s t l ≡ Some x → of_shape s t l ≡ Some l
+shape_seen : (s t : Arity) (l x : ScriptLine) → of_arity s t l ≡ Some x → of_arity s t l ≡ Some l
 shape_seen Unary Unary l x e = refl
 shape_seen Binary Binary l x e = refl
 shape_seen ByInteger ByInteger l x e = refl
@@ -60,16 +60,16 @@ shape_seen Ternary Unary l x e = cc
 shape_seen Ternary Binary l x e = cc
 shape_seen Ternary ByInteger l x e = cc
 
-round_seen : (b : Bool) (s t : Shape) (l x : ScriptLine) → (if b then of_shape s t l else None) ≡ Some x → l ≡ x
+round_seen : (b : Bool) (s t : Arity) (l x : ScriptLine) → (if b then of_arity s t l else None) ≡ Some x → l ≡ x
 round_seen true s t l x e = same_Some l x (sym (shape_seen s t l x e) ∙ e)
 round_seen false s t l x e = cc
 
 line_seen : (line : Line) (x : ScriptLine) → checked_script_line line ≡ Some x → script_line_of line ≡ x
 line_seen (Set dest l) x e = same_Some (SetTo dest (literal_value l)) x e
-line_seen (One dest policy op a r) x e = round_seen (may_round op r) (shape op) Unary (Apply dest policy op (OneRegister a) r) x e
-line_seen (Two dest policy op a b r) x e = round_seen (may_round op r) (shape op) Binary (Apply dest policy op (TwoRegisters a b) r) x e
-line_seen (Int dest policy op a l r) x e = round_seen (may_round op r) (shape op) ByInteger (Apply dest policy op (RegisterAndInt a (literal_value l)) r) x e
-line_seen (Three dest policy op a b c r) x e = round_seen (may_round op r) (shape op) Ternary (Apply dest policy op (ThreeRegisters a b c) r) x e
+line_seen (One dest policy op a r) x e = round_seen (may_round op r) (arity op) Unary (Apply dest policy op (OneRegister a) r) x e
+line_seen (Two dest policy op a b r) x e = round_seen (may_round op r) (arity op) Binary (Apply dest policy op (TwoRegisters a b) r) x e
+line_seen (Int dest policy op a l r) x e = round_seen (may_round op r) (arity op) ByInteger (Apply dest policy op (RegisterAndInt a (literal_value l)) r) x e
+line_seen (Three dest policy op a b c r) x e = round_seen (may_round op r) (arity op) Ternary (Apply dest policy op (ThreeRegisters a b c) r) x e
 
 added_capped : (x : ScriptLine) → added_to (capped x) ≡ added_to x
 added_capped (SetTo dest k) = refl

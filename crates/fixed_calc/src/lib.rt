@@ -19,7 +19,7 @@ mod top;
 mod writing;
 
 pub use demo::{Script, demo_script};
-pub use fixed_machine::{Answer, Answers, Cause, Room, RunFault, run, run_in, step};
+pub use fixed_machine::{Answer, Answers, Cause, Room, ScriptFault, run, run_in, step};
 pub use fixed_script::{
     Fractions, Header, Line, Literal, Op, Policy, Rounding, WordName, parse_header, parse_line,
 };

@@ -8,7 +8,7 @@ ghost use Rattle.fixed_calc.specs.CommandLine.{most_lines};
 
 use crate::demo::demo_script;
 use crate::short_text::ShortText;
-use fixed_machine::{RunFault, run};
+use fixed_machine::{ScriptFault, run};
 use std::alloc::{AllocError, Global};
 
 /// So many bytes are counted at once.
@@ -78,7 +78,7 @@ pub(crate) fn demo_summary(alloc: Global, lines: u32) -> Result<ShortText, Alloc
     let script = demo_script(alloc, lines)?;
     match run(alloc, script.as_bytes()) {
         Ok(answers) => Ok(summary_of(lines, answers.as_bytes())),
-        Err(RunFault::Script(_)) => unreachable!(),
-        Err(RunFault::Memory) => Err(AllocError),
+        Err(ScriptFault::Script(_)) => unreachable!(),
+        Err(ScriptFault::Memory) => Err(AllocError),
     }
 }

@@ -12,7 +12,7 @@ use crate::reading::{Stop, read_all};
 use crate::status::Status;
 use crate::summary::demo_summary;
 use crate::writing::write_all;
-use fixed_machine::{RunFault, run};
+use fixed_machine::{ScriptFault, run};
 use fixed_stream::{Refusal, Sink, Source};
 use std::alloc::Global;
 
@@ -41,8 +41,8 @@ fn read_run_write<S: Source, K: Sink>(alloc: Global, source: &mut S, sink: &mut 
     };
     let answers = match run(alloc, &script) {
         Ok(answers) => answers,
-        Err(RunFault::Script(cause)) => return Status::Script(cause),
-        Err(RunFault::Memory) => return Status::Memory,
+        Err(ScriptFault::Script(cause)) => return Status::Script(cause),
+        Err(ScriptFault::Memory) => return Status::Memory,
     };
     match write_all(answers.as_bytes(), sink) {
         Ok(()) => Status::Done,

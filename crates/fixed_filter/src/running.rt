@@ -20,8 +20,8 @@ use crate::header::{Header, read_header};
 use crate::reply::Reply;
 use crate::shape::Shape;
 use fixed_text::{
-    InWord, Output, Refusal, Run, RunFault, Tokens, fitting, open, read_numbered, read_only_number,
-    read_words, run_lines,
+    InWord, LineFault, Output, Run, RunFault, Tokens, fitting, open, read_numbered,
+    read_only_number, read_words, run_lines,
 };
 use fixed_word::{RawWord, Valued, Word};
 use std::alloc::{AllocError, Global};
@@ -99,19 +99,19 @@ impl<T: Word> FilterRun<T> {
         Ok(())
     }
 
-    /// Adds the channel whose taps the tokens write. Fails with `Refusal::Unformed` if the tokens are malformed or a
-    /// channel has taken a sample, and with `Refusal::Unfit` if a tap does not fit.
-    fn take_taps(&mut self, tokens: Tokens<'_>) -> Result<(), Refusal>
+    /// Adds the channel whose taps the tokens write. Fails with `LineFault::Unformed` if the tokens are malformed or a
+    /// channel has taken a sample, and with `LineFault::Unfit` if a tap does not fit.
+    fn take_taps(&mut self, tokens: Tokens<'_>) -> Result<(), LineFault>
         ensures { IsStepOfLine (kept_read self.old (taps_of (wholes_in tokens.entry))) result self.new
             [] [] }
     {
         if tokens.is_empty() || self.begun {
-            return Err(Refusal::Unformed);
+            return Err(LineFault::Unformed);
         }
         match read_words::<T>(self.alloc, tokens) {
             Ok(taps) => match self.add_channel(&taps) {
                 Ok(()) => Ok(()),
-                Err(_) => Err(Refusal::Wanting),
+                Err(_) => Err(LineFault::Wanting),
             },
             Err(refusal) => Err(refusal),
         }
@@ -149,7 +149,7 @@ impl<T: Word> FilterRun<T> {
     }
 
     /// Gives a channel a sample and adds the text of the reply. Precondition: the channel exists.
-    fn answer(&mut self, channel: usize, sample: T, output: &mut Output) -> Result<(), Refusal>
+    fn answer(&mut self, channel: usize, sample: T, output: &mut Output) -> Result<(), LineFault>
         requires { channel < length self.old.channels }
         ensures { IsStepOfLine (Read (
           kept_sample channel (T.value sample) self.old,
@@ -159,27 +159,27 @@ impl<T: Word> FilterRun<T> {
         let (number, reply) = self.push(channel, sample);
         match append_reply(output, channel, number, reply) {
             Ok(()) => Ok(()),
-            Err(_) => Err(Refusal::Wanting),
+            Err(_) => Err(LineFault::Wanting),
         }
     }
 
-    /// Gives a channel the sample that the tokens write, and adds the text of the reply. Fails with `Refusal::Unformed`
-    /// if the tokens are malformed, and with `Refusal::Unfit` if the channel does not exist or the sample does not fit.
+    /// Gives a channel the sample that the tokens write, and adds the text of the reply. Fails with `LineFault::Unformed`
+    /// if the tokens are malformed, and with `LineFault::Unfit` if the channel does not exist or the sample does not fit.
     fn take_sample(
         &mut self,
         channel: u128,
         tokens: Tokens<'_>,
         output: &mut Output,
-    ) -> Result<(), Refusal>
+    ) -> Result<(), LineFault>
         ensures { (j : ℕ) → channel ≡ cap j → IsStepOfLine
             (kept_read self.old (sample_of (Some j) (only_number tokens.entry))) result
             self.new output.old output.new }
     {
         let Some(number) = read_only_number(tokens) else {
-            return Err(Refusal::Unformed);
+            return Err(LineFault::Unformed);
         };
         let Some(place) = self.place(channel) else {
-            return Err(Refusal::Unfit);
+            return Err(LineFault::Unfit);
         };
         match fitting(&number) {
             Ok(sample) => self.answer(place, sample, output),
@@ -191,17 +191,17 @@ impl<T: Word> FilterRun<T> {
 impl<T: Word> Run for FilterRun<T> {
     ghost line = { kept_line };
 
-    fn step(&mut self, bytes: &[u8], output: &mut Output) -> Result<(), Refusal> {
+    fn step(&mut self, bytes: &[u8], output: &mut Output) -> Result<(), LineFault> {
         let mut tokens = Tokens::new(bytes);
         let Some(name) = tokens.take() else {
-            return Err(Refusal::Unformed);
+            return Err(LineFault::Unformed);
         };
         if name == b"taps".as_slice() {
             self.take_taps(tokens)
         } else {
             match read_numbered(b'c', name) {
                 Some(channel) => self.take_sample(channel, tokens, output),
-                None => Err(Refusal::Unformed),
+                None => Err(LineFault::Unformed),
             }
         }
     }

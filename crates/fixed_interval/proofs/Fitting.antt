@@ -6,7 +6,7 @@ use Rattle.std.proofs.lemmas.Int.{ints}
 use Rattle.fixed_word.specs.Format.{InRange, fits}
 use Rattle.fixed_interval.specs.Ends.{Bounds, Ends, ends_of, fitting, has_zero, quotient_ends, quotient_of, root_ends, root_of_ends}
 use Rattle.fixed_interval.specs.Containment.{FitsWithin, HoldsQuotients, HoldsRoots, IsWithin}
-use Rattle.fixed_interval.specs.inside.OffZero.{IsOffZero}
+use Rattle.fixed_interval.specs.inside.OffZero.{ExcludesZero}
 use Rattle.fixed_interval.proofs.QuotientEnds.{holds_quotients}
 use Rattle.fixed_interval.proofs.RootEnds.{holds_roots}
 
@@ -76,19 +76,19 @@ no_and : (t : Bool) → (t && false) ≡ false
 no_and true = refl
 no_and false = refl
 
-pub quotient_is : (a b : Ends) (f : ℕ) → IsOffZero b → quotient_ends a b f ≡ Some (quotient_of a b f)
+pub quotient_is : (a b : Ends) (f : ℕ) → ExcludesZero b → quotient_ends a b f ≡ Some (quotient_of a b f)
 quotient_is a b f (inl some) = rw (le_no b.low (pos 0) some)
 quotient_is a b f (inr some) = rw (le_no (pos 0) b.high some, no_and)
 
-pub off_zero : (e : Ends) → has_zero e ≡ false → IsOffZero e
+pub off_zero : (e : Ends) → has_zero e ≡ false → ExcludesZero e
 off_zero e h = tested (int_le e.low (pos 0)) (int_le (pos 0) e.high) refl refl h
   where
-    tested : (t u : Bool) → int_le e.low (pos 0) ≡ t → int_le (pos 0) e.high ≡ u → (t && u) ≡ false → IsOffZero e
+    tested : (t u : Bool) → int_le e.low (pos 0) ≡ t → int_le (pos 0) e.high ≡ u → (t && u) ≡ false → ExcludesZero e
     tested false u l k h = inl (omega (arith, ints))
     tested true false l k h = inr (omega (arith, ints))
     tested true true l k h = absurd (cc)
 
-pub quotient_defined : (a b e : Ends) (f : ℕ) → quotient_ends a b f ≡ Some e → IsOffZero b × (quotient_of a b f ≡ e)
+pub quotient_defined : (a b e : Ends) (f : ℕ) → quotient_ends a b f ≡ Some e → ExcludesZero b × (quotient_of a b f ≡ e)
 quotient_defined a b e f h =
     let c = kept (has_zero b) (quotient_of a b f) e h in
     (off_zero b c.0, c.1)

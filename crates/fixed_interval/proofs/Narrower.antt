@@ -3,7 +3,7 @@ use Rattle.std.proofs.Common.{ℕ, arith, inl, inr}
 use Rattle.std.proofs.lemmas.Int.{ints}
 use Rattle.fixed_interval.specs.Ends.{Ends, difference_of, difference_ends, magnitude_ends, magnitude_of, negation_ends, negation_of, product_of, product_ends, quotient_of, quotient_ends, root_ends, root_of_ends, square_ends, square_of, sum_of, sum_ends}
 use Rattle.fixed_interval.specs.Containment.{IsMonotone, IsMonotoneOfOne, IsWithin}
-use Rattle.fixed_interval.specs.inside.OffZero.{IsOffZero}
+use Rattle.fixed_interval.specs.inside.OffZero.{ExcludesZero}
 use Rattle.fixed_interval.proofs.Fitting.{fitting_defined, narrower, quotient_defined, quotient_is, root_defined, root_is}
 use Rattle.fixed_interval.proofs.ProductEnds.{product_within}
 use Rattle.fixed_interval.proofs.QuotientEnds.{quotient_within}
@@ -21,7 +21,7 @@ difference_narrower s n a b c d e v w h = narrower s n (difference_of a b) (diff
 pub product_narrower : (f : ℕ) → IsMonotone (λ a b. product_ends a b f)
 product_narrower f s n a b c d e v w h = narrower s n (product_of a b f) (product_of c d f) e (product_within a b c d f v w) h
 
-off_zero_within : (b d : Ends) → IsOffZero b → IsWithin d b → IsOffZero d
+off_zero_within : (b d : Ends) → ExcludesZero b → IsWithin d b → ExcludesZero d
 off_zero_within b d (inl some) w = let l = w.from_low in inl (omega (arith, ints))
 off_zero_within b d (inr some) w = let h = w.to_high in inr (omega (arith, ints))
 

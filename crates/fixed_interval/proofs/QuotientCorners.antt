@@ -7,7 +7,7 @@ use Rattle.std.proofs.lemmas.Nat.{mul-le}
 use Rattle.std.proofs.Math.Nat.{div-le_self, div-mul-le_self}
 use Rattle.fixed_word.specs.Quotient.{floor_quotient}
 use Rattle.fixed_interval.specs.Ends.{Bounds, Ends, ends_of, ceiling_over, floor_over, greatest_corner, least_corner, quotient_of}
-use Rattle.fixed_interval.specs.inside.OffZero.{IsOffZero}
+use Rattle.fixed_interval.specs.inside.OffZero.{ExcludesZero}
 use Rattle.fixed_interval.proofs.Lines.{times_le}
 use Rattle.fixed_interval.proofs.Corners.{AtCorners, above_greatest_corner, below_least_corner, greatest_corner_above, least_corner_below}
 use Rattle.fixed_interval.proofs.Rounded.{below_floor, ceiling_order, floor_below, floor_order}
@@ -93,7 +93,7 @@ record IsSide (s : Bool) (b : Ends) : Type 0 where
   above : s ≡ false → pos 0 <ℤ b.low
   below : s ≡ true → b.high <ℤ pos 0
 
-side_is : (s : Bool) (b : Ends) → b.low ≤ℤ b.high → IsOffZero b → (IsTrue s ↔ (b.low <ℤ pos 0)) → IsSide s b
+side_is : (s : Bool) (b : Ends) → b.low ≤ℤ b.high → ExcludesZero b → (IsTrue s ↔ (b.low <ℤ pos 0)) → IsSide s b
 side_is s b o (inl some) w = record { order = o; above = λ _. some; below = λ t. let l = w.0 t in absurd (omega (arith, ints)) }
 side_is s b o (inr some) w = record { order = o; above = λ t. absurd (false≢true (sym t ∙ w.1 (omega (arith, ints)))); below = λ _. some }
 
@@ -208,7 +208,7 @@ picked value true x y = refl
 picked value false x y = refl
 
 -- of intervals, where x and y are the ends that are picked
-pub least_picked : {T : Type 0} (value : T → ℤ) (a b : Bounds T) (f : ℕ) (s t : Bool) (x y : T) → value a.lo ≤ℤ value a.hi → value b.lo ≤ℤ value b.hi → IsOffZero (ends_of value b)
+pub least_picked : {T : Type 0} (value : T → ℤ) (a b : Bounds T) (f : ℕ) (s t : Bool) (x y : T) → value a.lo ≤ℤ value a.hi → value b.lo ≤ℤ value b.hi → ExcludesZero (ends_of value b)
     → (IsTrue s ↔ (value b.lo <ℤ pos 0)) → x ≡ (if s then a.hi else a.lo) → (IsTrue t ↔ (value x <ℤ pos 0)) → y ≡ (if t then b.lo else b.hi)
     → floor_over (value x *ℤ pos (2 ^ f)) (value y) ≡ (quotient_of (ends_of value a) (ends_of value b) f).low
 least_picked value a b f s t x y l o d p u q v =
@@ -216,7 +216,7 @@ least_picked value a b f s t x y l o d p u q v =
     let j = ap value v ∙ picked value t b.lo b.hi in
     rw (i, j) (least_quotient_at (ends_of value a) (ends_of value b) f s t l (side_is s (ends_of value b) o d p) (rw i at q))
 
-pub greatest_picked : {T : Type 0} (value : T → ℤ) (a b : Bounds T) (f : ℕ) (s t : Bool) (x y : T) → value a.lo ≤ℤ value a.hi → value b.lo ≤ℤ value b.hi → IsOffZero (ends_of value b)
+pub greatest_picked : {T : Type 0} (value : T → ℤ) (a b : Bounds T) (f : ℕ) (s t : Bool) (x y : T) → value a.lo ≤ℤ value a.hi → value b.lo ≤ℤ value b.hi → ExcludesZero (ends_of value b)
     → (IsTrue s ↔ (value b.lo <ℤ pos 0)) → x ≡ (if s then a.lo else a.hi) → (IsTrue t ↔ (value x <ℤ pos 0)) → y ≡ (if t then b.hi else b.lo)
     → ceiling_over (value x *ℤ pos (2 ^ f)) (value y) ≡ (quotient_of (ends_of value a) (ends_of value b) f).high
 greatest_picked value a b f s t x y l o d p u q v =

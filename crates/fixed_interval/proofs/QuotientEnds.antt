@@ -4,7 +4,7 @@ use Rattle.std.proofs.lemmas.Int.{ints}
 use Rattle.fixed_interval.specs.Ends.{Ends, floor_over, ceiling_over, quotient_of}
 use Rattle.fixed_word.proofs.Wraps.{suc_times}
 use Rattle.fixed_interval.specs.Containment.{HoldsQuotients, IsInside, IsWithin}
-use Rattle.fixed_interval.specs.inside.OffZero.{IsOffZero}
+use Rattle.fixed_interval.specs.inside.OffZero.{ExcludesZero}
 use Rattle.fixed_interval.proofs.Lines.{line_high, line_low, times_assoc, times_le}
 use Rattle.fixed_interval.proofs.Corners.{Brackets, corners_within, greatest_corner_above, inside_order, least_corner_below}
 use Rattle.fixed_interval.proofs.Rounded.{ceiling_above, ceiling_below, floor_above, floor_below, floor_below_ceiling}
@@ -42,7 +42,7 @@ record IsBelow (b : Ends) (y : ℤ) : Type 0 where
   high : b.high <ℤ pos 0
   inside : y <ℤ pos 0
 
-sides : (y : ℤ) (d : ℕ) (b : Ends) → 0 < d → IsInside y d b → IsOffZero b → IsAbove b y ⊎ IsBelow b y
+sides : (y : ℤ) (d : ℕ) (b : Ends) → 0 < d → IsInside y d b → ExcludesZero b → IsAbove b y ⊎ IsBelow b y
 sides y d b h j (inl some) =
     let order = inside_order y d b h j in
     let low = j.from_low in
@@ -56,7 +56,7 @@ sides y d b h j (inr some) =
     let t = times_le (b.high +ℤ pos 1) (pos 0) d one in
     inr (record { low = omega (arith, ints); high = some; inside = omega (arith, ints, suc_times b.high d) })
 
-pub holds_quotients : (a b : Ends) (f : ℕ) → IsOffZero b → HoldsQuotients a b f (quotient_of a b f)
+pub holds_quotients : (a b : Ends) (f : ℕ) → ExcludesZero b → HoldsQuotients a b f (quotient_of a b f)
 holds_quotients a b f o x y d h i j =
     let e = quotient_of a b f in
     let l = least_corner_below (λ x y. floor_over (x *ℤ pos (2 ^ f)) y) a b in
@@ -74,7 +74,7 @@ holds_quotients a b f o x y d h i j =
           record { above = λ n. absurd (omega (arith, ints)); below = λ _. (first, second) }
     ]
 
-pub quotient_within : (a b c d : Ends) (f : ℕ) → IsOffZero b → IsWithin c a → IsWithin d b → IsWithin (quotient_of c d f) (quotient_of a b f)
+pub quotient_within : (a b c d : Ends) (f : ℕ) → ExcludesZero b → IsWithin c a → IsWithin d b → IsWithin (quotient_of c d f) (quotient_of a b f)
 quotient_within a b c d f o v w =
     corners_within (λ x y. floor_over (x *ℤ pos (2 ^ f)) y) (λ x y. ceiling_over (x *ℤ pos (2 ^ f)) y) a b c d v w between
   where
@@ -95,7 +95,7 @@ quotient_within a b c d f o v w =
           }
         ]
 
-pub quotient_order : (a b : Ends) (f : ℕ) → IsOffZero b → (quotient_of a b f).low ≤ℤ (quotient_of a b f).high
+pub quotient_order : (a b : Ends) (f : ℕ) → ExcludesZero b → (quotient_of a b f).low ≤ℤ (quotient_of a b f).high
 quotient_order a b f o =
     let l = least_corner_below (λ x y. floor_over (x *ℤ pos (2 ^ f)) y) a b in
     let u = greatest_corner_above (λ x y. ceiling_over (x *ℤ pos (2 ^ f)) y) a b in

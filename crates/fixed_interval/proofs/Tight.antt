@@ -7,7 +7,7 @@ use Rattle.fixed_root.specs.Root.{root_of}
 use Rattle.fixed_root.proofs.RootLaws.{root_of_is}
 use Rattle.fixed_interval.specs.Ends.{Ends, ceiling_over, floor_over, difference_ends, difference_of, product_ends, product_of, quotient_ends, quotient_of, root_ends, root_of_ends, sum_ends, sum_of}
 use Rattle.fixed_interval.specs.Containment.{Encloses, HoldsDifferences, HoldsProducts, HoldsQuotients, HoldsRoots, HoldsSums, IsInside, IsInsideOver, IsTight, IsTightOfOne}
-use Rattle.fixed_interval.specs.inside.OffZero.{IsOffZero}
+use Rattle.fixed_interval.specs.inside.OffZero.{ExcludesZero}
 use Rattle.fixed_interval.proofs.Corners.{above_greatest_corner, below_least_corner}
 use Rattle.fixed_interval.proofs.Fitting.{quotient_defined, root_defined}
 use Rattle.fixed_interval.proofs.Rounded.{ceiling_above, ceiling_below, floor_above, floor_below}
@@ -65,11 +65,11 @@ module _ (f : ℕ) (r : Ends) where
   quotient_high x y (inl above) i = (ceiling_above r.high (x *ℤ pos (2 ^ f)) y above).1 (i.above above).1
   quotient_high x y (inr below) i = (ceiling_below r.high (x *ℤ pos (2 ^ f)) y below).1 (i.below below).0
 
-low_sign : (b : Ends) → b.low ≤ℤ b.high → IsOffZero b → (pos 0 <ℤ b.low) ⊎ (b.low <ℤ pos 0)
+low_sign : (b : Ends) → b.low ≤ℤ b.high → ExcludesZero b → (pos 0 <ℤ b.low) ⊎ (b.low <ℤ pos 0)
 low_sign b o (inl above) = inl above
 low_sign b o (inr below) = inr (omega (arith, ints))
 
-high_sign : (b : Ends) → b.low ≤ℤ b.high → IsOffZero b → (pos 0 <ℤ b.high) ⊎ (b.high <ℤ pos 0)
+high_sign : (b : Ends) → b.low ≤ℤ b.high → ExcludesZero b → (pos 0 <ℤ b.high) ⊎ (b.high <ℤ pos 0)
 high_sign b o (inl above) = inl (omega (arith, ints))
 high_sign b o (inr below) = inr below
 

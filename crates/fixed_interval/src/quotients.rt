@@ -4,7 +4,7 @@ ghost use Rattle.std.specs.Prelude.{◌≡◌, ◌≢◌, ◌≤◌, ◌^◌, �
 ghost use Rattle.std.specs.Option.{option_map};
 ghost use Rattle.fixed_interval.specs.Ends.{ends_of, fitting, has_zero, quotient_ends, quotient_of};
 ghost use Rattle.fixed_interval.specs.Containment.{HoldsQuotients};
-ghost use Rattle.fixed_interval.specs.inside.OffZero.{IsOffZero};
+ghost use Rattle.fixed_interval.specs.inside.OffZero.{ExcludesZero};
 ghost use Rattle.fixed_interval.specs.inside.WholeValue.{rounded_over, value_of};
 
 use crate::interval::{Interval, between, is_at_most};
@@ -38,7 +38,7 @@ fn holds_zero<T: Word>(b: &Interval<T>) -> bool
 /// Returns the least corner, rounded down.
 fn least_quotient<T: Word>(a: &Interval<T>, b: &Interval<T>, frac: u32) -> Whole
     requires frac { frac ≤ T.BITS }
-    requires divisor { IsOffZero (ends_of T.value b.now) }
+    requires divisor { ExcludesZero (ends_of T.value b.now) }
     ensures { value_of result ≡ (quotient_of (ends_of T.value a.now) (ends_of T.value b.now) frac).low }
 {
     let x = either(b.lo().is_below_zero(), a.hi(), a.lo());
@@ -49,7 +49,7 @@ fn least_quotient<T: Word>(a: &Interval<T>, b: &Interval<T>, frac: u32) -> Whole
 /// Returns the greatest corner, rounded up.
 fn greatest_quotient<T: Word>(a: &Interval<T>, b: &Interval<T>, frac: u32) -> Whole
     requires frac { frac ≤ T.BITS }
-    requires divisor { IsOffZero (ends_of T.value b.now) }
+    requires divisor { ExcludesZero (ends_of T.value b.now) }
     ensures { value_of result ≡ (quotient_of (ends_of T.value a.now) (ends_of T.value b.now) frac).high }
 {
     let x = either(b.lo().is_below_zero(), a.lo(), a.hi());

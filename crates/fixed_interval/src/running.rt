@@ -23,7 +23,7 @@ use crate::products::mul_in;
 use crate::quotients::div_in;
 use crate::roots::sqrt_in;
 use crate::sums::{add_in, sub_in};
-use fixed_text::{Decimal, InWord, Output, Refusal, Run, RunFault, open, run_lines, value_in};
+use fixed_text::{Decimal, InWord, LineFault, Output, Run, RunFault, open, run_lines, value_in};
 use fixed_word::{Valued, Word};
 use std::alloc::{AllocError, Global};
 use std::marker::Model;
@@ -127,7 +127,7 @@ impl<T: Word> IntervalRun<T> {
         dest: usize,
         made: Option<Interval<T>>,
         output: &mut Output,
-    ) -> Result<(), Refusal>
+    ) -> Result<(), LineFault>
         requires { dest < length self.old.registers }
         ensures { IsStepOfLine (answered self.old dest (option_map (ends_of T.value) made)) result
             self.new output.old output.new }
@@ -138,11 +138,11 @@ impl<T: Word> IntervalRun<T> {
                     self.registers[dest] = interval;
                     Ok(())
                 }
-                Err(_) => Err(Refusal::Wanting),
+                Err(_) => Err(LineFault::Wanting),
             },
             None => match output.append(b"none\n") {
                 Ok(()) => Ok(()),
-                Err(_) => Err(Refusal::Wanting),
+                Err(_) => Err(LineFault::Wanting),
             },
         }
     }
@@ -177,7 +177,12 @@ impl<T: Word> IntervalRun<T> {
     }
 
     /// Carries out a request.
-    fn follow(&mut self, dest: usize, request: Request, output: &mut Output) -> Result<(), Refusal>
+    fn follow(
+        &mut self,
+        dest: usize,
+        request: Request,
+        output: &mut Output,
+    ) -> Result<(), LineFault>
         requires { dest < length self.old.registers }
         ensures { (q : IntervalRequest) → request ≡ capped_request q
             → IsStepOfLine (request_read self.old dest q) result self.new output.old output.new }
@@ -185,21 +190,21 @@ impl<T: Word> IntervalRun<T> {
         match request {
             Request::Set(low, high) => match self.stated(&low, &high) {
                 Some(interval) => self.answer(dest, Some(interval), output),
-                None => Err(Refusal::Unfit),
+                None => Err(LineFault::Unfit),
             },
             Request::Two(op, a, b) => {
                 let Some(a) = self.place(a) else {
-                    return Err(Refusal::Unfit);
+                    return Err(LineFault::Unfit);
                 };
                 let Some(b) = self.place(b) else {
-                    return Err(Refusal::Unfit);
+                    return Err(LineFault::Unfit);
                 };
                 let made = self.of_two(op, a, b);
                 self.answer(dest, made, output)
             }
             Request::Root(a) => {
                 let Some(a) = self.place(a) else {
-                    return Err(Refusal::Unfit);
+                    return Err(LineFault::Unfit);
                 };
                 let made = self.root(a);
                 self.answer(dest, made, output)
@@ -211,13 +216,13 @@ impl<T: Word> IntervalRun<T> {
 impl<T: Word> Run for IntervalRun<T> {
     ghost line = { interval_line };
 
-    fn step(&mut self, bytes: &[u8], output: &mut Output) -> Result<(), Refusal> {
+    fn step(&mut self, bytes: &[u8], output: &mut Output) -> Result<(), LineFault> {
         let Some(line) = read_line(bytes) else {
-            return Err(Refusal::Unformed);
+            return Err(LineFault::Unformed);
         };
         match self.place(line.dest) {
             Some(dest) => self.follow(dest, line.request, output),
-            None => Err(Refusal::Unfit),
+            None => Err(LineFault::Unfit),
         }
     }
 }

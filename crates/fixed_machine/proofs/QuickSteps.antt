@@ -3,9 +3,9 @@ use Rattle.std.proofs.Common.{pos, ◌≡◌, ◌<◌, ℕ, ℤ, Bool, true, fal
 use Rattle.std.proofs.lemmas.Bool.Decides.{nat_tests}
 use Rattle.std.specs.List.{All}
 use Rattle.std.proofs.lemmas.List.{length-map, get_or-map}
-use Rattle.fixed_script.specs.declared.line.Shape.{Shape}
-use Rattle.fixed_script.specs.declared.line.Shape.TheVariants.{Unary, Binary, ByInteger, Ternary}
-use Rattle.fixed_script.specs.Names.{shape}
+use Rattle.fixed_script.specs.declared.line.Arity.{Arity}
+use Rattle.fixed_script.specs.declared.line.Arity.TheVariants.{Unary, Binary, ByInteger, Ternary}
+use Rattle.fixed_script.specs.Names.{arity}
 use Rattle.fixed_script.specs.Text.{SetTo, Apply}
 use Rattle.fixed_text.specs.declared.names.WordName.{WordName}
 use Rattle.fixed_text.specs.Words.{is_signed, width}
@@ -28,15 +28,15 @@ use Rattle.fixed_machine.specs.inside.Stepping.{IsAnswerOfLine, IsAnswerOfRow, v
 use Rattle.fixed_machine.proofs.Causes.{PassesTests, apply_tells, set_tells, cell_is, integer_cell}
 
 -- ---- operands
--- of three cells, those that an operation of that shape takes
-abbrev pub kept : Shape → Cell → Cell → Cell → OperandValues
+-- of three cells, those that an operation of that arity takes
+abbrev pub kept : Arity → Cell → Cell → Cell → OperandValues
 kept Unary x y z = record { a = x; b = integer (pos 0); c = integer (pos 0) }
 kept Binary x y z = record { a = x; b = y; c = integer (pos 0) }
 kept ByInteger x y z = record { a = x; b = y; c = integer (pos 0) }
 kept Ternary x y z = record { a = x; b = y; c = z }
 
 -- a row is that of the operands that its operation takes
-pub row_kept : (op : Op) (x y z : Cell) → row_of op (record { a = x; b = y; c = z }) ≡ row_of op (kept (shape op) x y z)
+pub row_kept : (op : Op) (x y z : Cell) → row_of op (record { a = x; b = y; c = z }) ≡ row_of op (kept (arity op) x y z)
 unfolding exact
 row_kept Neg x y z = refl
 row_kept Add x y z = refl
@@ -61,13 +61,13 @@ row_kept RemInt x y z = refl
 row_kept RemEuclid x y z = refl
 row_kept NextPowerOfTwo x y z = refl
 
-values_kept : (w : WordName) (cells : List Cell) (line : QuickLine) (kind : Shape) (x y z : Cell) → x ≡ cell_at cells line.a → IsSecond (is_signed w) (width w) cells line kind y → z ≡ cell_at cells line.c → kept kind x y z ≡ operand_values cells (quick_operands kind line)
+values_kept : (w : WordName) (cells : List Cell) (line : QuickLine) (kind : Arity) (x y z : Cell) → x ≡ cell_at cells line.a → IsSecond (is_signed w) (width w) cells line kind y → z ≡ cell_at cells line.c → kept kind x y z ≡ operand_values cells (quick_operands kind line)
 values_kept w cells line Unary x y z ea eb ec = λ i. record { a = ea i; b = integer (pos 0); c = integer (pos 0) }
 values_kept w cells line Binary x y z ea eb ec = λ i. record { a = ea i; b = eb i; c = integer (pos 0) }
 values_kept w cells line ByInteger x y z ea eb ec = λ i. record { a = ea i; b = eb.0 i; c = integer (pos 0) }
 values_kept w cells line Ternary x y z ea eb ec = λ i. record { a = ea i; b = eb i; c = ec i }
 
-pub second_cell : (w : WordName) (cells : List Cell) (line : QuickLine) (kind : Shape) (y : Cell) → All (IsCell w) cells → IsSecond (is_signed w) (width w) cells line kind y → IsCell w y
+pub second_cell : (w : WordName) (cells : List Cell) (line : QuickLine) (kind : Arity) (y : Cell) → All (IsCell w) cells → IsSecond (is_signed w) (width w) cells line kind y → IsCell w y
 second_cell w cells line Unary y all e = subst (IsCell w) (sym e) (cell_is w cells line.b all)
 second_cell w cells line Binary y all e = subst (IsCell w) (sym e) (cell_is w cells line.b all)
 second_cell w cells line ByInteger y all e = subst (IsCell w) (sym e.0) (integer_cell w (quick_number line) e.1)
@@ -87,7 +87,7 @@ in_format s n w x e d h = subst (λ (b : Bool). FitsFormat b n x) (sym e) (subst
 row_in_word : (s : Bool) (n : ℕ) (w : WordName) (policy : Policy) (op : Op) (row : Option ℤ) (k : ℕ) (r : Result Answer Cause) → s ≡ is_signed w → n ≡ width w → IsAnswerOfRow s n policy op row k r → IsAnswerOfRow (is_signed w) (width w) policy op row k r
 row_in_word s n w policy op row k r e d h = subst (λ (m : ℕ). IsAnswerOfRow (is_signed w) m policy op row k r) d (subst (λ (b : Bool). IsAnswerOfRow b n policy op row k r) e h)
 
-pub second_in_word : (s : Bool) (n : ℕ) (w : WordName) (cells : List Cell) (line : QuickLine) (kind : Shape) (y : Cell) → s ≡ is_signed w → n ≡ width w → IsSecond s n cells line kind y → IsSecond (is_signed w) (width w) cells line kind y
+pub second_in_word : (s : Bool) (n : ℕ) (w : WordName) (cells : List Cell) (line : QuickLine) (kind : Arity) (y : Cell) → s ≡ is_signed w → n ≡ width w → IsSecond s n cells line kind y → IsSecond (is_signed w) (width w) cells line kind y
 second_in_word s n w cells line kind y e d h = subst (λ (m : ℕ). IsSecond (is_signed w) m cells line kind y) d (subst (λ (b : Bool). IsSecond b n cells line kind y) e h)
 
 -- ---- tests
@@ -105,28 +105,28 @@ are_there rs line dest a b c =
 there : (n r : ℕ) → r < n → nat_le n r ≡ false
 there n r h = grind (arith, nat_tests)
 
-in_range : (w : WordName) (cells : List Cell) (line : QuickLine) (policy : Policy) (op : Op) (kind : Shape) (y : Cell) → AreThere cells line → IsSecond (is_signed w) (width w) cells line kind y → is_out_of_range (state_in w cells) (Apply line.dest policy op (quick_operands kind line) None) ≡ false
+in_range : (w : WordName) (cells : List Cell) (line : QuickLine) (policy : Policy) (op : Op) (kind : Arity) (y : Cell) → AreThere cells line → IsSecond (is_signed w) (width w) cells line kind y → is_out_of_range (state_in w cells) (Apply line.dest policy op (quick_operands kind line) None) ≡ false
 unfolding is_out_of_range
 in_range w cells line policy op Unary y t e = rw (there (length cells) line.dest t.dest, there (length cells) line.a t.a) refl
 in_range w cells line policy op Binary y t e = rw (there (length cells) line.dest t.dest, there (length cells) line.a t.a, there (length cells) line.b t.b) refl
 in_range w cells line policy op ByInteger y t e = rw (there (length cells) line.dest t.dest, there (length cells) line.a t.a, e.1) refl
 in_range w cells line policy op Ternary y t e = rw (there (length cells) line.dest t.dest, there (length cells) line.a t.a, there (length cells) line.b t.b, there (length cells) line.c t.c) refl
 
-offered : (w : WordName) (line : QuickLine) (policy : Policy) (op : Op) → is_offered (is_signed w) policy op ≡ true → is_unoffered w (Apply line.dest policy op (quick_operands (shape op) line) None) ≡ false
+offered : (w : WordName) (line : QuickLine) (policy : Policy) (op : Op) → is_offered (is_signed w) policy op ≡ true → is_unoffered w (Apply line.dest policy op (quick_operands (arity op) line) None) ≡ false
 unfolding is_unoffered
 offered w line policy op h = ap not h
 
 -- ---- answers
 pub applied_answer : (s : Bool) (n : ℕ) (w : WordName) (cells : List Cell) (line : QuickLine) (policy : Policy) (op : Op) (t : OperandRegisters) (k : ℕ) (a : Answer) → s ≡ is_signed w → n ≡ width w → AreThere cells line
-    → is_offered (is_signed w) policy op ≡ true → is_mismatched (state_in w cells) (Apply line.dest policy op (quick_operands (shape op) line) None) ≡ false
-    → cell_of t.a ≡ cell_at cells line.a → IsSecond (is_signed w) (width w) cells line (shape op) (cell_of t.b) → cell_of t.c ≡ cell_at cells line.c
-    → IsAnswerOfRow s n policy op (row_by None op (values_of t)) k (Ok a) → IsAnswerOfLine (state_in w cells) (Apply line.dest policy op (quick_operands (shape op) line) None) k (Ok a)
+    → is_offered (is_signed w) policy op ≡ true → is_mismatched (state_in w cells) (Apply line.dest policy op (quick_operands (arity op) line) None) ≡ false
+    → cell_of t.a ≡ cell_at cells line.a → IsSecond (is_signed w) (width w) cells line (arity op) (cell_of t.b) → cell_of t.c ≡ cell_at cells line.c
+    → IsAnswerOfRow s n policy op (row_by None op (values_of t)) k (Ok a) → IsAnswerOfLine (state_in w cells) (Apply line.dest policy op (quick_operands (arity op) line) None) k (Ok a)
 applied_answer s n w cells line policy op t k a e d all is_offered matched ea eb ec h =
-    let xs = quick_operands (shape op) line in
+    let xs = quick_operands (arity op) line in
     let passes : PassesTests (state_in w cells) (Apply line.dest policy op xs None) =
-    record { offered = offered w line policy op is_offered; in_range = in_range w cells line policy op (shape op) (cell_of t.b) all eb; one_fraction = matched } in
+    record { offered = offered w line policy op is_offered; in_range = in_range w cells line policy op (arity op) (cell_of t.b) all eb; one_fraction = matched } in
     let row : row_by None op (values_of t) ≡ row_by None op (operand_values cells xs) =
-    row_kept op (cell_of t.a) (cell_of t.b) (cell_of t.c) ∙ ap (row_of op) (values_kept w cells line (shape op) (cell_of t.a) (cell_of t.b) (cell_of t.c) ea eb ec) in
+    row_kept op (cell_of t.a) (cell_of t.b) (cell_of t.c) ∙ ap (row_of op) (values_kept w cells line (arity op) (cell_of t.a) (cell_of t.b) (cell_of t.c) ea eb ec) in
     apply_tells (state_in w cells) (Apply line.dest policy op xs None) line.dest policy op xs None k (Ok a) refl passes
     (subst (λ (o : Option ℤ). IsAnswerOfRow (is_signed w) (width w) policy op o k (Ok a)) row (row_in_word s n w policy op (row_by None op (values_of t)) k (Ok a) e d h))
 

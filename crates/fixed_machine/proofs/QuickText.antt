@@ -15,11 +15,11 @@ use Rattle.fixed_digits.proofs.Capping.{digit_value_is}
 use Rattle.fixed_digits.proofs.Decimals.{both, natural_takes, natural_text_step, natural_text_digit}
 use Rattle.fixed_digits.proofs.Fronts.{natural_is, digits_more, value_grows}
 use Rattle.fixed_digits.proofs.Shown.{one_digit}
-use Rattle.fixed_script.specs.declared.line.Shape.{Shape}
-use Rattle.fixed_script.specs.declared.line.Shape.TheVariants.{Unary, Binary, ByInteger, Ternary}
-use Rattle.fixed_script.specs.Names.{policy_name, op_name, shape}
+use Rattle.fixed_script.specs.declared.line.Arity.{Arity}
+use Rattle.fixed_script.specs.declared.line.Arity.TheVariants.{Unary, Binary, ByInteger, Ternary}
+use Rattle.fixed_script.specs.Names.{policy_name, op_name, arity}
 use Rattle.fixed_script.specs.Lines.{line_of_piece}
-use Rattle.fixed_script.specs.Text.{IsLine, line_text, register_text, operand_tokens, shape_of}
+use Rattle.fixed_script.specs.Text.{IsLine, line_text, register_text, operand_tokens, arity_of}
 use Rattle.fixed_machine.specs.Answers.{ended}
 use Rattle.fixed_machine.specs.declared.quick.Applied.{Applied}
 use Rattle.fixed_machine.specs.declared.quick.QuickLine.{QuickLine}
@@ -182,13 +182,13 @@ pub then_stands : (t u x y rest : List ℕ) → x ≡ t ++ (32 ∷ y) → y ≡ 
 then_stands t u x y rest first second = first ∙ ap (λ (v : List ℕ). t ++ (32 ∷ v)) second ∙ sym (append_assoc t (32 ∷ u) rest)
 
 -- an operation's name before its operands
-before_operands : (kind : Shape) (line : QuickLine) (name : List ℕ) → join_with_byte 32 (name ∷ (operand_tokens (quick_operands kind line) ++ [])) ≡ name ++ (32 ∷ join_with_byte 32 (operand_tokens (quick_operands kind line)))
+before_operands : (kind : Arity) (line : QuickLine) (name : List ℕ) → join_with_byte 32 (name ∷ (operand_tokens (quick_operands kind line) ++ [])) ≡ name ++ (32 ∷ join_with_byte 32 (operand_tokens (quick_operands kind line)))
 before_operands Unary line name = refl
 before_operands Binary line name = refl
 before_operands ByInteger line name = refl
 before_operands Ternary line name = refl
 
-shaped : (kind : Shape) (line : QuickLine) → kind ≡ shape_of (quick_operands kind line)
+shaped : (kind : Arity) (line : QuickLine) → kind ≡ arity_of (quick_operands kind line)
 shaped Unary line = refl
 shaped Binary line = refl
 shaped ByInteger line = refl
@@ -230,17 +230,17 @@ set_is_quick count bytes line at end applied declared first name number room =
     let named : drop at bytes ≡ (codes "set" ++ (32 ∷ whole)) ++ rest = then_stands (codes "set") whole (drop at bytes) (drop (at + 4) bytes) rest name number.reads in
     is_quick count bytes line end None applied tt (then_stands (register_text line.dest) (codes "set" ++ (32 ∷ whole)) bytes (drop at bytes) rest first.reads named) (omega (arith, first.within, number.within, room)) declared
 
-pub applied_is_quick : (count : ℕ) (bytes : List ℕ) (line read : QuickLine) (at next place end : ℕ) (x : Applied) (kind : Shape) → kind ≡ shape x.op → line.applied ≡ Some x → line.dest < count → Stands bytes 0 (register_text line.dest) 32 4 at → Stands bytes at (policy_name x.policy) 32 12 next
+pub applied_is_quick : (count : ℕ) (bytes : List ℕ) (line read : QuickLine) (at next place end : ℕ) (x : Applied) (kind : Arity) → kind ≡ arity x.op → line.applied ≡ Some x → line.dest < count → Stands bytes 0 (register_text line.dest) 32 4 at → Stands bytes at (policy_name x.policy) 32 12 next
     → Stands bytes next (op_name x.op) 32 18 place → HasOperands kind count bytes place line read end → 64 ≤ length bytes → IsQuickLine count bytes read end
 applied_is_quick count bytes line read at next place end x kind same applied dest first policy op found room =
-    let operands : HasOperands (shape x.op) count bytes place line read end = subst (λ (k : Shape). HasOperands k count bytes place line read end) same found in
+    let operands : HasOperands (arity x.op) count bytes place line read end = subst (λ (k : Arity). HasOperands k count bytes place line read end) same found in
     let rest = 10 ∷ drop end bytes in
-    let xs = join_with_byte 32 (operand_tokens (quick_operands (shape x.op) read)) in
+    let xs = join_with_byte 32 (operand_tokens (quick_operands (arity x.op) read)) in
     let from_op = then_stands (op_name x.op) xs (drop next bytes) (drop place bytes) rest op.reads operands.text in
     let from_policy = then_stands (policy_name x.policy) (op_name x.op ++ (32 ∷ xs)) (drop at bytes) (drop next bytes) rest policy.reads from_op in
     let whole = then_stands (register_text line.dest) (policy_name x.policy ++ (32 ∷ (op_name x.op ++ (32 ∷ xs)))) bytes (drop at bytes) rest first.reads from_policy in
     let text : register_text line.dest ++ (32 ∷ (policy_name x.policy ++ (32 ∷ (op_name x.op ++ (32 ∷ xs))))) ≡ line_text (applied_or_set (Some x) read) =
     ap (λ (d : ℕ). register_text d ++ (32 ∷ (policy_name x.policy ++ (32 ∷ (op_name x.op ++ (32 ∷ xs)))))) (sym operands.dest)
-    ∙ ap (λ (t : List ℕ). register_text read.dest ++ (32 ∷ (policy_name x.policy ++ (32 ∷ t)))) (sym (before_operands (shape x.op) read (op_name x.op))) in
-    is_quick count bytes read end (Some x) (operands.applied ∙ applied) (shaped (shape x.op) read, refl) (whole ∙ ap (λ (t : List ℕ). t ++ rest) text) (omega (arith, first.within, policy.within, op.within, operands.within, room))
+    ∙ ap (λ (t : List ℕ). register_text read.dest ++ (32 ∷ (policy_name x.policy ++ (32 ∷ t)))) (sym (before_operands (arity x.op) read (op_name x.op))) in
+    is_quick count bytes read end (Some x) (operands.applied ∙ applied) (shaped (arity x.op) read, refl) (whole ∙ ap (λ (t : List ℕ). t ++ rest) text) (omega (arith, first.within, policy.within, op.within, operands.within, room))
     record { dest = rw operands.dest dest; a = operands.a; b = operands.b; c = operands.c }

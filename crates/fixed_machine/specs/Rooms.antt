@@ -9,8 +9,8 @@ use Rattle.fixed_text.specs.Runs.{Run, Meaning, Output, Fault}
 use Rattle.fixed_machine.specs.Meaning.{zeros}
 use Rattle.fixed_machine.specs.Step.{IsCell}
 use Rattle.fixed_machine.specs.declared.cause.Cause.{Cause}
-use Rattle.fixed_machine.specs.declared.cause.RunFault.{RunFault}
-use Rattle.fixed_machine.specs.declared.cause.RunFault.TheVariants.{Script, Memory}
+use Rattle.fixed_machine.specs.declared.cause.ScriptFault.{ScriptFault}
+use Rattle.fixed_machine.specs.declared.cause.ScriptFault.TheVariants.{Script, Memory}
 
 -- a room as contracts see it: what it holds, and for how many registers and answer bytes it has room
 pub record Space : Type 0 where
@@ -84,7 +84,7 @@ IsAnswerOfRun run (Ok _) room = (run.cause ≡ None) × Holds run room
 IsAnswerOfRun run (Err c) room = (run.cause ≡ Some c) × Holds run room
 
 -- what a run returns, by the meaning
-abbrev pub IsAnswerOfMeaning : Meaning Cause → Result (List ℕ) RunFault → Type 0
+abbrev pub IsAnswerOfMeaning : Meaning Cause → Result (List ℕ) ScriptFault → Type 0
 IsAnswerOfMeaning m (Ok bytes) = m ≡ Output bytes
 IsAnswerOfMeaning m (Err (Script cause)) = m ≡ Fault cause
 IsAnswerOfMeaning m (Err Memory) = ⊤

@@ -23,7 +23,7 @@ pub enum Cause {
 
 /// Why a run returns no answers.
 #[derive(Debug, PartialEq, Eq, Drop, Error)]
-pub enum RunFault {
+pub enum ScriptFault {
     /// The first cause of the script.
     #[error("a line has a cause")]
     Script(Cause),

@@ -20,6 +20,6 @@ mod running;
 mod stepping;
 
 pub use answer::Answer;
-pub use cause::{Cause, RunFault};
+pub use cause::{Cause, ScriptFault};
 pub use room::{Answers, Room, step};
 pub use running::{run, run_in};

@@ -12,7 +12,7 @@ ghost use Rattle.fixed_script.specs.Text.{register_text};
 ghost use Rattle.fixed_machine.specs.inside.Quick.{Stands, HasOperands, IsQuickLine};
 
 use crate::quick_names::{is_text, op_at, policy_at};
-use fixed_script::{Op, Policy, Shape, shape_of};
+use fixed_script::{Arity, Op, Policy, arity_of};
 
 /// The length of the longest line that the fast path reads, including its newline. At least so many bytes must remain.
 pub(crate) const LONGEST: usize = 64;
@@ -135,7 +135,7 @@ fn operands_at(
     bytes: &[u8],
     at: usize,
     count: u8,
-    kind: Shape,
+    kind: Arity,
     line: QuickLine,
 ) -> Option<(QuickLine, usize)>
     requires room { at + 25 ≤ length bytes.now }
@@ -144,16 +144,16 @@ fn operands_at(
     ensures { IfSome result (λ found. HasOperands kind count bytes.now at line found.0 found.1) }
 {
     match kind {
-        Shape::Unary => {
+        Arity::Unary => {
             let (a, end) = register_before(bytes, at, b'\n', count)?;
             Some((QuickLine { a, ..line }, end))
         }
-        Shape::Binary => {
+        Arity::Binary => {
             let (a, at) = register_before(bytes, at, b' ', count)?;
             let (b, end) = register_before(bytes, at, b'\n', count)?;
             Some((QuickLine { a, b, ..line }, end))
         }
-        Shape::ByInteger => {
+        Arity::ByInteger => {
             let (a, at) = register_before(bytes, at, b' ', count)?;
             let (below_zero, magnitude, end) = literal_at(bytes, at)?;
             let line = QuickLine {
@@ -164,7 +164,7 @@ fn operands_at(
             };
             Some((line, end))
         }
-        Shape::Ternary => {
+        Arity::Ternary => {
             let (a, at) = register_before(bytes, at, b' ', count)?;
             let (b, at) = register_before(bytes, at, b' ', count)?;
             let (c, end) = register_before(bytes, at, b'\n', count)?;
@@ -206,7 +206,7 @@ pub(crate) fn quick_line(bytes: &[u8], count: u8) -> Option<(QuickLine, usize)>
         bytes,
         at,
         count,
-        shape_of(op),
+        arity_of(op),
         QuickLine { applied, ..line },
     )
 }

@@ -4,7 +4,7 @@
 ghost use Rattle.std.specs.Prelude.{◌≡◌, ◌<◌, ◌≤◌, length, Some, None, Ok, IfSome, true, false};
 ghost use Rattle.std.specs.List.{All};
 ghost use Rattle.fixed_word.specs.Format.{fits};
-ghost use Rattle.fixed_script.specs.Names.{shape};
+ghost use Rattle.fixed_script.specs.Names.{arity};
 ghost use Rattle.fixed_script.specs.Text.{Apply};
 ghost use Rattle.fixed_text.specs.Words.{is_signed as signed, width as width_in};
 ghost use Rattle.fixed_machine.specs.Machine.{cell_at as cell_in, is_mismatched as mismatched};
@@ -18,7 +18,7 @@ use crate::projected::answer_as;
 use crate::quick::{Applied, QuickLine};
 use crate::register::{OperandRegisters, Register, with_sign};
 use crate::stepping::{is_offered, store};
-use fixed_script::{Op, Shape, shape_of};
+use fixed_script::{Arity, Op, arity_of};
 use fixed_text::WordName;
 use fixed_word::{Side, Word, outcome_of};
 
@@ -39,7 +39,7 @@ fn is_matched(word: WordName, registers: &[Register], line: QuickLine, applied: 
     requires b { line.b < length registers.now }
     requires c { line.c < length registers.now }
     ensures { result ≡ true → mismatched (state_in word (cells_of registers.now))
-        (Apply line.dest applied.policy applied.op (quick_operands (shape applied.op) line) None) ≡ false }
+        (Apply line.dest applied.policy applied.op (quick_operands (arity applied.op) line) None) ≡ false }
 {
     let fraction = registers[line.dest].fraction;
     registers[line.a].fraction == fraction
@@ -55,10 +55,10 @@ fn is_matched(word: WordName, registers: &[Register], line: QuickLine, applied: 
 fn second_of<T: Word>(registers: &[Register], line: QuickLine, op: Op) -> Option<Register>
     requires b { line.b < length registers.now }
     ensures { IfSome result
-        (λ second. IsSecond T.SIGNED T.BITS (cells_of registers.now) line (shape op) (cell_of second)) }
+        (λ second. IsSecond T.SIGNED T.BITS (cells_of registers.now) line (arity op) (cell_of second)) }
 {
-    match shape_of(op) {
-        Shape::ByInteger => {
+    match arity_of(op) {
+        Arity::ByInteger => {
             if is_number::<T>(line) {
                 Some(Register {
                     magnitude: line.magnitude,
@@ -69,7 +69,7 @@ fn second_of<T: Word>(registers: &[Register], line: QuickLine, op: Op) -> Option
                 None
             }
         }
-        Shape::Unary | Shape::Binary | Shape::Ternary => Some(registers[line.b]),
+        Arity::Unary | Arity::Binary | Arity::Ternary => Some(registers[line.b]),
     }
 }
 
@@ -90,7 +90,7 @@ fn answer_of_applied<T: Word>(
     requires b { line.b < length registers.now }
     requires c { line.c < length registers.now }
     ensures { IfSome result (λ answer. IsAnswerOfLine (state_in word (cells_of registers.now))
-        (Apply line.dest applied.policy applied.op (quick_operands (shape applied.op) line) None) number (Ok answer)) }
+        (Apply line.dest applied.policy applied.op (quick_operands (arity applied.op) line) None) number (Ok answer)) }
 {
     if !is_offered(word, applied.policy, applied.op) {
         return None;

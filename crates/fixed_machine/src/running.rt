@@ -10,7 +10,7 @@ ghost use Rattle.fixed_machine.specs.inside.Moves.{HasMoved, HaveMoved};
 ghost use Rattle.fixed_machine.specs.Rooms.{KeepsRoom, IsAnswerOfMeaning, IsAnswerOfRun, Suffices};
 ghost use Rattle.fixed_machine.specs.Step.{state_in};
 
-use crate::cause::{Cause, RunFault};
+use crate::cause::{Cause, ScriptFault};
 use crate::quick::{LONGEST, quick_line};
 use crate::room::{Answers, Room};
 use fixed_script::header_of_piece;
@@ -176,15 +176,15 @@ pub fn run_in(script: &[u8], room: &mut Room) -> Result<(), Cause>
 
 /// Runs a script and returns its answers. Fails with the first cause of a line, or if memory runs out, and then returns
 /// no answers.
-pub fn run(alloc: Global, script: &[u8]) -> Result<Answers, RunFault>
+pub fn run(alloc: Global, script: &[u8]) -> Result<Answers, ScriptFault>
     ensures { IsAnswerOfMeaning (meaning script.now) result }
 {
     let mut room = match Room::for_script(alloc, script) {
         Ok(room) => room,
-        Err(_) => return Err(RunFault::Memory),
+        Err(_) => return Err(ScriptFault::Memory),
     };
     match run_in(script, &mut room) {
         Ok(()) => Ok(room.into_answers()),
-        Err(cause) => Err(RunFault::Script(cause)),
+        Err(cause) => Err(ScriptFault::Script(cause)),
     }
 }

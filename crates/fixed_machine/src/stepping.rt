@@ -15,7 +15,7 @@ use crate::answer::Answer;
 use crate::cause::Cause;
 use crate::projected::answer_in_word;
 use crate::register::{OperandRegisters, Register, with_sign};
-use fixed_script::{Line, Literal, Op, Policy, Shape, shape_of, takes_rounding};
+use fixed_script::{Arity, Line, Literal, Op, Policy, arity_of, takes_rounding};
 use fixed_text::WordName;
 use fixed_word::Rounding;
 
@@ -34,16 +34,16 @@ fn is_shaped(line: &Line) -> bool
     match line {
         Line::Set { .. } => true,
         Line::One { op, rounding, .. } => {
-            shape_of(*op) == Shape::Unary && may_round(*op, *rounding)
+            arity_of(*op) == Arity::Unary && may_round(*op, *rounding)
         }
         Line::Two { op, rounding, .. } => {
-            shape_of(*op) == Shape::Binary && may_round(*op, *rounding)
+            arity_of(*op) == Arity::Binary && may_round(*op, *rounding)
         }
         Line::Int { op, rounding, .. } => {
-            shape_of(*op) == Shape::ByInteger && may_round(*op, *rounding)
+            arity_of(*op) == Arity::ByInteger && may_round(*op, *rounding)
         }
         Line::Three { op, rounding, .. } => {
-            shape_of(*op) == Shape::Ternary && may_round(*op, *rounding)
+            arity_of(*op) == Arity::Ternary && may_round(*op, *rounding)
         }
     }
 }

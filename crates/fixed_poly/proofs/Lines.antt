@@ -7,9 +7,9 @@ use Rattle.std.specs.Str.{bytes_eq}
 use Rattle.fixed_text.specs.Numbers.{whole_in, wholes_in, before_others, only_number}
 use Rattle.fixed_word.specs.Format.{IsWidth}
 use Rattle.fixed_text.specs.declared.decimal.Decimal.{Decimal}
-use Rattle.fixed_text.specs.declared.fault.Refusal.{Refusal}
+use Rattle.fixed_text.specs.declared.fault.LineFault.{LineFault}
 use Rattle.fixed_text.specs.Decimals.{decimal_of, decimal_value}
-use Rattle.fixed_text.specs.Answers.{IsRefusal}
+use Rattle.fixed_text.specs.Answers.{IsLineFault}
 use Rattle.fixed_text.proofs.Caps.{held_alike}
 use Rattle.fixed_text.proofs.Turns.{refused_map}
 use Rattle.fixed_text.specs.Readings.{Reading, Malformed, Misfit, Read, read_map, fitting_number, fitting_numbers}
@@ -47,12 +47,12 @@ module _ (before state : PolyState) (o : Option ℤ) (d : Decimal) (is : state �
       ∙ ap (read_map (λ x. (state, answer_text state x))) (sym (held_alike state.signed state.bits o d w held) ∙ e)
       ∙ ap (λ (s : PolyState). Read (s, answer_text state x)) is
 
-  pub at_refused : (refusal : Refusal) → IsRefusal (fitting_number state.signed state.bits (Some (decimal_value d))) refusal → IsRefusal (line_read before (option_map At o)) refusal
+  pub at_refused : (refusal : LineFault) → IsLineFault (fitting_number state.signed state.bits (Some (decimal_value d))) refusal → IsLineFault (line_read before (option_map At o)) refusal
   at_refused refusal e =
       let alike = ap (λ (s : PolyState). line_read s (option_map At o)) (sym is) ∙ at_alike state o some in
-      subst (λ (r : Reading (PolyState × List ℕ)). IsRefusal r refusal) (sym alike)
+      subst (λ (r : Reading (PolyState × List ℕ)). IsLineFault r refusal) (sym alike)
       (refused_map (λ x. (state, answer_text state x)) (fitting_number state.signed state.bits o) refusal
-      (subst (λ (r : Reading ℤ). IsRefusal r refusal) (held_alike state.signed state.bits o d w held) e))
+      (subst (λ (r : Reading ℤ). IsLineFault r refusal) (held_alike state.signed state.bits o d w held) e))
 
 pub started_in : (signed : Bool) (n frac : ℕ) → frac ≤ n → started signed n frac ≡ Read (record { signed = signed; bits = n; frac = frac; coefs = [] })
 started_in signed n frac le =

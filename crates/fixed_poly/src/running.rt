@@ -17,7 +17,7 @@ use crate::fault::PolyFault;
 use crate::header::{Header, read_header};
 use crate::reply::PolyReply;
 use fixed_text::{
-    InWord, Output, Refusal, Run, RunFault, Tokens, fitting, open, read_only_number, read_words,
+    InWord, LineFault, Output, Run, RunFault, Tokens, fitting, open, read_only_number, read_words,
     run_lines,
 };
 use fixed_word::{RawWord, Valued, Word};
@@ -64,14 +64,14 @@ fn append_reply<T: Word>(output: &mut Output, reply: PolyReply<T>) -> Result<(),
 }
 
 impl<T: Word> PolyRun<T> {
-    /// Replaces the coefficients by those that the tokens write. Fails with `Refusal::Unformed` if the tokens are
-    /// malformed, and with `Refusal::Unfit` if a coefficient does not fit.
-    fn take_coefs(&mut self, tokens: Tokens<'_>) -> Result<(), Refusal>
+    /// Replaces the coefficients by those that the tokens write. Fails with `LineFault::Unformed` if the tokens are
+    /// malformed, and with `LineFault::Unfit` if a coefficient does not fit.
+    fn take_coefs(&mut self, tokens: Tokens<'_>) -> Result<(), LineFault>
         ensures { IsStepOfLine (line_read self.old (coefs_of (wholes_in tokens.entry))) result self.new
             [] [] }
     {
         if tokens.is_empty() {
-            return Err(Refusal::Unformed);
+            return Err(LineFault::Unformed);
         }
         match read_words(self.alloc, tokens) {
             Ok(coefs) => {
@@ -82,22 +82,22 @@ impl<T: Word> PolyRun<T> {
         }
     }
 
-    /// Adds the text of the reply at the point that the tokens write. Fails with `Refusal::Unformed` if the tokens are
-    /// malformed or there are no coefficients, and with `Refusal::Unfit` if the point does not fit.
-    fn answer(&self, tokens: Tokens<'_>, output: &mut Output) -> Result<(), Refusal>
+    /// Adds the text of the reply at the point that the tokens write. Fails with `LineFault::Unformed` if the tokens are
+    /// malformed or there are no coefficients, and with `LineFault::Unfit` if the point does not fit.
+    fn answer(&self, tokens: Tokens<'_>, output: &mut Output) -> Result<(), LineFault>
         ensures { IsStepOfLine (line_read self.now (option_map At (only_number tokens.entry))) result
             self.now output.old output.new }
     {
         let Some(number) = read_only_number(tokens) else {
-            return Err(Refusal::Unformed);
+            return Err(LineFault::Unformed);
         };
         if self.coefs.is_empty() {
-            return Err(Refusal::Unformed);
+            return Err(LineFault::Unformed);
         }
         match fitting(&number) {
             Ok(x) => match append_reply(output, horner_of(&self.coefs, x, self.frac)) {
                 Ok(()) => Ok(()),
-                Err(_) => Err(Refusal::Wanting),
+                Err(_) => Err(LineFault::Wanting),
             },
             Err(refusal) => Err(refusal),
         }
@@ -107,17 +107,17 @@ impl<T: Word> PolyRun<T> {
 impl<T: Word> Run for PolyRun<T> {
     ghost line = { poly_line };
 
-    fn step(&mut self, bytes: &[u8], output: &mut Output) -> Result<(), Refusal> {
+    fn step(&mut self, bytes: &[u8], output: &mut Output) -> Result<(), LineFault> {
         let mut tokens = Tokens::new(bytes);
         let Some(name) = tokens.take() else {
-            return Err(Refusal::Unformed);
+            return Err(LineFault::Unformed);
         };
         if name == b"coefs".as_slice() {
             self.take_coefs(tokens)
         } else if name == b"at".as_slice() {
             self.answer(tokens, output)
         } else {
-            Err(Refusal::Unformed)
+            Err(LineFault::Unformed)
         }
     }
 }

@@ -10,16 +10,16 @@ use Rattle.fixed_word.specs.declared.rounding.Rounding.TheVariants.{Down, Zero, 
 use Rattle.fixed_script.specs.declared.names.Policy.{Policy}
 use Rattle.fixed_script.specs.declared.names.Policy.TheVariants.{Checked, Saturating, Wrapping, Overflowing, Strict}
 use Rattle.fixed_script.specs.declared.names.Op.{Op}
-use Rattle.fixed_script.specs.declared.line.Shape.{Shape}
-use Rattle.fixed_script.specs.declared.line.Shape.TheVariants.{Unary, Binary, ByInteger, Ternary}
+use Rattle.fixed_script.specs.declared.line.Arity.{Arity}
+use Rattle.fixed_script.specs.declared.line.Arity.TheVariants.{Unary, Binary, ByInteger, Ternary}
 use Rattle.fixed_script.specs.declared.line.Line.{Line}
 use Rattle.fixed_script.specs.declared.line.Line.TheVariants.{Set, One, Two, Int, Three}
 use Rattle.fixed_word.specs.Decimal.{whole_text}
-use Rattle.fixed_script.specs.Names.{policy_name, policy_named, op_name, op_named, all_ops, rounding_name, rounding_named, shape}
-use Rattle.fixed_script.specs.Text.{ScriptLine, SetTo, Apply, Operands, OneRegister, TwoRegisters, RegisterAndInt, ThreeRegisters, shape_of, takes_rounding, may_round, IsLine, register_text, line_tokens, line_text, operand_tokens}
+use Rattle.fixed_script.specs.Names.{policy_name, policy_named, op_name, op_named, all_ops, rounding_name, rounding_named, arity}
+use Rattle.fixed_script.specs.Text.{ScriptLine, SetTo, Apply, Operands, OneRegister, TwoRegisters, RegisterAndInt, ThreeRegisters, arity_of, takes_rounding, may_round, IsLine, register_text, line_tokens, line_text, operand_tokens}
 use Rattle.fixed_script.proofs.RoundingTokens.{rounding_tokens}
 use Rattle.fixed_digits.specs.Numerals.{cap}
-use Rattle.fixed_script.specs.Capped.{cap_whole, cap_operands, capped, checked_script_line, literal_value, of_shape, if_rounds}
+use Rattle.fixed_script.specs.Capped.{cap_whole, cap_operands, capped, checked_script_line, literal_value, of_arity, if_rounds}
 use Rattle.fixed_text.specs.Tokens.{◌>>=◌, next_by, at_end, tokens_of}
 use Rattle.fixed_script.specs.inside.Parser.{register_at, literal_at, set_at, named_at, rounding_at, ends_by, operands_at, apply_at, line_at}
 use Rattle.fixed_text.proofs.Steps.{guard_some, bind_some, next_some, end_some, named_takes}
@@ -70,9 +70,9 @@ rounding_again op (Some Even) m = ap (λ b. cond b (Some Even) None >>= λ q. So
 -- the operands that were read, and the rounding
 abbrev AreOperands : ℕ → Policy → Op → ℕ → List (List ℕ) → Line → Type 0
 AreOperands dest policy op a ts line =
-    (xs : Operands) × (r : Option Rounding) × (shape op ≡ shape_of xs) × (may_round op r ≡ true) × (operand_tokens xs ++ rounding_tokens r ≡ register_text a ∷ ts) × (checked_script_line line ≡ Some (Apply dest policy op (cap_operands xs) r))
+    (xs : Operands) × (r : Option Rounding) × (arity op ≡ arity_of xs) × (may_round op r ≡ true) × (operand_tokens xs ++ rounding_tokens r ≡ register_text a ∷ ts) × (checked_script_line line ≡ Some (Apply dest policy op (cap_operands xs) r))
 
-operands_takes : (s : Shape) (dest : ℕ) (policy : Policy) (op : Op) (a : ℕ) (ts : List (List ℕ)) (line : Line) → shape op ≡ s → operands_at s dest policy op (cap a) ts ≡ Some line → AreOperands dest policy op a ts line
+operands_takes : (s : Arity) (dest : ℕ) (policy : Policy) (op : Op) (a : ℕ) (ts : List (List ℕ)) (line : Line) → arity op ≡ s → operands_at s dest policy op (cap a) ts ≡ Some line → AreOperands dest policy op a ts line
 unfolding operands_at
 operands_takes Unary dest policy op a ts line s e =
     let d = rounding_takes op ts (One dest policy op (cap a)) line e in (
@@ -81,7 +81,7 @@ operands_takes Unary dest policy op a ts line s e =
       s,
       d.1,
       ap (λ us. register_text a ∷ us) d.2,
-      ap checked_script_line (sym d.3) ∙ rounds_some op d.0 (of_shape (shape op) Unary (Apply dest policy op (OneRegister (cap a)) d.0)) d.1 ∙ ap (λ s. of_shape s Unary (Apply dest policy op (OneRegister (cap a)) d.0)) s,
+      ap checked_script_line (sym d.3) ∙ rounds_some op d.0 (of_arity (arity op) Unary (Apply dest policy op (OneRegister (cap a)) d.0)) d.1 ∙ ap (λ s. of_arity s Unary (Apply dest policy op (OneRegister (cap a)) d.0)) s,
     )
 operands_takes Binary dest policy op a ts line s e =
     let t = next_some register_at ts (λ b. ends_by op b.1 (Two dest policy op (cap a) b.0)) line e in
@@ -92,8 +92,8 @@ operands_takes Binary dest policy op a ts line s e =
       s,
       d.1,
       ap (λ u. register_text a ∷ u ∷ rounding_tokens d.0) b.1 ∙ ap (λ us. register_text a ∷ t.token ∷ us) d.2 ∙ ap (λ us. register_text a ∷ us) (sym t.is),
-      ap checked_script_line (sym d.3) ∙ rounds_some op d.0 (of_shape (shape op) Binary (Apply dest policy op (TwoRegisters (cap a) t.value) d.0)) d.1
-          ∙ ap (λ s. of_shape s Binary (Apply dest policy op (TwoRegisters (cap a) t.value) d.0)) s ∙ ap (λ v. Some (Apply dest policy op (TwoRegisters (cap a) v) d.0)) b.2,
+      ap checked_script_line (sym d.3) ∙ rounds_some op d.0 (of_arity (arity op) Binary (Apply dest policy op (TwoRegisters (cap a) t.value) d.0)) d.1
+          ∙ ap (λ s. of_arity s Binary (Apply dest policy op (TwoRegisters (cap a) t.value) d.0)) s ∙ ap (λ v. Some (Apply dest policy op (TwoRegisters (cap a) v) d.0)) b.2,
     )
 operands_takes ByInteger dest policy op a ts line s e =
     let t = next_some literal_at ts (λ k. ends_by op k.1 (Int dest policy op (cap a) k.0)) line e in
@@ -104,8 +104,8 @@ operands_takes ByInteger dest policy op a ts line s e =
       s,
       d.1,
       ap (λ u. register_text a ∷ u ∷ rounding_tokens d.0) k.1 ∙ ap (λ us. register_text a ∷ t.token ∷ us) d.2 ∙ ap (λ us. register_text a ∷ us) (sym t.is),
-      ap checked_script_line (sym d.3) ∙ rounds_some op d.0 (of_shape (shape op) ByInteger (Apply dest policy op (RegisterAndInt (cap a) (literal_value t.value)) d.0)) d.1
-          ∙ ap (λ s. of_shape s ByInteger (Apply dest policy op (RegisterAndInt (cap a) (literal_value t.value)) d.0)) s ∙ ap (λ v. Some (Apply dest policy op (RegisterAndInt (cap a) v) d.0)) k.2,
+      ap checked_script_line (sym d.3) ∙ rounds_some op d.0 (of_arity (arity op) ByInteger (Apply dest policy op (RegisterAndInt (cap a) (literal_value t.value)) d.0)) d.1
+          ∙ ap (λ s. of_arity s ByInteger (Apply dest policy op (RegisterAndInt (cap a) (literal_value t.value)) d.0)) s ∙ ap (λ v. Some (Apply dest policy op (RegisterAndInt (cap a) v) d.0)) k.2,
     )
 operands_takes Ternary dest policy op a ts line s e =
     let t = next_some register_at ts (λ b. next_by register_at b.1 >>= λ c. ends_by op c.1 (Three dest policy op (cap a) b.0 c.0)) line e in
@@ -119,23 +119,23 @@ operands_takes Ternary dest policy op a ts line s e =
       d.1,
       ap (λ x. register_text a ∷ x ∷ register_text c.0 ∷ rounding_tokens d.0) b.1 ∙ ap (λ x. register_text a ∷ t.token ∷ x ∷ rounding_tokens d.0) c.1
           ∙ ap (λ us. register_text a ∷ t.token ∷ u.token ∷ us) d.2 ∙ ap (λ us. register_text a ∷ t.token ∷ us) (sym u.is) ∙ ap (λ us. register_text a ∷ us) (sym t.is),
-      ap checked_script_line (sym d.3) ∙ rounds_some op d.0 (of_shape (shape op) Ternary (Apply dest policy op (ThreeRegisters (cap a) t.value u.value) d.0)) d.1
-          ∙ ap (λ s. of_shape s Ternary (Apply dest policy op (ThreeRegisters (cap a) t.value u.value) d.0)) s
+      ap checked_script_line (sym d.3) ∙ rounds_some op d.0 (of_arity (arity op) Ternary (Apply dest policy op (ThreeRegisters (cap a) t.value u.value) d.0)) d.1
+          ∙ ap (λ s. of_arity s Ternary (Apply dest policy op (ThreeRegisters (cap a) t.value u.value) d.0)) s
           ∙ ap (λ v. Some (Apply dest policy op (ThreeRegisters (cap a) v u.value) d.0)) b.2 ∙ ap (λ v. Some (Apply dest policy op (ThreeRegisters (cap a) (cap b.0) v) d.0)) c.2,
     )
 
 abbrev IsApplied : ℕ → Policy → List (List ℕ) → Line → Type 0
 IsApplied dest policy ts line =
-    (op : Op) × (xs : Operands) × (r : Option Rounding) × (shape op ≡ shape_of xs) × (may_round op r ≡ true) × (op_name op ∷ (operand_tokens xs ++ rounding_tokens r) ≡ ts) × (checked_script_line line ≡ Some (Apply dest policy op (cap_operands xs) r))
+    (op : Op) × (xs : Operands) × (r : Option Rounding) × (arity op ≡ arity_of xs) × (may_round op r ≡ true) × (op_name op ∷ (operand_tokens xs ++ rounding_tokens r) ≡ ts) × (checked_script_line line ≡ Some (Apply dest policy op (cap_operands xs) r))
 
 apply_takes : (dest : ℕ) (policy : Policy) (ts : List (List ℕ)) (line : Line) → apply_at dest policy ts ≡ Some line → IsApplied dest policy ts line
 unfolding apply_at
 apply_takes dest policy ts line e =
-    let t = next_some op_named ts (λ op. next_by register_at op.1 >>= λ a. operands_at (shape op.0) dest policy op.0 a.0 a.1) line e in
+    let t = next_some op_named ts (λ op. next_by register_at op.1 >>= λ a. operands_at (arity op.0) dest policy op.0 a.0 a.1) line e in
     let name = named_takes op_name all_ops t.token t.value t.reads in
-    let u = next_some register_at t.rest (λ a. operands_at (shape t.value) dest policy t.value a.0 a.1) line t.goes_on in
+    let u = next_some register_at t.rest (λ a. operands_at (arity t.value) dest policy t.value a.0 a.1) line t.goes_on in
     let a = register_takes u.token u.value u.reads in
-    let xs = operands_takes (shape t.value) dest policy t.value a.0 u.rest line refl (ap (λ v. operands_at (shape t.value) dest policy t.value v u.rest) (sym a.2) ∙ u.goes_on) in (
+    let xs = operands_takes (arity t.value) dest policy t.value a.0 u.rest line refl (ap (λ v. operands_at (arity t.value) dest policy t.value v u.rest) (sym a.2) ∙ u.goes_on) in (
       t.value,
       xs.0,
       xs.1,

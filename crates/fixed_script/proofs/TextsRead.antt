@@ -8,11 +8,11 @@ use Rattle.std.proofs.lemmas.Option.{same_Some}
 use Rattle.fixed_word.specs.declared.rounding.Rounding.{Rounding}
 use Rattle.fixed_script.specs.declared.names.Policy.{Policy}
 use Rattle.fixed_script.specs.declared.names.Op.{Op}
-use Rattle.fixed_script.specs.declared.line.Shape.{Shape}
-use Rattle.fixed_script.specs.declared.line.Shape.TheVariants.{Unary, Binary, ByInteger, Ternary}
+use Rattle.fixed_script.specs.declared.line.Arity.{Arity}
+use Rattle.fixed_script.specs.declared.line.Arity.TheVariants.{Unary, Binary, ByInteger, Ternary}
 use Rattle.fixed_word.specs.Decimal.{natural_text}
-use Rattle.fixed_script.specs.Names.{policy_named, op_named, rounding_named, shape}
-use Rattle.fixed_script.specs.Text.{ScriptHeader, header_text, header_tokens, ScriptLine, SetTo, Apply, Operands, OneRegister, TwoRegisters, RegisterAndInt, ThreeRegisters, takes_rounding, may_round, IsLine, line_text, line_tokens, operand_tokens, shape_of}
+use Rattle.fixed_script.specs.Names.{policy_named, op_named, rounding_named, arity}
+use Rattle.fixed_script.specs.Text.{ScriptHeader, header_text, header_tokens, ScriptLine, SetTo, Apply, Operands, OneRegister, TwoRegisters, RegisterAndInt, ThreeRegisters, takes_rounding, may_round, IsLine, line_text, line_tokens, operand_tokens, arity_of}
 use Rattle.fixed_script.proofs.RoundingTokens.{rounding_tokens}
 use Rattle.fixed_text.specs.Inverse.{token, whole_value, numbered_value}
 use Rattle.fixed_text.specs.Tokens.{tokens_of}
@@ -31,7 +31,7 @@ use Rattle.fixed_script.specs.Lines.{line_of_piece, header_of_piece, operands_in
 use Rattle.fixed_script.specs.ReadPieces.{ReadsLine, ReadsHeader}
 
 -- ---- what is read back
-operands_back : (op : Op) (xs : Operands) (r : Option Rounding) → shape op ≡ shape_of xs → operands_in (shape op) (operand_tokens xs ++ rounding_tokens r) ≡ xs
+operands_back : (op : Op) (xs : Operands) (r : Option Rounding) → arity op ≡ arity_of xs → operands_in (arity op) (operand_tokens xs ++ rounding_tokens r) ≡ xs
 operands_back op (OneRegister a) r is = rw (is, natural_back a) refl
 operands_back op (TwoRegisters a b) r is = rw (is, natural_back a, natural_back b) refl
 operands_back op (RegisterAndInt a k) r is = rw (is, natural_back a, whole_back k) refl
@@ -56,7 +56,7 @@ named_back false op (Some r) t m = absurd (false≢true (sym t ∙ m))
 rounding_back : (op : Op) (xs : Operands) (r : Option Rounding) → may_round op r ≡ true → rounding_in op (operand_tokens xs ++ rounding_tokens r) ≡ r
 rounding_back op xs r m = ap (λ (q : Option Rounding). if takes_rounding op then q else None) (last_names xs r) ∙ named_back (takes_rounding op) op r refl m
 
-applied_back : (dest : ℕ) (policy : Policy) (op : Op) (xs : Operands) (r : Option Rounding) → shape op ≡ shape_of xs → may_round op r ≡ true
+applied_back : (dest : ℕ) (policy : Policy) (op : Op) (xs : Operands) (r : Option Rounding) → arity op ≡ arity_of xs → may_round op r ≡ true
     → apply_in dest policy op (operand_tokens xs ++ rounding_tokens r) ≡ Apply dest policy op xs r
 applied_back dest policy op xs r is m =
     ap (λ (ys : Operands). Apply dest policy op ys (rounding_in op (operand_tokens xs ++ rounding_tokens r))) (operands_back op xs r is)
@@ -77,7 +77,7 @@ header_back h =
     ∙ ap (λ (n : ℕ). Some (made n (map (digits_value 10) (map natural_text h.others)))) (natural_back h.first) ∙ ap (λ (ns : List ℕ). Some (made h.first ns)) (naturals_back h.others)
 
 -- ---- only lines are read
-shaped : (s : Shape) (ts : List (List ℕ)) → s ≡ shape_of (operands_in s ts)
+shaped : (s : Arity) (ts : List (List ℕ)) → s ≡ arity_of (operands_in s ts)
 shaped Unary ts = refl
 shaped Binary ts = refl
 shaped ByInteger ts = refl
@@ -89,7 +89,7 @@ may true op None is = refl
 may true op (Some r) is = is
 
 apply_is : (dest : ℕ) (p : Policy) (o : Op) (ts : List (List ℕ)) → IsLine (apply_in dest p o ts)
-apply_is dest p o ts = (shaped (shape o) ts, may (takes_rounding o) o (rounding_named (token ts (length ts - 1))) refl)
+apply_is dest p o ts = (shaped (arity o) ts, may (takes_rounding o) o (rounding_named (token ts (length ts - 1))) refl)
 
 pub line_is : (ts : List (List ℕ)) (l : ScriptLine) → line_in ts ≡ Some l → IsLine l
 line_is ts l e = by_name (bytes_eq (token ts 1) (codes "set")) e

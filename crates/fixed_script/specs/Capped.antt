@@ -3,12 +3,12 @@ use Rattle.std.specs.Prelude.{suc, ℤ, pos, negsuc, neg_ℤ, if◌then◌else�
 use Rattle.fixed_digits.specs.Numerals.{cap}
 use Rattle.fixed_word.specs.declared.rounding.Rounding.{Rounding}
 use Rattle.fixed_script.specs.declared.names.Op.{Op}
-use Rattle.fixed_script.specs.declared.line.Shape.{Shape}
-use Rattle.fixed_script.specs.declared.line.Shape.TheVariants.{Unary, Binary, ByInteger, Ternary}
+use Rattle.fixed_script.specs.declared.line.Arity.{Arity}
+use Rattle.fixed_script.specs.declared.line.Arity.TheVariants.{Unary, Binary, ByInteger, Ternary}
 use Rattle.fixed_script.specs.declared.literal.Literal.{Literal}
 use Rattle.fixed_script.specs.declared.line.Line.{Line}
 use Rattle.fixed_script.specs.declared.line.Line.TheVariants.{Set, One, Two, Int, Three}
-use Rattle.fixed_script.specs.Names.{shape}
+use Rattle.fixed_script.specs.Names.{arity}
 use Rattle.fixed_script.specs.Text.{Operands, OneRegister, TwoRegisters, RegisterAndInt, ThreeRegisters, ScriptLine, SetTo, Apply, may_round}
 
 -- a capped number keeps its sign
@@ -31,13 +31,13 @@ capped (Apply dest policy op operands rounding) = Apply (cap dest) policy op (ca
 abbrev pub literal_value : Literal → ℤ
 literal_value l = if l.below_zero then neg_ℤ (pos l.magnitude) else pos l.magnitude
 
--- the line, if the operation takes operands of that shape
-abbrev pub of_shape : Shape → Shape → ScriptLine → Option ScriptLine
-of_shape Unary Unary line = Some line
-of_shape Binary Binary line = Some line
-of_shape ByInteger ByInteger line = Some line
-of_shape Ternary Ternary line = Some line
-of_shape _ _ line = None
+-- the line, if the operation takes operands of that arity
+abbrev pub of_arity : Arity → Arity → ScriptLine → Option ScriptLine
+of_arity Unary Unary line = Some line
+of_arity Binary Binary line = Some line
+of_arity ByInteger ByInteger line = Some line
+of_arity Ternary Ternary line = Some line
+of_arity _ _ line = None
 
 -- the line, if the operation may name that rounding
 abbrev pub if_rounds : Op → Option Rounding → Option ScriptLine → Option ScriptLine
@@ -46,7 +46,7 @@ if_rounds op rounding line = if may_round op rounding then line else None
 -- the abstract line that a line of the code stands for, with the same numbers and rounding
 abbrev pub checked_script_line : Line → Option ScriptLine
 checked_script_line (Set dest literal) = Some (SetTo dest (literal_value literal))
-checked_script_line (One dest policy op a r) = if_rounds op r (of_shape (shape op) Unary (Apply dest policy op (OneRegister a) r))
-checked_script_line (Two dest policy op a b r) = if_rounds op r (of_shape (shape op) Binary (Apply dest policy op (TwoRegisters a b) r))
-checked_script_line (Int dest policy op a literal r) = if_rounds op r (of_shape (shape op) ByInteger (Apply dest policy op (RegisterAndInt a (literal_value literal)) r))
-checked_script_line (Three dest policy op a b c r) = if_rounds op r (of_shape (shape op) Ternary (Apply dest policy op (ThreeRegisters a b c) r))
+checked_script_line (One dest policy op a r) = if_rounds op r (of_arity (arity op) Unary (Apply dest policy op (OneRegister a) r))
+checked_script_line (Two dest policy op a b r) = if_rounds op r (of_arity (arity op) Binary (Apply dest policy op (TwoRegisters a b) r))
+checked_script_line (Int dest policy op a literal r) = if_rounds op r (of_arity (arity op) ByInteger (Apply dest policy op (RegisterAndInt a (literal_value literal)) r))
+checked_script_line (Three dest policy op a b c r) = if_rounds op r (of_arity (arity op) Ternary (Apply dest policy op (ThreeRegisters a b c) r))

@@ -6,17 +6,17 @@ use Rattle.std.specs.Str.Parse.{digits_value}
 use Rattle.fixed_word.specs.declared.rounding.Rounding.{Rounding}
 use Rattle.fixed_script.specs.declared.names.Policy.{Policy}
 use Rattle.fixed_script.specs.declared.names.Op.{Op}
-use Rattle.fixed_script.specs.declared.line.Shape.{Shape}
-use Rattle.fixed_script.specs.declared.line.Shape.TheVariants.{Unary, Binary, ByInteger, Ternary}
+use Rattle.fixed_script.specs.declared.line.Arity.{Arity}
+use Rattle.fixed_script.specs.declared.line.Arity.TheVariants.{Unary, Binary, ByInteger, Ternary}
 use Rattle.fixed_text.specs.Words.{word_named}
-use Rattle.fixed_script.specs.Names.{policy_named, op_named, rounding_named, shape}
+use Rattle.fixed_script.specs.Names.{policy_named, op_named, rounding_named, arity}
 use Rattle.fixed_script.specs.Text.{ScriptHeader, header_text, ScriptLine, SetTo, Apply, Operands, OneRegister, TwoRegisters, RegisterAndInt, ThreeRegisters, IsLine, line_text, takes_rounding}
 use Rattle.fixed_word.specs.Pieces.{body}
 use Rattle.fixed_text.specs.Inverse.{token, whole_value, numbered_value, if_its_text}
 use Rattle.fixed_text.specs.Tokens.{tokens_of}
 
 -- ---- the only line that can have these tokens, if any has
-abbrev pub operands_in : Shape → List (List ℕ) → Operands
+abbrev pub operands_in : Arity → List (List ℕ) → Operands
 operands_in Unary ts = OneRegister (numbered_value (token ts 0))
 operands_in Binary ts = TwoRegisters (numbered_value (token ts 0)) (numbered_value (token ts 1))
 operands_in ByInteger ts = RegisterAndInt (numbered_value (token ts 0)) (whole_value (token ts 1))
@@ -27,7 +27,7 @@ abbrev pub rounding_in : Op → List (List ℕ) → Option Rounding
 rounding_in op ts = if takes_rounding op then rounding_named (token ts (length ts - 1)) else None
 
 abbrev pub apply_in : ℕ → Policy → Op → List (List ℕ) → ScriptLine
-apply_in dest policy op ts = Apply dest policy op (operands_in (shape op) ts) (rounding_in op ts)
+apply_in dest policy op ts = Apply dest policy op (operands_in (arity op) ts) (rounding_in op ts)
 
 abbrev pub line_in : List (List ℕ) → Option ScriptLine
 line_in ts =

@@ -3,8 +3,8 @@ use Rattle.std.specs.Prelude.{ℕ, List, [], ◌∷◌, Option, Some, None, code
 use Rattle.fixed_text.specs.Words.{named}
 use Rattle.fixed_word.specs.declared.rounding.Rounding.{Rounding}
 use Rattle.fixed_word.specs.declared.rounding.Rounding.TheVariants.{Down, Zero, Even}
-use Rattle.fixed_script.specs.declared.line.Shape.{Shape}
-use Rattle.fixed_script.specs.declared.line.Shape.TheVariants.{Unary, Binary, ByInteger, Ternary}
+use Rattle.fixed_script.specs.declared.line.Arity.{Arity}
+use Rattle.fixed_script.specs.declared.line.Arity.TheVariants.{Unary, Binary, ByInteger, Ternary}
 use Rattle.fixed_script.specs.declared.names.Policy.{Policy}
 use Rattle.fixed_script.specs.declared.names.Policy.TheVariants.{Checked, Saturating, Wrapping, Overflowing, Strict}
 use Rattle.fixed_script.specs.declared.names.Op.{Op}
@@ -18,7 +18,7 @@ policy_name Overflowing = codes "overflowing"
 policy_name Strict = codes "strict"
 
 -- an operation's name, its operands, and the rounding of a line that names none, if lines may name one
-abbrev pub facts_of_op : Op → List ℕ × Shape × Option Rounding
+abbrev pub facts_of_op : Op → List ℕ × Arity × Option Rounding
 facts_of_op Neg = (codes "neg", Unary, None)
 facts_of_op Add = (codes "add", Binary, None)
 facts_of_op Sub = (codes "sub", Binary, None)
@@ -45,8 +45,8 @@ facts_of_op NextPowerOfTwo = (codes "next_power_of_two", Unary, None)
 abbrev pub op_name : Op → List ℕ
 op_name op = (facts_of_op op).0
 
-abbrev pub shape : Op → Shape
-shape op = (facts_of_op op).1
+abbrev pub arity : Op → Arity
+arity op = (facts_of_op op).1
 
 abbrev pub default_rounding : Op → Option Rounding
 default_rounding op = (facts_of_op op).2

@@ -5,10 +5,10 @@ use Rattle.fixed_text.specs.declared.names.WordName.{WordName}
 use Rattle.fixed_word.specs.declared.rounding.Rounding.{Rounding}
 use Rattle.fixed_script.specs.declared.names.Policy.{Policy}
 use Rattle.fixed_script.specs.declared.names.Op.{Op}
-use Rattle.fixed_script.specs.declared.line.Shape.{Shape}
-use Rattle.fixed_script.specs.declared.line.Shape.TheVariants.{Unary, Binary, ByInteger, Ternary}
+use Rattle.fixed_script.specs.declared.line.Arity.{Arity}
+use Rattle.fixed_script.specs.declared.line.Arity.TheVariants.{Unary, Binary, ByInteger, Ternary}
 use Rattle.fixed_text.specs.Words.{word_name}
-use Rattle.fixed_script.specs.Names.{policy_name, op_name, shape, default_rounding, rounding_name}
+use Rattle.fixed_script.specs.Names.{policy_name, op_name, arity, default_rounding, rounding_name}
 use Rattle.fixed_word.specs.Decimal.{natural_text, whole_text}
 
 -- a word, and the fractions of the registers: the first, and the others
@@ -29,11 +29,11 @@ pub data ScriptLine : Type 0 where
   SetTo : ℕ → ℤ → ScriptLine
   Apply : ℕ → Policy → Op → Operands → Option Rounding → ScriptLine
 
-abbrev pub shape_of : Operands → Shape
-shape_of (OneRegister a) = Unary
-shape_of (TwoRegisters a b) = Binary
-shape_of (RegisterAndInt a k) = ByInteger
-shape_of (ThreeRegisters a b c) = Ternary
+abbrev pub arity_of : Operands → Arity
+arity_of (OneRegister a) = Unary
+arity_of (TwoRegisters a b) = Binary
+arity_of (RegisterAndInt a k) = ByInteger
+arity_of (ThreeRegisters a b c) = Ternary
 
 -- whether the operation may name its rounding
 abbrev pub takes_rounding : Op → Bool
@@ -47,7 +47,7 @@ may_round op (Some rounding) = takes_rounding op
 -- the operands are those of the operation, which may name that rounding
 abbrev pub IsLine : ScriptLine → Type 0
 IsLine (SetTo dest value) = Unit {0}
-IsLine (Apply dest policy op operands rounding) = (shape op ≡ shape_of operands) × (may_round op rounding ≡ true)
+IsLine (Apply dest policy op operands rounding) = (arity op ≡ arity_of operands) × (may_round op rounding ≡ true)
 
 abbrev pub register_text : ℕ → List ℕ
 register_text n = 114 ∷ natural_text n

@@ -17,7 +17,7 @@ mod taking;
 pub use fixed_text::WordName;
 pub use fixed_word::Rounding;
 pub use header::{Fractions, Header, parse_header};
-pub use line::{Line, Shape, parse_line, shape_of, takes_rounding};
+pub use line::{Arity, Line, arity_of, parse_line, takes_rounding};
 pub use literal::Literal;
 pub use names::{Op, Policy, default_rounding};
 pub use piece::{header_of_piece, line_of_piece};

@@ -1,7 +1,7 @@
 //! The lines of a script.
 
 ghost use Rattle.std.specs.Prelude.{◌≡◌, Some, IfSome, IfNone};
-ghost use Rattle.fixed_script.specs.Names.{shape};
+ghost use Rattle.fixed_script.specs.Names.{arity};
 ghost use Rattle.fixed_script.specs.Text.{takes_rounding as rounds, ScriptLine, IsLine, line_text};
 ghost use Rattle.fixed_script.specs.Capped.{capped, checked_script_line};
 ghost use Rattle.fixed_text.specs.Tokens.{at_end, tokens_of};
@@ -15,7 +15,7 @@ use fixed_word::Rounding;
 
 /// The operands that an operation takes.
 #[derive(Clone, Copy, Debug, PartialEq, Eq)]
-pub enum Shape {
+pub enum Arity {
     Unary,
     Binary,
     ByInteger,
@@ -66,11 +66,11 @@ pub enum Line {
 }
 
 /// Returns which operands the operation takes.
-pub fn shape_of(op: Op) -> Shape
-    ensures { result ≡ shape op }
+pub fn arity_of(op: Op) -> Arity
+    ensures { result ≡ arity op }
 {
     match op {
-        Op::Neg | Op::Recip | Op::Sqrt | Op::Abs | Op::Signum | Op::NextPowerOfTwo => Shape::Unary,
+        Op::Neg | Op::Recip | Op::Sqrt | Op::Abs | Op::Signum | Op::NextPowerOfTwo => Arity::Unary,
         Op::Add
         | Op::Sub
         | Op::Mul
@@ -79,10 +79,10 @@ pub fn shape_of(op: Op) -> Shape
         | Op::NextMultipleOf
         | Op::Dist
         | Op::Rem
-        | Op::RemEuclid => Shape::Binary,
+        | Op::RemEuclid => Arity::Binary,
         Op::MulInt | Op::DivInt | Op::DivEuclidInt | Op::RemEuclidInt | Op::RemInt =>
-            Shape::ByInteger,
-        Op::MulAdd | Op::AddProd => Shape::Ternary,
+            Arity::ByInteger,
+        Op::MulAdd | Op::AddProd => Arity::Ternary,
     }
 }
 
@@ -137,10 +137,10 @@ fn rounding_at_end(op: Op, tokens: Tokens<'_>) -> Option<Option<Rounding>>
 
 #[tactic(auto, unfolding(crate::specs::inside::Parser::operands_at))]
 fn operands_of(dest: u128, policy: Policy, op: Op, a: u128, mut tokens: Tokens<'_>) -> Option<Line>
-    ensures { result ≡ operands_at (shape op) dest policy op a tokens.entry }
+    ensures { result ≡ operands_at (arity op) dest policy op a tokens.entry }
 {
-    match shape_of(op) {
-        Shape::Unary => {
+    match arity_of(op) {
+        Arity::Unary => {
             let rounding = rounding_at_end(op, tokens)?;
             Some(Line::One {
                 dest,
@@ -150,7 +150,7 @@ fn operands_of(dest: u128, policy: Policy, op: Op, a: u128, mut tokens: Tokens<'
                 rounding,
             })
         }
-        Shape::Binary => {
+        Arity::Binary => {
             let b = take_register(&mut tokens)?;
             let rounding = rounding_at_end(op, tokens)?;
             Some(Line::Two {
@@ -162,7 +162,7 @@ fn operands_of(dest: u128, policy: Policy, op: Op, a: u128, mut tokens: Tokens<'
                 rounding,
             })
         }
-        Shape::ByInteger => {
+        Arity::ByInteger => {
             let literal = take_literal(&mut tokens)?;
             let rounding = rounding_at_end(op, tokens)?;
             Some(Line::Int {
@@ -174,7 +174,7 @@ fn operands_of(dest: u128, policy: Policy, op: Op, a: u128, mut tokens: Tokens<'
                 rounding,
             })
         }
-        Shape::Ternary => {
+        Arity::Ternary => {
             let b = take_register(&mut tokens)?;
             let c = take_register(&mut tokens)?;
             let rounding = rounding_at_end(op, tokens)?;

@@ -10,9 +10,9 @@ use Rattle.fixed_text.specs.declared.fault.RunFault.TheVariants.{Syntax, OutOfRa
 use Rattle.fixed_text.specs.Runs.{Run, run_then, lines_from, meaning_of}
 use Rattle.fixed_text.specs.inside.Ends.{after}
 use Rattle.fixed_text.specs.Readings.{Reading, Malformed, Misfit, Read, read_map, PieceCause, at_piece, piece_by, line_by}
-use Rattle.fixed_text.specs.declared.fault.Refusal.{Refusal}
-use Rattle.fixed_text.specs.declared.fault.Refusal.TheVariants.{Unformed, Unfit, Wanting}
-use Rattle.fixed_text.specs.Answers.{EndsBy, IsStepOfLine, IsRefusal}
+use Rattle.fixed_text.specs.declared.fault.LineFault.{LineFault}
+use Rattle.fixed_text.specs.declared.fault.LineFault.TheVariants.{Unformed, Unfit, Wanting}
+use Rattle.fixed_text.specs.Answers.{EndsBy, IsStepOfLine, IsLineFault}
 use Rattle.fixed_text.specs.inside.Pieces.{IsFaultOfPiece}
 
 -- what is left of a script
@@ -69,11 +69,11 @@ fault_turn line printed s k rest p left (OutOfRange j) cut h = ap meaning_of (ca
 fault_turn line printed s k rest p left Memory cut h = tt
 
 -- a line that prints nothing leaves every output as it was
-pub quiet : {S : Type 0} (reading : Reading (S × List ℕ)) (result : Result (Unit {0}) Refusal) (state : S) (before : List ℕ) → IsStepOfLine reading result state [] [] → IsStepOfLine reading result state before before
+pub quiet : {S : Type 0} (reading : Reading (S × List ℕ)) (result : Result (Unit {0}) LineFault) (state : S) (before : List ℕ) → IsStepOfLine reading result state [] [] → IsStepOfLine reading result state before before
 quiet reading (Ok _) state before h = ([], h.1 ∙ ap (λ (bytes : List ℕ). Read (state, bytes)) (sym h.2), sym (append-nil before))
 quiet reading (Err refusal) state before h = h
 
-pub refused_map : {A B : Type 0} (make : A → B) (reading : Reading A) (refusal : Refusal) → IsRefusal reading refusal → IsRefusal (read_map make reading) refusal
+pub refused_map : {A B : Type 0} (make : A → B) (reading : Reading A) (refusal : LineFault) → IsLineFault reading refusal → IsLineFault (read_map make reading) refusal
 refused_map make reading Unformed h = ap (read_map make) h
 refused_map make reading Unfit h = ap (read_map make) h
 refused_map make reading Wanting h = tt

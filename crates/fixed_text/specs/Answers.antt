@@ -1,27 +1,27 @@
 -- What the calls of a run return.
 use Rattle.std.specs.Prelude.{◌≡◌, ◌++◌, ℕ, List, Result, Ok, Err}
-use Rattle.fixed_text.specs.declared.fault.Refusal.{Refusal}
-use Rattle.fixed_text.specs.declared.fault.Refusal.TheVariants.{Unformed, Unfit, Wanting}
+use Rattle.fixed_text.specs.declared.fault.LineFault.{LineFault}
+use Rattle.fixed_text.specs.declared.fault.LineFault.TheVariants.{Unformed, Unfit, Wanting}
 use Rattle.fixed_text.specs.declared.fault.RunFault.{RunFault}
 use Rattle.fixed_text.specs.declared.fault.RunFault.TheVariants.{Syntax, OutOfRange, Memory}
 use Rattle.fixed_text.specs.Runs.{Meaning, Output, Fault}
 use Rattle.fixed_text.specs.Readings.{Reading, Malformed, Misfit, Read, PieceCause, NoForm, NoRange}
 
 -- why nothing was read; any piece may be refused because memory ran out
-abbrev pub IsRefusal : {A : Type 0} → Reading A → Refusal → Type 0
-IsRefusal reading Unformed = reading ≡ Malformed
-IsRefusal reading Unfit = reading ≡ Misfit
-IsRefusal reading Wanting = Unit {0}
+abbrev pub IsLineFault : {A : Type 0} → Reading A → LineFault → Type 0
+IsLineFault reading Unformed = reading ≡ Malformed
+IsLineFault reading Unfit = reading ≡ Misfit
+IsLineFault reading Wanting = Unit {0}
 
 -- what was read, as the view shows it, or why nothing was read
-abbrev pub IsAnswerOfReading : {A B : Type 0} → (B → A) → Reading A → Result B Refusal → Type 0
+abbrev pub IsAnswerOfReading : {A B : Type 0} → (B → A) → Reading A → Result B LineFault → Type 0
 IsAnswerOfReading view reading (Ok x) = reading ≡ Read (view x)
-IsAnswerOfReading view reading (Err refusal) = IsRefusal reading refusal
+IsAnswerOfReading view reading (Err refusal) = IsLineFault reading refusal
 
 -- a line changes the state and adds what it prints
-abbrev pub IsStepOfLine : {S : Type 0} → Reading (S × List ℕ) → Result (Unit {0}) Refusal → S → List ℕ → List ℕ → Type 0
+abbrev pub IsStepOfLine : {S : Type 0} → Reading (S × List ℕ) → Result (Unit {0}) LineFault → S → List ℕ → List ℕ → Type 0
 IsStepOfLine reading (Ok _) state before now = (bytes : List ℕ) × (reading ≡ Read (state, bytes)) × (now ≡ before ++ bytes)
-IsStepOfLine reading (Err refusal) state before now = IsRefusal reading refusal
+IsStepOfLine reading (Err refusal) state before now = IsLineFault reading refusal
 
 -- ---- how a run ends
 -- the cause of a fault; any run may end because memory ran out

@@ -18,7 +18,7 @@ mod tokens;
 
 pub use added::{push_all, push_natural, push_whole};
 pub use decimal::{Decimal, read_decimal, value_in};
-pub use fault::{Refusal, RunFault};
+pub use fault::{LineFault, RunFault};
 pub use names::{WordName, word_of};
 pub use numbers::{fitting, read_natural, read_numbered, read_only_number, read_word, read_words};
 pub use output::Output;

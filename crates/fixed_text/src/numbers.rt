@@ -9,7 +9,7 @@ ghost use Rattle.fixed_text.specs.Readings.{fitting_number, fitting_numbers};
 ghost use Rattle.fixed_text.specs.Answers.{IsAnswerOfReading};
 
 use crate::decimal::{Decimal, read_decimal, value_in};
-use crate::fault::Refusal;
+use crate::fault::LineFault;
 use crate::tokens::Tokens;
 use fixed_digits::natural_of;
 use fixed_word::{RawWord, Word};
@@ -50,32 +50,32 @@ pub fn read_only_number(tokens: Tokens<'_>) -> Option<Decimal>
     }
 }
 
-/// Returns the word of a number. Fails with `Refusal::Unfit` if the number does not fit.
-pub fn fitting<T: Word>(number: &Decimal) -> Result<T, Refusal>
+/// Returns the word of a number. Fails with `LineFault::Unfit` if the number does not fit.
+pub fn fitting<T: Word>(number: &Decimal) -> Result<T, LineFault>
     ensures { IsAnswerOfReading T.value
         (fitting_number T.SIGNED T.BITS (Some (decimal_value number.now))) result }
 {
     match value_in(number) {
         Some(word) => Ok(word),
-        None => Err(Refusal::Unfit),
+        None => Err(LineFault::Unfit),
     }
 }
 
-/// Returns the word of the number with this decimal. Fails with `Refusal::Unformed` if no number has it, and with
-/// `Refusal::Unfit` if the number does not fit.
-pub fn read_word<T: Word>(token: &[u8]) -> Result<T, Refusal>
+/// Returns the word of the number with this decimal. Fails with `LineFault::Unformed` if no number has it, and with
+/// `LineFault::Unfit` if the number does not fit.
+pub fn read_word<T: Word>(token: &[u8]) -> Result<T, LineFault>
     ensures { IsAnswerOfReading T.value (fitting_number T.SIGNED T.BITS (whole_in token.now)) result }
 {
     match read_decimal(token) {
         Some(number) => fitting(&number),
-        None => Err(Refusal::Unformed),
+        None => Err(LineFault::Unformed),
     }
 }
 
-/// Returns the words of the numbers with these decimals, in order. Fails with `Refusal::Unformed` if a token is not a
-/// decimal, and otherwise with `Refusal::Unfit` if a number does not fit. Whatever the tokens are, it may fail with
-/// `Refusal::Wanting`, if memory runs out.
-pub fn read_words<T: Word>(alloc: Global, mut tokens: Tokens<'_>) -> Result<Vec<T>, Refusal>
+/// Returns the words of the numbers with these decimals, in order. Fails with `LineFault::Unformed` if a token is not a
+/// decimal, and otherwise with `LineFault::Unfit` if a number does not fit. Whatever the tokens are, it may fail with
+/// `LineFault::Wanting`, if memory runs out.
+pub fn read_words<T: Word>(alloc: Global, mut tokens: Tokens<'_>) -> Result<Vec<T>, LineFault>
     ensures { IsAnswerOfReading (λ words. map T.value words.items)
         (fitting_numbers T.SIGNED T.BITS (wholes_in tokens.entry)) result }
 {
@@ -85,11 +85,15 @@ pub fn read_words<T: Word>(alloc: Global, mut tokens: Tokens<'_>) -> Result<Vec<
         match read_word(token) {
             Ok(word) => match words.push(word) {
                 Ok(()) => {}
-                Err(_) => return Err(Refusal::Wanting),
+                Err(_) => return Err(LineFault::Wanting),
             },
-            Err(Refusal::Unfit) => fit = false,
+            Err(LineFault::Unfit) => fit = false,
             Err(refusal) => return Err(refusal),
         }
     }
-    if fit { Ok(words) } else { Err(Refusal::Unfit) }
+    if fit {
+        Ok(words)
+    } else {
+        Err(LineFault::Unfit)
+    }
 }

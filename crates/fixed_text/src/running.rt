@@ -8,7 +8,7 @@ ghost use Rattle.fixed_text.specs.Answers.{IsAnswerOfRun, IsStepOfLine};
 ghost use Rattle.fixed_text.specs.Words.{is_signed, width};
 ghost use Rattle.fixed_text.specs.inside.Pieces.{IsStepOfPiece};
 
-use crate::fault::{Refusal, RunFault};
+use crate::fault::{LineFault, RunFault};
 use crate::names::WordName;
 use crate::output::Output;
 use crate::pieces::{body_of, piece_end};
@@ -21,9 +21,9 @@ pub trait Run: Sized + Drop {
     ghost line: { Self → List ℕ → Reading (Self × List ℕ) };
 
     /// Takes a line, without its newline: changes the state and adds what the line prints. Fails with
-    /// `Refusal::Unformed` if the line is malformed, and with `Refusal::Unfit` if a number in it is out of range.
-    /// Whatever the line is, it may fail with `Refusal::Wanting`, if memory runs out.
-    fn step(&mut self, bytes: &[u8], output: &mut Output) -> Result<(), Refusal>
+    /// `LineFault::Unformed` if the line is malformed, and with `LineFault::Unfit` if a number in it is out of range.
+    /// Whatever the line is, it may fail with `LineFault::Wanting`, if memory runs out.
+    fn step(&mut self, bytes: &[u8], output: &mut Output) -> Result<(), LineFault>
         ensures { IsStepOfLine (line self.old bytes.now) result self.new output.old output.new };
 }
 
@@ -57,9 +57,9 @@ fn line_piece<R: Run>(
     match body_of(piece) {
         Some(bytes) => match run.step(bytes, output) {
             Ok(()) => Ok(()),
-            Err(Refusal::Unformed) => Err(RunFault::Syntax(number)),
-            Err(Refusal::Unfit) => Err(RunFault::OutOfRange(number)),
-            Err(Refusal::Wanting) => Err(RunFault::Memory),
+            Err(LineFault::Unformed) => Err(RunFault::Syntax(number)),
+            Err(LineFault::Unfit) => Err(RunFault::OutOfRange(number)),
+            Err(LineFault::Wanting) => Err(RunFault::Memory),
         },
         None => Err(RunFault::Syntax(number)),
     }

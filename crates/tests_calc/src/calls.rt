@@ -3,8 +3,8 @@
 ghost use Rattle.std.specs.Prelude.{IsSome};
 
 use fixed_calc::{
-    Answer, Answers, Cause, Line, Op, Policy, Room, Rounding, RunFault, Script, Status, WordName,
-    parse_header, parse_line, run_in, step,
+    Answer, Answers, Cause, Line, Op, Policy, Room, Rounding, Script, ScriptFault, Status,
+    WordName, parse_header, parse_line, run_in, step,
 };
 use std::process::Abort;
 use std::test::Fail;
@@ -300,8 +300,8 @@ fn texts_and_numbers(rt: HostRuntime) -> Result<(), Fail> {
     ] {
         assert!(rt; status.code() == code, "{status:?}");
     }
-    let cause = format!(in alloc; "{}", RunFault::Script(Cause::Overflow(3)))?;
-    let memory = format!(in alloc; "{}", RunFault::Memory)?;
+    let cause = format!(in alloc; "{}", ScriptFault::Script(Cause::Overflow(3)))?;
+    let memory = format!(in alloc; "{}", ScriptFault::Memory)?;
     assert!(rt; cause.as_str() == "a line has a cause", "{cause}");
     assert!(rt; memory.as_str() == "out of memory", "{memory}");
     Ok(())

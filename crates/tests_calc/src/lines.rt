@@ -214,7 +214,7 @@ fn pieces(rt: HostRuntime) {
                 "a header with no newline",
                 header_of_piece(b"i8 4").is_none(),
             ),
-            ("three operands", shape_of(Op::MulAdd) == Shape::Ternary),
+            ("three operands", arity_of(Op::MulAdd) == Arity::Ternary),
         ],
     );
 }

@@ -138,7 +138,7 @@ fn decimal(below_zero: bool, magnitude: u128) -> Decimal {
 }
 
 /// What the words of the text are refused for.
-fn refusal_of(alloc: Global, text: &str) -> Option<Refusal> {
+fn refusal_of(alloc: Global, text: &str) -> Option<LineFault> {
     match read_words::<i8>(alloc, Tokens::new(text.as_bytes())) {
         Ok(_) => None,
         Err(refusal) => Some(refusal),
@@ -154,7 +154,7 @@ fn has_words(alloc: Global, text: &str, wanted: &[i8]) -> bool {
 }
 
 /// The word of 16 bits that the text is.
-fn short_of(text: &[u8]) -> Result<i16, Refusal> {
+fn short_of(text: &[u8]) -> Result<i16, LineFault> {
     read_word::<i16>(text)
 }
 
@@ -180,7 +180,7 @@ fn words_read(rt: HostRuntime) -> Result<(), Fail> {
             ),
             ("past the greatest", past.is_none()),
             ("255", fits == Ok(255)),
-            ("256", unfit == Err(Refusal::Unfit)),
+            ("256", unfit == Err(LineFault::Unfit)),
             (
                 "three words",
                 has_words(alloc, "-128 0 127", &[-128, 0, 127]),
@@ -192,14 +192,20 @@ fn words_read(rt: HostRuntime) -> Result<(), Fail> {
         &rt,
         &[
             ("-32768", short_of(b"-32768") == Ok(-32768)),
-            ("32768", short == Err(Refusal::Unfit)),
-            ("32768 and a space", unformed == Err(Refusal::Unformed)),
-            ("1 128", refusal_of(alloc, "1 128") == Some(Refusal::Unfit)),
+            ("32768", short == Err(LineFault::Unfit)),
+            ("32768 and a space", unformed == Err(LineFault::Unformed)),
+            (
+                "1 128",
+                refusal_of(alloc, "1 128") == Some(LineFault::Unfit),
+            ),
             (
                 "128 x",
-                refusal_of(alloc, "128 x") == Some(Refusal::Unformed),
+                refusal_of(alloc, "128 x") == Some(LineFault::Unformed),
             ),
-            ("1  2", refusal_of(alloc, "1  2") == Some(Refusal::Unformed)),
+            (
+                "1  2",
+                refusal_of(alloc, "1  2") == Some(LineFault::Unformed),
+            ),
         ],
     );
     Ok(())

@@ -2,7 +2,7 @@
 
 use super::programs::{answers, outcome_of};
 use super::same::left;
-use fixed_calc::{Cause, RunFault, Status, SureSource, run};
+use fixed_calc::{Cause, ScriptFault, Status, SureSource, run};
 use std::alloc::Global;
 use std::process::Abort;
 use std::test::Fail;
@@ -162,7 +162,7 @@ fn known_answers(rt: HostRuntime) -> Result<(), Fail> {
 }
 
 /// Asserts that `run` hands out these answers, or this fault.
-fn gives(rt: &impl Abort, alloc: Global, script: &str, want: Result<&str, RunFault>) {
+fn gives(rt: &impl Abort, alloc: Global, script: &str, want: Result<&str, ScriptFault>) {
     let holds = match (run(alloc, script.as_bytes()), want) {
         (Ok(answers), Ok(want)) => answers.as_bytes() == want.as_bytes(),
         (Err(fault), Err(want)) => fault == want,
@@ -186,7 +186,7 @@ fn runs_in_memory(rt: HostRuntime) -> Result<(), Fail> {
         ),
         (
             "i8 0\nr0 set 127\nr0 strict mul_int r0 2\nr0 wrapping add r0 r0\n",
-            Err(RunFault::Script(Cause::Overflow(3))),
+            Err(ScriptFault::Script(Cause::Overflow(3))),
         ),
     ] {
         gives(&rt, alloc, script, want);

@@ -3,10 +3,10 @@ use Rattle.std.specs.Prelude.{◌≡◌, ◌≤◌, ◌<◌, ◌+◌, ◌++◌, 
 use Rattle.std.specs.List.{join_with_byte}
 use Rattle.fixed_word.specs.Format.{with_sign}
 use Rattle.fixed_word.specs.Pieces.{pieces}
-use Rattle.fixed_script.specs.declared.line.Shape.{Shape}
-use Rattle.fixed_script.specs.declared.line.Shape.TheVariants.{Unary, Binary, ByInteger, Ternary}
+use Rattle.fixed_script.specs.declared.line.Arity.{Arity}
+use Rattle.fixed_script.specs.declared.line.Arity.TheVariants.{Unary, Binary, ByInteger, Ternary}
 use Rattle.fixed_script.specs.Lines.{line_of_piece}
-use Rattle.fixed_script.specs.Names.{shape}
+use Rattle.fixed_script.specs.Names.{arity}
 use Rattle.fixed_script.specs.Text.{ScriptLine, SetTo, Apply, Operands, OneRegister, TwoRegisters, RegisterAndInt, ThreeRegisters, operand_tokens}
 use Rattle.fixed_machine.specs.declared.quick.Applied.{Applied}
 use Rattle.fixed_machine.specs.declared.quick.QuickLine.{QuickLine}
@@ -15,8 +15,8 @@ use Rattle.fixed_machine.specs.declared.quick.QuickLine.{QuickLine}
 abbrev pub quick_number : QuickLine → ℤ
 quick_number line = with_sign line.below_zero line.magnitude
 
--- the operands of a line, as many as a shape has
-abbrev pub quick_operands : Shape → QuickLine → Operands
+-- the operands of a line, as many as a arity has
+abbrev pub quick_operands : Arity → QuickLine → Operands
 quick_operands Unary line = OneRegister line.a
 quick_operands Binary line = TwoRegisters line.a line.b
 quick_operands ByInteger line = RegisterAndInt line.a (quick_number line)
@@ -24,7 +24,7 @@ quick_operands Ternary line = ThreeRegisters line.a line.b line.c
 
 abbrev pub applied_or_set : Option Applied → QuickLine → ScriptLine
 applied_or_set None line = SetTo line.dest (quick_number line)
-applied_or_set (Some applied) line = Apply line.dest applied.policy applied.op (quick_operands (shape applied.op) line) None
+applied_or_set (Some applied) line = Apply line.dest applied.policy applied.op (quick_operands (arity applied.op) line) None
 
 -- the line of a script that was read
 abbrev pub script_line_of_quick : QuickLine → ScriptLine
@@ -36,9 +36,9 @@ pub record Stands (bytes : List ℕ) (at : ℕ) (text : List ℕ) (separator mos
   pub reads : drop at bytes ≡ text ++ (separator ∷ drop end bytes)
   pub within : end ≤ at + most
 
--- Operands of that shape are at a place, before a newline. They were stored in a line, and all its registers are among
+-- Operands of that arity are at a place, before a newline. They were stored in a line, and all its registers are among
 -- the first `count`.
-pub record HasOperands (kind : Shape) (count : ℕ) (bytes : List ℕ) (at : ℕ) (line read : QuickLine) (end : ℕ) : Type 0 where
+pub record HasOperands (kind : Arity) (count : ℕ) (bytes : List ℕ) (at : ℕ) (line read : QuickLine) (end : ℕ) : Type 0 where
   pub dest : read.dest ≡ line.dest
   pub applied : read.applied ≡ line.applied
   pub a : read.a < count

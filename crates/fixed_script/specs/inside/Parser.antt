@@ -6,12 +6,12 @@ use Rattle.fixed_digits.specs.Numerals.{natural_at, has_minus, without_minus}
 use Rattle.fixed_word.specs.declared.rounding.Rounding.{Rounding}
 use Rattle.fixed_script.specs.declared.names.Policy.{Policy}
 use Rattle.fixed_script.specs.declared.names.Op.{Op}
-use Rattle.fixed_script.specs.declared.line.Shape.{Shape}
-use Rattle.fixed_script.specs.declared.line.Shape.TheVariants.{Unary, Binary, ByInteger, Ternary}
+use Rattle.fixed_script.specs.declared.line.Arity.{Arity}
+use Rattle.fixed_script.specs.declared.line.Arity.TheVariants.{Unary, Binary, ByInteger, Ternary}
 use Rattle.fixed_script.specs.declared.literal.Literal.{Literal}
 use Rattle.fixed_script.specs.declared.line.Line.{Line}
 use Rattle.fixed_script.specs.declared.line.Line.TheVariants.{Set, One, Two, Int, Three}
-use Rattle.fixed_script.specs.Names.{policy_named, op_named, rounding_named, shape}
+use Rattle.fixed_script.specs.Names.{policy_named, op_named, rounding_named, arity}
 use Rattle.fixed_script.specs.Text.{takes_rounding}
 
 unfoldable pub register_at : List ℕ → Option ℕ
@@ -43,7 +43,7 @@ rounding_at op (t ∷ ts) = named_at op (t ∷ ts) >>= λ rounding. Some (Some r
 abbrev pub ends_by : Op → List (List ℕ) → (Option Rounding → Line) → Option Line
 ends_by op ts line = rounding_at op ts >>= λ rounding. Some (line rounding)
 
-unfoldable pub operands_at : Shape → ℕ → Policy → Op → ℕ → List (List ℕ) → Option Line
+unfoldable pub operands_at : Arity → ℕ → Policy → Op → ℕ → List (List ℕ) → Option Line
 operands_at Unary dest policy op a ts = ends_by op ts (One dest policy op a)
 operands_at Binary dest policy op a ts = do
   b ← next_by register_at ts
@@ -60,7 +60,7 @@ unfoldable pub apply_at : ℕ → Policy → List (List ℕ) → Option Line
 apply_at dest policy ts = do
   op ← next_by op_named ts
   a ← next_by register_at op.1
-  operands_at (shape op.0) dest policy op.0 a.0 a.1
+  operands_at (arity op.0) dest policy op.0 a.0 a.1
 
 unfoldable pub line_at : List (List ℕ) → Option Line
 line_at ts = do

@@ -12,4 +12,4 @@ pub returns : goal.returns
 returns c =
     let dest = c.in_ok-dest.ensures in
     IfSome_then c.operands_at.result c.operands_at.ensures
-    (λ found operands. applied_is_quick c.args.count c.args.bytes.now _ found.0 c.in_ok-dest.at c.in_ok-policy.at c.in_ok-op.at found.1 record { policy = c.in_ok-policy.policy; op = c.in_ok-op.op } c.shape_of.result c.shape_of.ensures refl dest.0 dest.1 c.in_ok-policy.ensures c.in_ok-op.ensures operands c.requires.room)
+    (λ found operands. applied_is_quick c.args.count c.args.bytes.now _ found.0 c.in_ok-dest.at c.in_ok-policy.at c.in_ok-op.at found.1 record { policy = c.in_ok-policy.policy; op = c.in_ok-op.op } c.arity_of.result c.arity_of.ensures refl dest.0 dest.1 c.in_ok-policy.ensures c.in_ok-op.ensures operands c.requires.room)
