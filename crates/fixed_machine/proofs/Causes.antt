@@ -9,7 +9,7 @@ use Rattle.std.proofs.lemmas.Bool.{cases_lt}
 use Rattle.std.proofs.lemmas.List.Elements.{All-set}
 use Rattle.std.proofs.lemmas.Int.{ints}
 use Rattle.fixed_word.specs.declared.rounding.Rounding.{Rounding}
-use Rattle.fixed_script.specs.declared.literal.Literal.{Literal}
+use Rattle.fixed_text.specs.declared.decimal.Decimal.{Decimal}
 use Rattle.fixed_script.specs.Capped.{literal_value}
 use Rattle.fixed_text.specs.declared.names.WordName.{WordName}
 use Rattle.fixed_text.specs.declared.names.WordName.TheVariants.{I8, I16, I32, I64, U8, U16, U32, U64}
@@ -87,17 +87,17 @@ integer_value s dest policy op a x how h =
     let q = either_false (not (is_value s.word x)) _ p.1 in
     not_not (is_value s.word x) q.0
 
-pub size_of_literal : (l : Literal) → unsigned_abs (literal_value l) ≡ l.magnitude
+pub size_of_literal : (l : Decimal) → unsigned_abs (literal_value l) ≡ l.magnitude
 size_of_literal l = by_sign l.below_zero l.magnitude
   where
     by_sign : (b : Bool) (m : ℕ) → unsigned_abs (if b then neg_ℤ (pos m) else pos m) ≡ m
     by_sign false m = refl
     by_sign true m = omega (arith, ints)
 
-pub literal_small : (s : State) (dest : ℕ) (policy : Policy) (op : Op) (a : ℕ) (l : Literal) (how : Option Rounding) → is_out_of_range s (Apply dest policy op (RegisterAndInt a (literal_value l)) how) ≡ false → l.magnitude < 2 ^ 64
+pub literal_small : (s : State) (dest : ℕ) (policy : Policy) (op : Op) (a : ℕ) (l : Decimal) (how : Option Rounding) → is_out_of_range s (Apply dest policy op (RegisterAndInt a (literal_value l)) how) ≡ false → l.magnitude < 2 ^ 64
 literal_small s dest policy op a l how h = omega (arith, value_small s.word (literal_value l) (integer_value s dest policy op a (literal_value l) how h), size_of_literal l)
 
-pub set_small : (s : State) (dest : ℕ) (l : Literal) → is_out_of_range s (SetTo dest (literal_value l)) ≡ false → l.magnitude < 2 ^ 64
+pub set_small : (s : State) (dest : ℕ) (l : Decimal) → is_out_of_range s (SetTo dest (literal_value l)) ≡ false → l.magnitude < 2 ^ 64
 set_small s dest l h = omega (arith, value_small s.word (literal_value l) (set_value s dest (literal_value l) h), size_of_literal l)
 
 -- ---- what a line with no cause stores

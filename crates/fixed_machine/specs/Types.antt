@@ -7,7 +7,7 @@ pub use Rattle.fixed_script.specs.declared.names.Policy.{Policy}
 pub use Rattle.fixed_script.specs.declared.names.Policy.TheVariants.{Checked, Saturating, Wrapping, Overflowing, Strict}
 pub use Rattle.fixed_script.specs.declared.names.Op.{Op}
 pub use Rattle.fixed_script.specs.declared.names.Op.TheVariants.{Neg, Add, Sub, Mul, Div, Recip, MulAdd, AddProd, MulInt, DivInt, DivEuclid, DivEuclidInt, RemEuclidInt, NextMultipleOf, Dist, Sqrt, Abs, Signum, Rem, RemInt, RemEuclid, NextPowerOfTwo}
-pub use Rattle.fixed_script.specs.declared.literal.Literal.{Literal}
+pub use Rattle.fixed_text.specs.declared.decimal.Decimal.{Decimal}
 pub use Rattle.fixed_script.specs.declared.line.Line.{Line}
 pub use Rattle.fixed_script.specs.declared.line.Line.TheVariants.{Set, One, Two, Int, Three}
 pub use Rattle.fixed_machine.specs.declared.answer.Answer.{Answer}

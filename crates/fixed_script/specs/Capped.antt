@@ -5,7 +5,7 @@ use Rattle.fixed_word.specs.declared.rounding.Rounding.{Rounding}
 use Rattle.fixed_script.specs.declared.names.Op.{Op}
 use Rattle.fixed_script.specs.declared.line.Arity.{Arity}
 use Rattle.fixed_script.specs.declared.line.Arity.TheVariants.{Unary, Binary, ByInteger, Ternary}
-use Rattle.fixed_script.specs.declared.literal.Literal.{Literal}
+use Rattle.fixed_text.specs.declared.decimal.Decimal.{Decimal}
 use Rattle.fixed_script.specs.declared.line.Line.{Line}
 use Rattle.fixed_script.specs.declared.line.Line.TheVariants.{Set, One, Two, Int, Three}
 use Rattle.fixed_script.specs.Names.{arity}
@@ -28,7 +28,7 @@ capped (SetTo dest value) = SetTo (cap dest) (cap_whole value)
 capped (Apply dest policy op operands rounding) = Apply (cap dest) policy op (cap_operands operands) rounding
 
 -- the value of a literal
-abbrev pub literal_value : Literal → ℤ
+abbrev pub literal_value : Decimal → ℤ
 literal_value l = if l.below_zero then neg_ℤ (pos l.magnitude) else pos l.magnitude
 
 -- the line, if the operation takes operands of that arity

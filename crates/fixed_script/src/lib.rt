@@ -8,16 +8,14 @@
 mod header;
 pub mod laws;
 mod line;
-mod literal;
 mod names;
 mod piece;
 mod registers;
 mod taking;
 
-pub use fixed_text::WordName;
+pub use fixed_text::{Decimal as Literal, WordName};
 pub use fixed_word::Rounding;
 pub use header::{Fractions, Header, parse_header};
 pub use line::{Arity, Line, arity_of, parse_line, takes_rounding};
-pub use literal::Literal;
 pub use names::{Op, Policy, default_rounding};
 pub use piece::{header_of_piece, line_of_piece};

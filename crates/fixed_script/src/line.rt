@@ -7,10 +7,9 @@ ghost use Rattle.fixed_script.specs.Capped.{capped, checked_script_line};
 ghost use Rattle.fixed_text.specs.Tokens.{at_end, tokens_of};
 ghost use Rattle.fixed_script.specs.inside.Parser.{set_at, named_at, rounding_at, operands_at, apply_at, line_at};
 
-use crate::literal::Literal;
 use crate::names::{Op, Policy, default_rounding, policy_of, rounding_of};
 use crate::taking::{take_literal, take_op, take_policy, take_register};
-use fixed_text::Tokens;
+use fixed_text::{Decimal, Tokens};
 use fixed_word::Rounding;
 
 /// The operands that an operation takes.
@@ -29,7 +28,7 @@ pub enum Arity {
 pub enum Line {
     Set {
         dest: u128,
-        literal: Literal,
+        literal: Decimal,
     },
     One {
         dest: u128,
@@ -51,7 +50,7 @@ pub enum Line {
         policy: Policy,
         op: Op,
         a: u128,
-        literal: Literal,
+        literal: Decimal,
         rounding: Option<Rounding>,
     },
     Three {

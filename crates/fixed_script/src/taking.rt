@@ -5,10 +5,9 @@ ghost use Rattle.fixed_text.specs.Tokens.{tokens_of, tokens_left, next_by};
 ghost use Rattle.fixed_script.specs.Names.{op_named, policy_name};
 ghost use Rattle.fixed_script.specs.inside.Parser.{register_at, literal_at};
 
-use crate::literal::{Literal, literal_of};
 use crate::names::{Op, Policy, front_op, front_policy, op_of};
 use crate::registers::{front_short_register, register_of};
-use fixed_text::{Tokens, cut};
+use fixed_text::{Decimal, Tokens, cut, read_decimal};
 
 /// Returns the register that is the first token, and the bytes after its space, or `None` if the token is not a
 /// register.
@@ -26,13 +25,13 @@ fn register_in(piece: &[u8]) -> Option<(u128, Option<&[u8]>)>
 /// Returns the whole number that is the first token, and the bytes after its space, or `None` if the token is not a
 /// whole number.
 #[inline(never)]
-fn literal_in(piece: &[u8]) -> Option<(Literal, Option<&[u8]>)>
+fn literal_in(piece: &[u8]) -> Option<(Decimal, Option<&[u8]>)>
     ensures some { IfSome result
         (λ found. next_by literal_at (tokens_of piece.now) ≡ Some (found.0, tokens_left found.1)) }
     ensures none { IfNone result (next_by literal_at (tokens_of piece.now) ≡ None) }
 {
     let (token, rest) = cut(piece);
-    let literal = literal_of(token)?;
+    let literal = read_decimal(token)?;
     Some((literal, rest))
 }
 
@@ -55,7 +54,7 @@ pub(crate) fn take_register(tokens: &mut Tokens<'_>) -> Option<u128>
 /// Takes the next token and returns its whole number, or returns `None` if there is no token or it is not a whole
 /// number.
 #[inline(always)]
-pub(crate) fn take_literal(tokens: &mut Tokens<'_>) -> Option<Literal>
+pub(crate) fn take_literal(tokens: &mut Tokens<'_>) -> Option<Decimal>
     ensures some { IfSome result (λ n. next_by literal_at tokens.old ≡ Some (n, tokens.new)) }
     ensures none { IfNone result (next_by literal_at tokens.old ≡ None) }
 {

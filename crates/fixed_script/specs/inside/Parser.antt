@@ -1,14 +1,17 @@
 -- What the parser returns, as a function of the tokens.
-use Rattle.std.specs.Prelude.{ℕ, ◌==◌, ◌&&◌, if◌then◌else◌, List, [], ◌∷◌, Option, Some, None, codes}
+use Rattle.std.specs.Prelude.{ℕ, ◌==◌, if◌then◌else◌, List, [], ◌∷◌, Option, Some, None, codes}
+use Rattle.std.specs.Option.{option_map}
 use Rattle.std.specs.Str.{bytes_eq}
 use Rattle.fixed_text.specs.Tokens.{◌>>=◌, next_by, at_end}
-use Rattle.fixed_digits.specs.Numerals.{natural_at, has_minus, without_minus}
+use Rattle.fixed_digits.specs.Numerals.{natural_at}
 use Rattle.fixed_word.specs.declared.rounding.Rounding.{Rounding}
 use Rattle.fixed_script.specs.declared.names.Policy.{Policy}
 use Rattle.fixed_script.specs.declared.names.Op.{Op}
 use Rattle.fixed_script.specs.declared.line.Arity.{Arity}
 use Rattle.fixed_script.specs.declared.line.Arity.TheVariants.{Unary, Binary, ByInteger, Ternary}
-use Rattle.fixed_script.specs.declared.literal.Literal.{Literal}
+use Rattle.fixed_text.specs.declared.decimal.Decimal.{Decimal}
+use Rattle.fixed_text.specs.Decimals.{decimal_of}
+use Rattle.fixed_text.specs.Numbers.{whole_in}
 use Rattle.fixed_script.specs.declared.line.Line.{Line}
 use Rattle.fixed_script.specs.declared.line.Line.TheVariants.{Set, One, Two, Int, Three}
 use Rattle.fixed_script.specs.Names.{policy_named, op_named, rounding_named, arity}
@@ -18,10 +21,8 @@ unfoldable pub register_at : List ℕ → Option ℕ
 register_at [] = None
 register_at (c ∷ cs) = if c == 114 then natural_at cs else None
 
-unfoldable pub literal_at : List ℕ → Option Literal
-literal_at token = do
-  m ← natural_at (without_minus token)
-  if has_minus token && m == 0 then None else Some (record { below_zero = has_minus token; magnitude = m })
+abbrev pub literal_at : List ℕ → Option Decimal
+literal_at token = option_map decimal_of (whole_in token)
 
 unfoldable pub set_at : ℕ → List (List ℕ) → Option Line
 set_at dest ts = do
