@@ -21,6 +21,5 @@ mod stepping;
 
 pub use answer::Answer;
 pub use cause::{Cause, ScriptFault};
-pub use projected::number_of;
 pub use room::{Answers, Room, step};
 pub use running::{run, run_in};

@@ -23,7 +23,7 @@ use fixed_word::{
 
 /// Returns the number of a word.
 #[inline(always)]
-pub fn number_of<T: RawWord>(word: T) -> i128
+fn number_of<T: RawWord>(word: T) -> i128
     ensures { result ≡ T.value word }
 {
     let magnitude = word.magnitude() as i128;
