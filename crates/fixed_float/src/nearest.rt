@@ -35,10 +35,26 @@ fn whole_f64<T: Castable>(a: T) -> f64
     ensures value { result ≡ of_int binary64 (T.value a) }
     ensures in_range { InRange T.SIGNED T.BITS (T.value a) }
 {
-    if T::SIGNED {
+    if T::BITS <= 32 {
+        held_f64(a)
+    } else if T::SIGNED {
         nearest_i64_to_f64(signed_of(a))
     } else {
         nearest_u64_to_f64(a.magnitude())
+    }
+}
+
+/// Returns the value of a word of at most 32 bits, which an `f64` holds.
+#[inline]
+fn held_f64<T: Castable>(a: T) -> f64
+    requires { T.BITS ≤ 32 }
+    ensures value { result ≡ of_int binary64 (T.value a) }
+    ensures in_range { InRange T.SIGNED T.BITS (T.value a) }
+{
+    if T::SIGNED {
+        f64::from(signed_of(a) as i32)
+    } else {
+        f64::from(a.magnitude() as u32)
     }
 }
 
@@ -48,10 +64,26 @@ fn whole_f32<T: Castable>(a: T) -> f32
     ensures value { result ≡ of_int binary32 (T.value a) }
     ensures in_range { InRange T.SIGNED T.BITS (T.value a) }
 {
-    if T::SIGNED {
+    if T::BITS <= 16 {
+        held_f32(a)
+    } else if T::SIGNED {
         nearest_i64_to_f32(signed_of(a))
     } else {
         nearest_u64_to_f32(a.magnitude())
+    }
+}
+
+/// Returns the value of a word of at most 16 bits, which an `f32` holds.
+#[inline]
+fn held_f32<T: Castable>(a: T) -> f32
+    requires { T.BITS ≤ 16 }
+    ensures value { result ≡ of_int binary32 (T.value a) }
+    ensures in_range { InRange T.SIGNED T.BITS (T.value a) }
+{
+    if T::SIGNED {
+        f32::from(signed_of(a) as i16)
+    } else {
+        f32::from(a.magnitude() as u16)
     }
 }
 
