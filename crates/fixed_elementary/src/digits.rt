@@ -5,7 +5,7 @@ ghost use Rattle.fixed_elementary.specs.inside.RecipParts.{IsRecipRootOf, divide
 
 /// The root of the quotient's first digits, the remainder of that root, and the remainder of the quotient.
 #[derive(Clone, Copy)]
-struct Part {
+struct RootSoFar {
     root: u128,
     remainder: u128,
     rest: u128,
@@ -31,7 +31,7 @@ fn first_of(exponent: u32) -> u128
 }
 
 /// Returns the root of the quotient of a dividend that fits a word.
-fn begin(a: u64, dividend: u128) -> Part
+fn begin(a: u64, dividend: u128) -> RootSoFar
     requires { 0 < a }
     ensures value { divided a result.root result.remainder result.rest ≡ dividend }
     ensures rest { result.rest < a }
@@ -41,7 +41,7 @@ fn begin(a: u64, dividend: u128) -> Part
     let divisor = u128::from(a);
     let quotient = dividend / divisor;
     let root = quotient.isqrt();
-    Part {
+    RootSoFar {
         root,
         remainder: quotient - root * root,
         rest: dividend % divisor,
@@ -73,7 +73,7 @@ fn divide_twice(rest: u128, a: u64) -> Digit
 
 /// Returns the root with one more digit, which two more digits of the quotient determine.
 #[inline]
-fn find_digit(part: Part, a: u64) -> Part
+fn find_digit(part: RootSoFar, a: u64) -> RootSoFar
     requires rest { part.rest < a }
     requires remainder { part.remainder ≤ 2 * part.root }
     requires root { part.root < 2 ^ 100 }
@@ -88,13 +88,13 @@ fn find_digit(part: Part, a: u64) -> Part
     let whole = 4 * part.remainder + 2 * first.digit + second.digit;
     let trial = 4 * part.root + 1;
     if trial <= whole {
-        Part {
+        RootSoFar {
             root: 2 * part.root + 1,
             remainder: whole - trial,
             rest: second.rest,
         }
     } else {
-        Part {
+        RootSoFar {
             root: 2 * part.root,
             remainder: whole,
             rest: second.rest,

@@ -1,3 +1,3 @@
 -- What private functions alone cite.
-pub mod Parts
+pub mod LogArgument
 pub mod Powers

@@ -15,10 +15,10 @@ mod from_outcome;
 mod integer_operators;
 pub mod laws;
 mod literal;
+mod log_argument;
 mod logarithms;
 mod magnitudes;
 mod operators;
-mod part;
 mod sign_magnitude;
 mod wide;
 

@@ -5,7 +5,7 @@ ghost use Rattle.fixed_word.specs.Ticks.{RisesAtMost};
 ghost use Rattle.fixed_logs.specs.Logarithm.{IsLog, log2};
 
 use crate::format::Fixed;
-use crate::part::{Part, part_of};
+use crate::log_argument::{LogArgument, log_argument_of};
 use fixed_logs::{Base, frac_log10_part, frac_part, int_log10_part, int_part};
 use fixed_word::{Digits, Ledger, RawWord, Silent, Steps, Word};
 
@@ -17,9 +17,9 @@ fn log_of<L: Ledger, D: Digits<L>>(val: D, frac: u32, base: Base, steps: &mut St
     ensures value { IsLog (nat_abs (D.value val)) frac base result }
     ensures ticks { RisesAtMost (12 * log2 D.BITS + 16) (L.count steps.old) (L.count steps.new) }
 {
-    match part_of(val, frac, steps) {
-        Part::Whole(whole) => int_part(whole, base, steps),
-        Part::Raised(raised) => frac_part(raised, base, steps),
+    match log_argument_of(val, frac, steps) {
+        LogArgument::Whole(whole) => int_part(whole, base, steps),
+        LogArgument::Raised(raised) => frac_part(raised, base, steps),
     }
 }
 
@@ -29,9 +29,9 @@ fn log10_of<L: Ledger, D: Digits<L>>(val: D, frac: u32, steps: &mut Steps<L>) ->
     requires fraction { frac ≤ D.BITS }
     ensures { IsLog (nat_abs (D.value val)) frac 10 result }
 {
-    match part_of(val, frac, steps) {
-        Part::Whole(whole) => int_log10_part(whole, steps),
-        Part::Raised(raised) => frac_log10_part(raised, steps),
+    match log_argument_of(val, frac, steps) {
+        LogArgument::Whole(whole) => int_log10_part(whole, steps),
+        LogArgument::Raised(raised) => frac_log10_part(raised, steps),
     }
 }
 

@@ -1,6 +1,6 @@
 //! The guide's sine, at parts of a quarter turn.
 
-use fixed_guide::sine::{Part, sine};
+use fixed_guide::sine::{Q29, sine};
 
 /// Bits of the part, and those of the polynomial by Horner's rule, computed in whole numbers.
 #[test]
@@ -12,6 +12,6 @@ fn parts_of_a_quarter_turn(rt: HostRuntime) {
         (268_435_456, 379_625_376),
         (536_870_912, 536_870_561),
     ] {
-        assert!(rt; sine(Part { bits: part }).bits == want, "at {part}");
+        assert!(rt; sine(Q29 { bits: part }).bits == want, "at {part}");
     }
 }

@@ -1,5 +1,5 @@
 use Rattle.fixed_num.proofs.Logs.{raised_is}
-use Rattle.fixed_num.proofs.part.raised.Goals as goal
+use Rattle.fixed_num.proofs.log_argument.raised.Goals as goal
 
 pub returns-clause-value : goal.returns-clause-value
 returns-clause-value g c =

@@ -2,32 +2,36 @@
 
 ghost use Rattle.std.specs.Prelude.{◌≡◌, ◌*◌, ◌/◌, ◌^◌, ◌<◌, ◌≤◌, ◌↔◌, nat_abs, IsTrue};
 ghost use Rattle.fixed_word.specs.Ticks.{RisesAtMost};
-ghost use Rattle.fixed_num.specs.inside.Parts.{IsPart};
+ghost use Rattle.fixed_num.specs.inside.LogArgument.{IsLogArgument};
 
 use fixed_word::{Digits, Ledger, Steps};
 
 /// The whole part of a number if that is not 0, and otherwise the number as a fraction that uses all bits of its
 /// word.
-pub(crate) enum Part<D> {
+pub(crate) enum LogArgument<D> {
     Whole(D),
     Raised(D),
 }
 
 /// Returns the part of a positive number that has its logarithm.
-pub(crate) fn part_of<L: Ledger, D: Digits<L>>(val: D, frac: u32, steps: &mut Steps<L>) -> Part<D>
+pub(crate) fn log_argument_of<L: Ledger, D: Digits<L>>(
+    val: D,
+    frac: u32,
+    steps: &mut Steps<L>,
+) -> LogArgument<D>
     requires above_zero { 1 ≤ nat_abs (D.value val) }
     requires fraction { frac ≤ D.BITS }
-    ensures value { IsPart D.value D.BITS (nat_abs (D.value val)) frac result }
+    ensures value { IsLogArgument D.value D.BITS (nat_abs (D.value val)) frac result }
     ensures ticks { RisesAtMost 3 (L.count steps.old) (L.count steps.new) }
 {
     if frac == D::BITS {
-        return Part::Raised(val);
+        return LogArgument::Raised(val);
     }
     let whole = lowered(val, frac, steps);
     if is_at_least_one(whole, steps) {
-        Part::Whole(whole)
+        LogArgument::Whole(whole)
     } else {
-        Part::Raised(raised(val, D::BITS - frac, steps))
+        LogArgument::Raised(raised(val, D::BITS - frac, steps))
     }
 }
 

@@ -1,6 +1,6 @@
 use Rattle.std.proofs.Common.{◌<◌, nat_abs, rules}
 use Rattle.fixed_num.proofs.Logs.{raised_fits}
-use Rattle.fixed_num.proofs.part.part_of.Goals as goal
+use Rattle.fixed_num.proofs.log_argument.log_argument_of.Goals as goal
 
 pub raised-requires-clause-fits : goal.raised-requires-clause-fits
 raised-requires-clause-fits g c =

@@ -1,9 +1,0 @@
--- The part of a number of which a logarithm is taken.
-use Rattle.std.specs.Prelude.{◌≡◌, ◌-◌, ◌*◌, ◌/◌, ◌^◌, ◌≤◌, ℕ, ℤ, nat_abs}
-use Rattle.fixed_num.specs.declared.part.Part.{Part}
-use Rattle.fixed_num.specs.declared.part.Part.TheVariants.{Whole, Raised}
-
--- of a / 2 ^ f in a word of n digits: its whole part, where that is not 0, or a raised to all n digits
-abbrev pub IsPart : {D : Type 0} → (D → ℤ) → ℕ → ℕ → ℕ → Part D → Type 0
-IsPart value n a f (Whole w) = (2 ^ f ≤ a) × (nat_abs (value w) ≡ a / 2 ^ f)
-IsPart value n a f (Raised r) = nat_abs (value r) ≡ a * 2 ^ (n - f)
