@@ -33,7 +33,7 @@ TEXTS = {
 PLACES = {
     "next_multiple_of": ["crates/fixed_kernel/specs/Rows.antt", "crates/fixed_script/specs/inside/OpGroups.antt",
                          "crates/fixed/src/kernel.rt", "checks/model.py", "checks/random_scripts.py", "docs/GUIDE.md"],
-    "poly": ["crates.txt", "rust/docs/poly.txt", "crates/fixed_poly/src/running.rt"],
+    "poly": ["crates.txt", "rust/docs/poly.txt", "crates/fixed_poly/src/poly_script.rt"],
 }
 
 

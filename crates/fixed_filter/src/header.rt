@@ -10,7 +10,7 @@ use fixed_text::{Tokens, WordName, read_natural, word_of};
 
 /// A word, and the numbers of fraction bits of outputs, taps and samples. A number of `2^64` or more is held as `2^64`.
 #[derive(Clone, Copy)]
-pub(crate) struct Header {
+pub(crate) struct FilterHeader {
     pub(crate) word: WordName,
     pub(crate) out: u128,
     pub(crate) coef: u128,
@@ -19,7 +19,7 @@ pub(crate) struct Header {
 
 /// Returns the word and the numbers of fraction bits that the tokens write, or `None` if the tokens are malformed.
 #[tactic(auto, unfolding(crate::specs::inside::Parser::format_at))]
-fn format_of(mut tokens: Tokens<'_>) -> Option<Header>
+fn format_of(mut tokens: Tokens<'_>) -> Option<FilterHeader>
     ensures { result ≡ option_map capped_header (format_at tokens.entry) }
 {
     let word = word_of(tokens.take()?)?;
@@ -27,7 +27,7 @@ fn format_of(mut tokens: Tokens<'_>) -> Option<Header>
     let coef = read_natural(tokens.take()?)?;
     let sample = read_natural(tokens.take()?)?;
     if tokens.is_empty() {
-        Some(Header {
+        Some(FilterHeader {
             word,
             out,
             coef,
@@ -40,7 +40,7 @@ fn format_of(mut tokens: Tokens<'_>) -> Option<Header>
 
 /// Returns the header whose text the piece is, or `None` if the piece is malformed.
 #[tactic(auto, unfolding(crate::specs::inside::Parser::header_at), using(crate::proofs::Readers::header_parsed))]
-pub(crate) fn read_header(piece: &[u8]) -> Option<Header>
+pub(crate) fn read_header(piece: &[u8]) -> Option<FilterHeader>
     ensures { result ≡ option_map capped_header (header_of piece.now) }
 {
     let mut tokens = Tokens::new(piece);

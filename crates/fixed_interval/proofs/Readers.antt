@@ -18,8 +18,8 @@ use Rattle.fixed_text.proofs.Inverses.{natural_back, whole_back, inverse_reader,
 use Rattle.fixed_text.proofs.Naturals.{in_again, in_only}
 use Rattle.fixed_text.proofs.Steps.{bind_some, led_only, named_takes, next_some, end_some}
 use Rattle.fixed_text.proofs.Wholes.{whole_again, whole_only}
-use Rattle.fixed_interval.specs.declared.op.Op.{Op}
-use Rattle.fixed_interval.specs.declared.op.Op.TheVariants.{Add, Sub, Mul, Div}
+use Rattle.fixed_interval.specs.declared.op.IntervalOp.{IntervalOp}
+use Rattle.fixed_interval.specs.declared.op.IntervalOp.TheVariants.{Add, Sub, Mul, Div}
 use Rattle.fixed_interval.specs.Text.{IntervalHeader, IntervalRequest, IntervalLine, SetTo, OfTwo, RootOf, op_name, register_text, header_tokens, header_text, request_tokens, line_tokens, line_text}
 use Rattle.fixed_interval.specs.Lines.{all_ops, op_in, header_in, header_of, request_in, line_in, line_of}
 use Rattle.fixed_interval.specs.inside.Parser.{register_in, format_at, header_at, set_at, two_at, root_at, request_by, request_at, line_at}
@@ -63,7 +63,7 @@ pub header_parsed : (piece : List ℕ) → header_of piece ≡ header_at (tokens
 header_parsed piece = one_reader header_text header_of (λ p. header_at (tokens_of p)) header_reader (reader header_tokens header_at header_fine header_again header_only) piece
 
 -- ---- what a line asks for
-op_no_space : (op : Op) → no_space (op_name op) ≡ true
+op_no_space : (op : IntervalOp) → no_space (op_name op) ≡ true
 op_no_space Add = refl
 op_no_space Sub = refl
 op_no_space Mul = refl
@@ -77,7 +77,7 @@ line_fine l = both_true (natural_no_space l.dest) (by_request l.request)
     by_request (OfTwo op a b) = both_true (op_no_space op) (both_true (natural_no_space a) (both_true (natural_no_space b) refl))
     by_request (RootOf a) = both_true refl (both_true (natural_no_space a) refl)
 
-two_again : (op : Op) (a b : ℕ) → two_at op (register_text a ∷ register_text b ∷ []) ≡ Some (OfTwo op a b)
+two_again : (op : IntervalOp) (a b : ℕ) → two_at op (register_text a ∷ register_text b ∷ []) ≡ Some (OfTwo op a b)
 unfolding two_at
 two_again op a b = rw (numbered_again 105 a, numbered_again 105 b) refl
 
@@ -105,7 +105,7 @@ set_only ts r e =
     ∙ ap (λ high. codes "set" ∷ t.token ∷ high ∷ []) (whole_only u.token u.value u.reads)
     ∙ ap (λ rest. codes "set" ∷ t.token ∷ u.token ∷ rest) (sym done.0) ∙ ap (λ rest. codes "set" ∷ t.token ∷ rest) (sym u.is) ∙ ap (λ rest. codes "set" ∷ rest) (sym t.is)
 
-two_only : (op : Op) (ts : List (List ℕ)) (r : IntervalRequest) → two_at op ts ≡ Some r → request_tokens r ≡ op_name op ∷ ts
+two_only : (op : IntervalOp) (ts : List (List ℕ)) (r : IntervalRequest) → two_at op ts ≡ Some r → request_tokens r ≡ op_name op ∷ ts
 unfolding two_at
 two_only op ts r e =
     let t = next_some register_in ts (λ a. next_by register_in a.1 >>= λ b. at_end b.1 (OfTwo op a.0 b.0)) r e in

@@ -6,14 +6,14 @@ use Rattle.std.specs.Str.Parse.{digits_value}
 use Rattle.fixed_text.specs.Inverse.{token, whole_value, numbered_value, if_its_text}
 use Rattle.fixed_text.specs.Tokens.{tokens_of}
 use Rattle.fixed_text.specs.Words.{named, word_named}
-use Rattle.fixed_interval.specs.declared.op.Op.{Op}
-use Rattle.fixed_interval.specs.declared.op.Op.TheVariants.{Add, Sub, Mul, Div}
+use Rattle.fixed_interval.specs.declared.op.IntervalOp.{IntervalOp}
+use Rattle.fixed_interval.specs.declared.op.IntervalOp.TheVariants.{Add, Sub, Mul, Div}
 use Rattle.fixed_interval.specs.Text.{IntervalHeader, header_text, IntervalRequest, IntervalLine, SetTo, OfTwo, RootOf, line_text, op_name}
 
-abbrev pub all_ops : List Op
+abbrev pub all_ops : List IntervalOp
 all_ops = Add ∷ Sub ∷ Mul ∷ Div ∷ []
 
-abbrev pub op_in : List ℕ → Option Op
+abbrev pub op_in : List ℕ → Option IntervalOp
 op_in = named op_name all_ops
 
 -- the only ones that can have these tokens, if any have

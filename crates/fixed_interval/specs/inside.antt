@@ -1,5 +1,5 @@
 -- What only private functions cite.
 pub mod Capped
-pub mod WholeValue
+pub mod SignedMagnitudes
 pub mod OffZero
 pub mod Parser

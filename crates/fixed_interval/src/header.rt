@@ -10,7 +10,7 @@ use fixed_text::{Tokens, WordName, read_natural, word_of};
 
 /// A word, a number of fraction bits and a number of registers. `2^64` stands for each number of `2^64` or more.
 #[derive(Clone, Copy)]
-pub(crate) struct Header {
+pub(crate) struct IntervalHeader {
     pub(crate) word: WordName,
     pub(crate) frac: u128,
     pub(crate) count: u128,
@@ -18,14 +18,14 @@ pub(crate) struct Header {
 
 /// Returns the word, the number of fraction bits and the number of registers that the tokens name.
 #[tactic(auto, unfolding(crate::specs::inside::Parser::format_at))]
-fn format_of(mut tokens: Tokens<'_>) -> Option<Header>
+fn format_of(mut tokens: Tokens<'_>) -> Option<IntervalHeader>
     ensures { result ≡ option_map capped_header (format_at tokens.entry) }
 {
     let word = word_of(tokens.take()?)?;
     let frac = read_natural(tokens.take()?)?;
     let count = read_natural(tokens.take()?)?;
     if tokens.is_empty() {
-        Some(Header { word, frac, count })
+        Some(IntervalHeader { word, frac, count })
     } else {
         None
     }
@@ -33,7 +33,7 @@ fn format_of(mut tokens: Tokens<'_>) -> Option<Header>
 
 /// Returns the header whose text the piece is, or `None` if no header has that text.
 #[tactic(auto, unfolding(crate::specs::inside::Parser::header_at), using(crate::proofs::Readers::header_parsed))]
-pub(crate) fn read_header(piece: &[u8]) -> Option<Header>
+pub(crate) fn read_header(piece: &[u8]) -> Option<IntervalHeader>
     ensures { result ≡ option_map capped_header (header_of piece.now) }
 {
     let mut tokens = Tokens::new(piece);

@@ -11,24 +11,24 @@
 mod fault;
 mod header;
 mod interval;
+mod interval_script;
 pub mod laws;
 mod line;
 mod op;
 mod products;
 mod quotients;
 mod roots;
-mod running;
+mod signed_magnitude;
 mod signs;
 mod squares;
 mod sums;
-mod whole;
 
 pub use fault::IntervalFault;
 pub use interval::Interval;
+pub use interval_script::interval_run;
 pub use products::mul_in;
 pub use quotients::div_in;
 pub use roots::sqrt_in;
-pub use running::interval_run;
 pub use signs::{abs_in, neg_in};
 pub use squares::square_in;
 pub use sums::{add_in, sub_in};

@@ -6,14 +6,14 @@ ghost use Rattle.fixed_interval.specs.inside.Capped.{capped_line, capped_request
 ghost use Rattle.fixed_interval.specs.inside.Parser.{request_at, root_at, set_at, two_at};
 ghost use Rattle.fixed_interval.specs.Lines.{line_of};
 
-use crate::op::{Op, op_of};
+use crate::op::{IntervalOp, op_of};
 use fixed_text::{Decimal, Tokens, read_decimal, read_numbered};
 
 /// What a line stores in its destination. `2^64` stands for each register of `2^64` or more.
 #[derive(Clone, Copy)]
 pub(crate) enum Request {
     Set(Decimal, Decimal),
-    Two(Op, u128, u128),
+    Two(IntervalOp, u128, u128),
     Root(u128),
 }
 
@@ -40,7 +40,7 @@ fn set_of(mut tokens: Tokens<'_>) -> Option<Request>
 
 /// Returns an operation with the registers that the tokens name.
 #[tactic(auto, unfolding(crate::specs::inside::Parser::two_at))]
-fn two_of(op: Op, mut tokens: Tokens<'_>) -> Option<Request>
+fn two_of(op: IntervalOp, mut tokens: Tokens<'_>) -> Option<Request>
     ensures { result ≡ option_map capped_request (two_at op tokens.entry) }
 {
     let a = read_numbered(b'i', tokens.take()?)?;

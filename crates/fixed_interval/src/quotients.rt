@@ -5,10 +5,10 @@ ghost use Rattle.std.specs.Option.{option_map};
 ghost use Rattle.fixed_interval.specs.Ends.{ends_of, fitting, has_zero, quotient_ends, quotient_of};
 ghost use Rattle.fixed_interval.specs.Containment.{HoldsQuotients};
 ghost use Rattle.fixed_interval.specs.inside.OffZero.{ExcludesZero};
-ghost use Rattle.fixed_interval.specs.inside.WholeValue.{rounded_over, value_of};
+ghost use Rattle.fixed_interval.specs.inside.SignedMagnitudes.{rounded_over, value_of};
 
 use crate::interval::{Interval, between, is_at_most};
-use crate::whole::{Outward, Whole};
+use crate::signed_magnitude::{Outward, SignedMagnitude};
 use fixed_word::{RawWord, Word};
 
 /// Returns the interval of the quotients of a number in `a` by one in `b`, each bits over `2^frac`: from the least
@@ -36,7 +36,7 @@ fn holds_zero<T: Word>(b: &Interval<T>) -> bool
 }
 
 /// Returns the least corner, rounded down.
-fn least_quotient<T: Word>(a: &Interval<T>, b: &Interval<T>, frac: u32) -> Whole
+fn least_quotient<T: Word>(a: &Interval<T>, b: &Interval<T>, frac: u32) -> SignedMagnitude
     requires frac { frac ≤ T.BITS }
     requires divisor { ExcludesZero (ends_of T.value b.now) }
     ensures { value_of result ≡ (quotient_of (ends_of T.value a.now) (ends_of T.value b.now) frac).low }
@@ -47,7 +47,7 @@ fn least_quotient<T: Word>(a: &Interval<T>, b: &Interval<T>, frac: u32) -> Whole
 }
 
 /// Returns the greatest corner, rounded up.
-fn greatest_quotient<T: Word>(a: &Interval<T>, b: &Interval<T>, frac: u32) -> Whole
+fn greatest_quotient<T: Word>(a: &Interval<T>, b: &Interval<T>, frac: u32) -> SignedMagnitude
     requires frac { frac ≤ T.BITS }
     requires divisor { ExcludesZero (ends_of T.value b.now) }
     ensures { value_of result ≡ (quotient_of (ends_of T.value a.now) (ends_of T.value b.now) frac).high }
@@ -66,10 +66,12 @@ fn either<T: RawWord>(first: bool, x: T, y: T) -> T
 }
 
 /// Returns the corner of two ends, `x 2^frac / y`, rounded in that direction.
-fn corner<T: RawWord>(x: T, y: T, frac: u32, way: Outward) -> Whole
+fn corner<T: RawWord>(x: T, y: T, frac: u32, way: Outward) -> SignedMagnitude
     requires frac { frac ≤ T.BITS }
     requires divisor { T.value y ≢ pos 0 }
     ensures { value_of result ≡ rounded_over way (T.value x *ℤ pos (2 ^ frac)) (T.value y) }
 {
-    Whole::of(x).scaled(frac).over(Whole::of(y), way)
+    SignedMagnitude::of(x)
+        .scaled(frac)
+        .over(SignedMagnitude::of(y), way)
 }

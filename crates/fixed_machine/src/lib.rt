@@ -16,10 +16,10 @@ mod quick_step;
 mod register;
 mod room;
 mod rows;
-mod running;
+mod script_run;
 mod stepping;
 
 pub use answer::Answer;
 pub use cause::{Cause, ScriptFault};
 pub use room::{Answers, Room, step};
-pub use running::{run, run_in};
+pub use script_run::{run, run_in};

@@ -13,13 +13,13 @@ mod fault;
 mod header;
 pub mod laws;
 mod overflow;
+mod poly_script;
 mod reply;
-mod running;
 mod typed;
 
 pub use evaluation::horner_of;
 pub use fault::PolyFault;
 pub use overflow::StepOverflow;
+pub use poly_script::poly_run;
 pub use reply::PolyReply;
-pub use running::poly_run;
 pub use typed::horner;

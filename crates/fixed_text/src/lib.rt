@@ -13,7 +13,7 @@ mod names;
 mod numbers;
 mod output;
 mod pieces;
-mod running;
+mod run;
 mod tokens;
 
 pub use added::{push_all, push_natural, push_whole};
@@ -23,5 +23,5 @@ pub use names::{WordName, word_of};
 pub use numbers::{fitting, read_natural, read_numbered, read_only_number, read_word, read_words};
 pub use output::Output;
 pub use pieces::{body_of, piece_end};
-pub use running::{InWord, Run, open, run_lines};
+pub use run::{InWord, Run, open, run_lines};
 pub use tokens::{Tokens, cut};

@@ -5,7 +5,7 @@ use fixed_word::{Outcome, Word};
 
 /// A kernel of one or two operands.
 #[derive(Clone, Copy, Debug)]
-pub enum Op {
+pub enum Call {
     Neg,
     Add,
     Sub,
@@ -29,33 +29,35 @@ pub enum Op {
 }
 
 /// What the kernel answers; it reads as many operands as it has, and the fraction where it has one.
-pub fn answer<T: Word>(op: Op, a: T, b: T, frac: u32) -> Option<Outcome<T>> {
+pub fn answer<T: Word>(call: Call, a: T, b: T, frac: u32) -> Option<Outcome<T>> {
     if frac > T::BITS {
         return None;
     }
-    match op {
-        Op::Neg => Some(neg_of(a)),
-        Op::Add => Some(add_of(a, b)),
-        Op::Sub => Some(sub_of(a, b)),
-        Op::Dist => Some(dist_of(a, b)),
-        Op::Mul => Some(mul_of(a, b, frac)),
-        Op::MulInt => Some(mul_int_of(a, b)),
-        Op::Abs | Op::Signum | Op::Sqrt | Op::NextPowerOfTwo => by_sign(op, a, frac),
-        Op::Recip => reciprocal(a, frac),
-        Op::Div | Op::DivInt | Op::DivEuclid | Op::DivEuclidInt => quotient(op, a, b, frac),
-        _ => remainder(op, a, b, frac),
+    match call {
+        Call::Neg => Some(neg_of(a)),
+        Call::Add => Some(add_of(a, b)),
+        Call::Sub => Some(sub_of(a, b)),
+        Call::Dist => Some(dist_of(a, b)),
+        Call::Mul => Some(mul_of(a, b, frac)),
+        Call::MulInt => Some(mul_int_of(a, b)),
+        Call::Abs | Call::Signum | Call::Sqrt | Call::NextPowerOfTwo => by_sign(call, a, frac),
+        Call::Recip => reciprocal(a, frac),
+        Call::Div | Call::DivInt | Call::DivEuclid | Call::DivEuclidInt => quotient(
+            call, a, b, frac,
+        ),
+        _ => remainder(call, a, b, frac),
     }
 }
 
-fn by_sign<T: Word>(op: Op, a: T, frac: u32) -> Option<Outcome<T>> {
+fn by_sign<T: Word>(call: Call, a: T, frac: u32) -> Option<Outcome<T>> {
     if frac > T::BITS {
         return None;
     }
-    match op {
-        Op::Abs if T::SIGNED => Some(abs_of(a)),
-        Op::Signum if T::SIGNED => Some(signum_of(a, frac)),
-        Op::Sqrt if !a.is_below_zero() => Some(sqrt_of(a, frac)),
-        Op::NextPowerOfTwo if !T::SIGNED => Some(next_power_of_two_of(a)),
+    match call {
+        Call::Abs if T::SIGNED => Some(abs_of(a)),
+        Call::Signum if T::SIGNED => Some(signum_of(a, frac)),
+        Call::Sqrt if !a.is_below_zero() => Some(sqrt_of(a, frac)),
+        Call::NextPowerOfTwo if !T::SIGNED => Some(next_power_of_two_of(a)),
         _ => None,
     }
 }
@@ -68,29 +70,29 @@ fn reciprocal<T: Word>(a: T, frac: u32) -> Option<Outcome<T>> {
     }
 }
 
-fn quotient<T: Word>(op: Op, a: T, b: T, frac: u32) -> Option<Outcome<T>> {
+fn quotient<T: Word>(call: Call, a: T, b: T, frac: u32) -> Option<Outcome<T>> {
     if frac > T::BITS || b.magnitude() == 0 {
         return None;
     }
-    match op {
-        Op::Div => Some(div_of(a, b, frac)),
-        Op::DivInt => Some(div_int_of(a, b)),
-        Op::DivEuclid => Some(div_euclid_of(a, b, frac)),
-        Op::DivEuclidInt => Some(div_euclid_int_of(a, b, frac)),
+    match call {
+        Call::Div => Some(div_of(a, b, frac)),
+        Call::DivInt => Some(div_int_of(a, b)),
+        Call::DivEuclid => Some(div_euclid_of(a, b, frac)),
+        Call::DivEuclidInt => Some(div_euclid_int_of(a, b, frac)),
         _ => None,
     }
 }
 
-fn remainder<T: Word>(op: Op, a: T, b: T, frac: u32) -> Option<Outcome<T>> {
+fn remainder<T: Word>(call: Call, a: T, b: T, frac: u32) -> Option<Outcome<T>> {
     if frac > T::BITS || b.magnitude() == 0 {
         return None;
     }
-    match op {
-        Op::Rem => Some(rem_of(a, b)),
-        Op::RemInt => Some(rem_int_of(a, b, frac)),
-        Op::RemEuclid => Some(rem_euclid_of(a, b)),
-        Op::RemEuclidInt => Some(rem_euclid_int_of(a, b, frac)),
-        Op::NextMultipleOf => Some(next_multiple_of_of(a, b)),
+    match call {
+        Call::Rem => Some(rem_of(a, b)),
+        Call::RemInt => Some(rem_int_of(a, b, frac)),
+        Call::RemEuclid => Some(rem_euclid_of(a, b)),
+        Call::RemEuclidInt => Some(rem_euclid_int_of(a, b, frac)),
+        Call::NextMultipleOf => Some(next_multiple_of_of(a, b)),
         _ => None,
     }
 }

@@ -1,6 +1,6 @@
 //! The ends of every word, with no fraction, with one integer bit and with none.
 
-use super::calls::{Op, answer};
+use super::calls::{Call, answer};
 use super::named::{WordName, check_number, check_row};
 use super::plain::stands;
 use fixed_word::Side::{Above, Below, Fits};
@@ -10,30 +10,30 @@ use std::process::Abort;
 #[test]
 fn signed_bytes(rt: HostRuntime) {
     for row in [
-        (Op::Mul, -128, -128, 0, 0, Above),
-        (Op::Mul, -128, -128, 7, -128, Above),
-        (Op::Mul, -128, -128, 8, 64, Fits),
-        (Op::Div, -128, -1, 0, -128, Above),
-        (Op::Div, -128, -1, 7, 0, Above),
-        (Op::Div, -128, -1, 8, 0, Above),
-        (Op::Recip, 1, 0, 0, 1, Fits),
-        (Op::Recip, 1, 0, 7, 0, Above),
-        (Op::Recip, 1, 0, 8, 0, Above),
-        (Op::Sqrt, 127, 0, 0, 11, Fits),
-        (Op::Sqrt, 127, 0, 7, 127, Fits),
-        (Op::Sqrt, 127, 0, 8, -76, Above),
-        (Op::DivEuclidInt, -1, 2, 0, -1, Fits),
-        (Op::DivEuclidInt, -1, 2, 7, -128, Fits),
-        (Op::DivEuclidInt, -1, 2, 8, 0, Below),
-        (Op::Signum, 5, 0, 0, 1, Fits),
-        (Op::Signum, 5, 0, 7, -128, Above),
-        (Op::Signum, 5, 0, 8, 0, Above),
-        (Op::RemInt, -128, -128, 0, 0, Fits),
-        (Op::RemInt, -128, -128, 7, -128, Fits),
-        (Op::RemInt, -128, -128, 8, -128, Fits),
-        (Op::NextMultipleOf, 127, -128, 0, 0, Fits),
-        (Op::NextMultipleOf, 127, -128, 7, 0, Fits),
-        (Op::NextMultipleOf, 127, -128, 8, 0, Fits),
+        (Call::Mul, -128, -128, 0, 0, Above),
+        (Call::Mul, -128, -128, 7, -128, Above),
+        (Call::Mul, -128, -128, 8, 64, Fits),
+        (Call::Div, -128, -1, 0, -128, Above),
+        (Call::Div, -128, -1, 7, 0, Above),
+        (Call::Div, -128, -1, 8, 0, Above),
+        (Call::Recip, 1, 0, 0, 1, Fits),
+        (Call::Recip, 1, 0, 7, 0, Above),
+        (Call::Recip, 1, 0, 8, 0, Above),
+        (Call::Sqrt, 127, 0, 0, 11, Fits),
+        (Call::Sqrt, 127, 0, 7, 127, Fits),
+        (Call::Sqrt, 127, 0, 8, -76, Above),
+        (Call::DivEuclidInt, -1, 2, 0, -1, Fits),
+        (Call::DivEuclidInt, -1, 2, 7, -128, Fits),
+        (Call::DivEuclidInt, -1, 2, 8, 0, Below),
+        (Call::Signum, 5, 0, 0, 1, Fits),
+        (Call::Signum, 5, 0, 7, -128, Above),
+        (Call::Signum, 5, 0, 8, 0, Above),
+        (Call::RemInt, -128, -128, 0, 0, Fits),
+        (Call::RemInt, -128, -128, 7, -128, Fits),
+        (Call::RemInt, -128, -128, 8, -128, Fits),
+        (Call::NextMultipleOf, 127, -128, 0, 0, Fits),
+        (Call::NextMultipleOf, 127, -128, 7, 0, Fits),
+        (Call::NextMultipleOf, 127, -128, 8, 0, Fits),
     ] {
         check_row(&rt, WordName::I8, row);
     }
@@ -42,18 +42,18 @@ fn signed_bytes(rt: HostRuntime) {
 #[test]
 fn unsigned_bytes(rt: HostRuntime) {
     for row in [
-        (Op::Mul, 255, 255, 0, 1, Above),
-        (Op::Mul, 255, 255, 7, 252, Above),
-        (Op::Mul, 255, 255, 8, 254, Fits),
-        (Op::Div, 255, 1, 0, 255, Fits),
-        (Op::Div, 255, 1, 7, 128, Above),
-        (Op::Div, 255, 1, 8, 0, Above),
-        (Op::Recip, 255, 0, 0, 0, Fits),
-        (Op::Recip, 255, 0, 7, 64, Fits),
-        (Op::Recip, 255, 0, 8, 1, Above),
-        (Op::Sqrt, 255, 0, 0, 15, Fits),
-        (Op::Sqrt, 255, 0, 7, 180, Fits),
-        (Op::Sqrt, 255, 0, 8, 255, Fits),
+        (Call::Mul, 255, 255, 0, 1, Above),
+        (Call::Mul, 255, 255, 7, 252, Above),
+        (Call::Mul, 255, 255, 8, 254, Fits),
+        (Call::Div, 255, 1, 0, 255, Fits),
+        (Call::Div, 255, 1, 7, 128, Above),
+        (Call::Div, 255, 1, 8, 0, Above),
+        (Call::Recip, 255, 0, 0, 0, Fits),
+        (Call::Recip, 255, 0, 7, 64, Fits),
+        (Call::Recip, 255, 0, 8, 1, Above),
+        (Call::Sqrt, 255, 0, 0, 15, Fits),
+        (Call::Sqrt, 255, 0, 7, 180, Fits),
+        (Call::Sqrt, 255, 0, 8, 255, Fits),
     ] {
         check_row(&rt, WordName::U8, row);
     }
@@ -69,27 +69,27 @@ fn signed_ends<T: SignedWord>(rt: &impl Abort, frac: u32) {
         let unit = 1_u128 << frac;
         assert!(rt;
             stands(
-                answer(Op::Mul, least, least, frac),
+                answer(Call::Mul, least, least, frac),
                 false,
                 half.wrapping_mul(half) >> frac
             )
         );
         assert!(rt;
             stands(
-                answer(Op::Div, least, minus_one, frac),
+                answer(Call::Div, least, minus_one, frac),
                 false,
                 half.wrapping_mul(unit)
             )
         );
-        assert!(rt; stands(answer(Op::DivEuclidInt, minus_one, two, frac), true, unit));
-        assert!(rt; stands(answer(Op::Signum, five, least, frac), false, unit));
-        assert!(rt; stands(answer(Op::NextMultipleOf, T::MAX, least, frac), false, 0));
+        assert!(rt; stands(answer(Call::DivEuclidInt, minus_one, two, frac), true, unit));
+        assert!(rt; stands(answer(Call::Signum, five, least, frac), false, unit));
+        assert!(rt; stands(answer(Call::NextMultipleOf, T::MAX, least, frac), false, 0));
         let left = if frac == 0 { 0 } else { half };
-        assert!(rt; stands(answer(Op::RemInt, least, least, frac), true, left));
+        assert!(rt; stands(answer(Call::RemInt, least, least, frac), true, left));
         if frac < 64 {
             assert!(rt;
                 stands(
-                    answer(Op::Recip, T::ONE, least, frac),
+                    answer(Call::Recip, T::ONE, least, frac),
                     false,
                     unit.wrapping_mul(unit)
                 )
@@ -105,14 +105,14 @@ fn unsigned_ends<T: UnsignedWord>(rt: &impl Abort, frac: u32) {
         let unit = 1_u128 << frac;
         assert!(rt;
             stands(
-                answer(Op::Mul, most, most, frac),
+                answer(Call::Mul, most, most, frac),
                 false,
                 size.wrapping_mul(size) >> frac
             )
         );
         assert!(rt;
             stands(
-                answer(Op::Div, most, T::ONE, frac),
+                answer(Call::Div, most, T::ONE, frac),
                 false,
                 size.wrapping_mul(unit)
             )
@@ -120,7 +120,7 @@ fn unsigned_ends<T: UnsignedWord>(rt: &impl Abort, frac: u32) {
         if frac < 64 {
             assert!(rt;
                 stands(
-                    answer(Op::Recip, most, most, frac),
+                    answer(Call::Recip, most, most, frac),
                     false,
                     unit.wrapping_mul(unit) / size
                 )
@@ -180,7 +180,7 @@ fn roots_of_the_ends(rt: HostRuntime) {
         ),
     ] {
         for (frac, root) in roots {
-            check_number(&rt, word, Op::Sqrt, greatest, frac, root);
+            check_number(&rt, word, Call::Sqrt, greatest, frac, root);
         }
     }
 }

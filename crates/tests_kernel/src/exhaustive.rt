@@ -1,17 +1,17 @@
 //! Every byte and every pair of bytes, and each length of the multiply-add over a grid.
 
-use super::calls::{Op, answer, product, sum_of_product};
+use super::calls::{Call, answer, product, sum_of_product};
 use super::plain::{euclidean, left_of, moved, multiple, quotient, signed_byte, unsigned_byte};
 
 /// What is left of a number, and whether it does not fit.
 type Left = Option<(i64, bool)>;
 
-fn signed(op: Op, a: i8, b: i8, frac: u32) -> Left {
-    signed_byte(answer(op, a, b, frac))
+fn signed(call: Call, a: i8, b: i8, frac: u32) -> Left {
+    signed_byte(answer(call, a, b, frac))
 }
 
-fn unsigned(op: Op, a: u8, b: u8, frac: u32) -> Left {
-    unsigned_byte(answer(op, a, b, frac))
+fn unsigned(call: Call, a: u8, b: u8, frac: u32) -> Left {
+    unsigned_byte(answer(call, a, b, frac))
 }
 
 /// The product of signed bytes by the call that gives its verdict.
@@ -32,12 +32,15 @@ fn every_product(rt: HostRuntime) {
         for a in 0..=255_u8 {
             for b in 0..=255_u8 {
                 let number = moved((a as i64).wrapping_mul(b as i64), -frac);
-                let found = unsigned(Op::Mul, a, b, places);
+                let found = unsigned(Call::Mul, a, b, places);
                 let wanted = Some(left_of(number, false));
                 assert!(rt; found == wanted, "{a} by {b} at {frac}: {found:?}");
                 let (c, d) = (a.cast_signed(), b.cast_signed());
                 let number = moved((c as i64).wrapping_mul(d as i64), -frac);
-                let (found, judged) = (signed(Op::Mul, c, d, places), judged_product(c, d, places));
+                let (found, judged) = (
+                    signed(Call::Mul, c, d, places),
+                    judged_product(c, d, places),
+                );
                 let same = found == Some(left_of(number, true)) && judged == found;
                 assert!(rt; same, "{c} by {d} at {frac}: {found:?}");
             }
@@ -52,10 +55,10 @@ fn every_reciprocal(rt: HostRuntime) {
         let one = moved(1, frac.wrapping_mul(2));
         for a in 1..=255_u8 {
             let b = a.cast_signed();
-            let found = unsigned(Op::Recip, a, 0, places);
+            let found = unsigned(Call::Recip, a, 0, places);
             let wanted = left_of(quotient(one, a as i64), false);
             assert!(rt; found == Some(wanted), "{a} at {frac}: {found:?}");
-            let found = signed(Op::Recip, b, 0, places);
+            let found = signed(Call::Recip, b, 0, places);
             let wanted = left_of(quotient(one, b as i64), true);
             assert!(rt; found == Some(wanted), "{b} at {frac}: {found:?}");
         }
@@ -69,10 +72,10 @@ fn every_euclidean_quotient(rt: HostRuntime) {
         for a in -128..=127_i8 {
             for b in -128..=127_i8 {
                 if b != 0 {
-                    let found = signed(Op::DivEuclid, a, b, places);
+                    let found = signed(Call::DivEuclid, a, b, places);
                     let wanted = left_of(moved(euclidean(a as i64, b as i64), frac), true);
                     assert!(rt; found == Some(wanted), "{a} by {b} at {frac}: {found:?}");
-                    let next = signed(Op::NextMultipleOf, a, b, places);
+                    let next = signed(Call::NextMultipleOf, a, b, places);
                     let wanted = left_of(multiple(a as i64, b as i64), true);
                     assert!(rt; next == Some(wanted), "multiple of {b} after {a}: {next:?}");
                 }
@@ -88,7 +91,7 @@ fn every_power_of_two(rt: HostRuntime) {
         if power < a as i64 {
             power = moved(power, 1);
         }
-        let found = unsigned(Op::NextPowerOfTwo, a, 0, 0);
+        let found = unsigned(Call::NextPowerOfTwo, a, 0, 0);
         let wanted = left_of(power, false);
         assert!(rt; found == Some(wanted), "over {a}: {found:?}");
     }

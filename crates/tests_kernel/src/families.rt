@@ -1,17 +1,17 @@
 //! Families of cases of the crate's own tests, by plain computations.
 
-use super::calls::{Op, ratio};
+use super::calls::{Call, ratio};
 use super::named::{WordName, answer_in, greatest, multiply_add_in, stands_in, width};
 use fixed_word::SignedWord;
 use std::process::Abort;
 
 /// That the kernel of two operands leaves what the word leaves of that number, with its side.
-fn check(rt: &impl Abort, word: WordName, op: Op, a: i128, b: i128, frac: u32, number: i128) {
-    let found = answer_in(word, op, a, b, frac);
+fn check(rt: &impl Abort, word: WordName, call: Call, a: i128, b: i128, frac: u32, number: i128) {
+    let found = answer_in(word, call, a, b, frac);
     let stands = stands_in(word, found, number);
     assert!(rt;
         stands,
-        "{word:?}: {op:?} of {a} and {b} at {frac}: {found:?}"
+        "{word:?}: {call:?} of {a} and {b} at {frac}: {found:?}"
     );
 }
 
@@ -29,18 +29,22 @@ fn remainder(a: i128, b: i128) -> i128 {
 fn seven_places(rt: &impl Abort, word: WordName, a: i128, b: i128) {
     let (x, y) = (a.wrapping_mul(128), b.wrapping_mul(128));
     let (times, over, left) = (x.wrapping_mul(b), quotient(x, b), remainder(x, y));
-    for (op, number) in [
-        (Op::Add, x.wrapping_add(y)),
-        (Op::Sub, x.wrapping_sub(y)),
-        (Op::Mul, times),
-        (Op::Div, over),
-        (Op::Rem, left),
-        (Op::Neg, x.wrapping_neg()),
+    for (call, number) in [
+        (Call::Add, x.wrapping_add(y)),
+        (Call::Sub, x.wrapping_sub(y)),
+        (Call::Mul, times),
+        (Call::Div, over),
+        (Call::Rem, left),
+        (Call::Neg, x.wrapping_neg()),
     ] {
-        check(rt, word, op, x, y, 7, number);
+        check(rt, word, call, x, y, 7, number);
     }
-    for (op, number) in [(Op::MulInt, times), (Op::DivInt, over), (Op::RemInt, left)] {
-        check(rt, word, op, x, b, 7, number);
+    for (call, number) in [
+        (Call::MulInt, times),
+        (Call::DivInt, over),
+        (Call::RemInt, left),
+    ] {
+        check(rt, word, call, x, b, 7, number);
     }
 }
 
@@ -66,11 +70,19 @@ fn remainders_by_integers(rt: HostRuntime) {
                 left
             };
             let (bits, unit) = (a.wrapping_mul(65536), 65536);
-            check(&rt, word, Op::RemInt, bits, k, 16, left.wrapping_mul(unit));
             check(
                 &rt,
                 word,
-                Op::RemEuclidInt,
+                Call::RemInt,
+                bits,
+                k,
+                16,
+                left.wrapping_mul(unit),
+            );
+            check(
+                &rt,
+                word,
+                Call::RemEuclidInt,
                 bits,
                 k,
                 16,
@@ -96,8 +108,8 @@ fn remainders_by_integers(rt: HostRuntime) {
         (-1610612736, 1, 32, -1610612736, 2684354560),
         (-1073741824, 1, 32, -1073741824, 3221225472),
     ] {
-        check(&rt, word, Op::RemInt, bits, k, frac, left);
-        check(&rt, word, Op::RemEuclidInt, bits, k, frac, over);
+        check(&rt, word, Call::RemInt, bits, k, frac, left);
+        check(&rt, word, Call::RemEuclidInt, bits, k, frac, over);
     }
 }
 
@@ -105,8 +117,8 @@ fn remainders_by_integers(rt: HostRuntime) {
 fn by_whole_number(rt: &impl Abort, word: WordName, a: i128, k: i128, frac: u32) {
     if k != 0 && frac <= 32 {
         let moved = k.wrapping_mul(1 << frac);
-        check(rt, word, Op::DivInt, a, k, frac, quotient(a, k));
-        check(rt, word, Op::RemInt, a, k, frac, remainder(a, moved));
+        check(rt, word, Call::DivInt, a, k, frac, quotient(a, k));
+        check(rt, word, Call::RemInt, a, k, frac, remainder(a, moved));
     }
 }
 

@@ -1,7 +1,7 @@
 //! The kernels by the name of a word, on plain numbers: one function names the eight words, so
 //! that no test pays for their laws.
 
-use super::calls::{Op, answer, multiply_add};
+use super::calls::{Call, answer, multiply_add};
 use super::plain::words_of;
 use fixed_word::{Side, Word, checked_of, outcome_of};
 use std::process::Abort;
@@ -33,22 +33,22 @@ fn value_of<T: Word>(word: T) -> i128 {
     }
 }
 
-fn answer_as<T: Word>(op: Op, a: i128, b: i128, frac: u32) -> Option<(i128, Side)> {
-    let outcome = answer::<T>(op, word_of(a)?, word_of(b)?, frac)?;
+fn answer_as<T: Word>(call: Call, a: i128, b: i128, frac: u32) -> Option<(i128, Side)> {
+    let outcome = answer::<T>(call, word_of(a)?, word_of(b)?, frac)?;
     Some((value_of(outcome.wrapped), outcome.side))
 }
 
 /// What the kernel answers at words of that name and those values.
-pub fn answer_in(word: WordName, op: Op, a: i128, b: i128, frac: u32) -> Option<(i128, Side)> {
+pub fn answer_in(word: WordName, call: Call, a: i128, b: i128, frac: u32) -> Option<(i128, Side)> {
     match word {
-        WordName::U8 => answer_as::<u8>(op, a, b, frac),
-        WordName::U16 => answer_as::<u16>(op, a, b, frac),
-        WordName::U32 => answer_as::<u32>(op, a, b, frac),
-        WordName::U64 => answer_as::<u64>(op, a, b, frac),
-        WordName::I8 => answer_as::<i8>(op, a, b, frac),
-        WordName::I16 => answer_as::<i16>(op, a, b, frac),
-        WordName::I32 => answer_as::<i32>(op, a, b, frac),
-        WordName::I64 => answer_as::<i64>(op, a, b, frac),
+        WordName::U8 => answer_as::<u8>(call, a, b, frac),
+        WordName::U16 => answer_as::<u16>(call, a, b, frac),
+        WordName::U32 => answer_as::<u32>(call, a, b, frac),
+        WordName::U64 => answer_as::<u64>(call, a, b, frac),
+        WordName::I8 => answer_as::<i8>(call, a, b, frac),
+        WordName::I16 => answer_as::<i16>(call, a, b, frac),
+        WordName::I32 => answer_as::<i32>(call, a, b, frac),
+        WordName::I64 => answer_as::<i64>(call, a, b, frac),
     }
 }
 
@@ -99,24 +99,24 @@ fn side_in(word: WordName, number: i128) -> Side {
 }
 
 /// Operands with what the kernel is to leave of its number, and the side where the number lies.
-pub type Row = (Op, i128, i128, u32, i128, Side);
+pub type Row = (Call, i128, i128, u32, i128, Side);
 
 /// That the kernel answers as the row says, at words of that name.
 pub fn check_row(rt: &impl Abort, word: WordName, row: Row) {
-    let (op, a, b, frac, wrapped, side) = row;
-    let found = answer_in(word, op, a, b, frac);
+    let (call, a, b, frac, wrapped, side) = row;
+    let found = answer_in(word, call, a, b, frac);
     let stands = found == Some((wrapped, side));
     assert!(rt;
         stands,
-        "{word:?}: {op:?} of {a} and {b} at {frac}: {found:?}"
+        "{word:?}: {call:?} of {a} and {b} at {frac}: {found:?}"
     );
 }
 
 /// That the kernel of one operand leaves what the word leaves of that number, which is at least 0.
-pub fn check_number(rt: &impl Abort, word: WordName, op: Op, a: i128, frac: u32, number: u64) {
-    let found = answer_in(word, op, a, 0, frac);
+pub fn check_number(rt: &impl Abort, word: WordName, call: Call, a: i128, frac: u32, number: u64) {
+    let found = answer_in(word, call, a, 0, frac);
     let stands = stands_in(word, found, number as i128);
-    assert!(rt; stands, "{word:?}: {op:?} of {a} at {frac}: {found:?}");
+    assert!(rt; stands, "{word:?}: {call:?} of {a} at {frac}: {found:?}");
 }
 
 pub fn width(word: WordName) -> u32 {

@@ -1,6 +1,6 @@
 //! Vectors: the numbers of the crate's own tests and documentation, and the corners of its code.
 
-use super::calls::{Op, add_product, multiply_add, product, ratio, sum_of_product};
+use super::calls::{Call, add_product, multiply_add, product, ratio, sum_of_product};
 use super::named::{WordName, check_row};
 use fixed_word::Side::{self, Above, Below, Fits};
 use fixed_word::{Outcome, Word};
@@ -8,41 +8,41 @@ use fixed_word::{Outcome, Word};
 #[test]
 fn signed_bytes(rt: HostRuntime) {
     for row in [
-        (Op::Mul, 127, 64, 4, -4, Above),
-        (Op::Div, -128, -1, 8, 0, Above),
-        (Op::RemEuclidInt, -120, 20, 4, -56, Above),
-        (Op::DivEuclid, 120, 32, 4, 48, Fits),
-        (Op::DivEuclid, -120, 32, 4, -64, Fits),
-        (Op::DivEuclid, 127, 4, 4, -16, Above),
-        (Op::DivEuclid, -128, 4, 4, 0, Below),
-        (Op::DivEuclidInt, -128, -1, 4, -128, Above),
-        (Op::Recip, 32, 0, 7, 0, Above),
-        (Op::Recip, -32, 0, 7, 0, Below),
-        (Op::NextMultipleOf, 64, 24, 4, 72, Fits),
-        (Op::NextMultipleOf, 64, -24, 4, 48, Fits),
-        (Op::NextMultipleOf, 127, 126, 4, -4, Above),
-        (Op::Signum, 64, 0, 7, -128, Above),
-        (Op::Signum, 64, 0, 8, 0, Above),
-        (Op::Signum, -128, 0, 8, 0, Below),
-        (Op::Dist, -128, 127, 4, -1, Above),
-        (Op::Sqrt, 32, 0, 4, 22, Fits),
-        (Op::Sqrt, 127, 0, 8, -76, Above),
-        (Op::DivEuclid, 68, -8, 4, -128, Fits),
-        (Op::DivEuclid, 64, 100, 8, 0, Fits),
-        (Op::DivEuclidInt, -64, 2, 8, 0, Below),
-        (Op::RemInt, -128, 8, 4, 0, Fits),
-        (Op::RemInt, 127, 100, 4, 127, Fits),
-        (Op::Rem, -128, -1, 4, 0, Fits),
-        (Op::RemEuclid, -128, -1, 4, 0, Fits),
-        (Op::RemEuclidInt, -5, 1, 8, -5, Above),
-        (Op::NextMultipleOf, 48, -24, 4, 48, Fits),
-        (Op::NextMultipleOf, -128, -1, 4, -128, Fits),
-        (Op::NextMultipleOf, 127, -1, 4, 127, Fits),
-        (Op::Mul, 1, -1, 8, -1, Fits),
-        (Op::DivEuclidInt, -1, 2, 8, 0, Below),
-        (Op::RemInt, 0, -128, 8, 0, Fits),
-        (Op::Recip, -128, 0, 7, -128, Fits),
-        (Op::Sqrt, 64, 0, 8, -128, Above),
+        (Call::Mul, 127, 64, 4, -4, Above),
+        (Call::Div, -128, -1, 8, 0, Above),
+        (Call::RemEuclidInt, -120, 20, 4, -56, Above),
+        (Call::DivEuclid, 120, 32, 4, 48, Fits),
+        (Call::DivEuclid, -120, 32, 4, -64, Fits),
+        (Call::DivEuclid, 127, 4, 4, -16, Above),
+        (Call::DivEuclid, -128, 4, 4, 0, Below),
+        (Call::DivEuclidInt, -128, -1, 4, -128, Above),
+        (Call::Recip, 32, 0, 7, 0, Above),
+        (Call::Recip, -32, 0, 7, 0, Below),
+        (Call::NextMultipleOf, 64, 24, 4, 72, Fits),
+        (Call::NextMultipleOf, 64, -24, 4, 48, Fits),
+        (Call::NextMultipleOf, 127, 126, 4, -4, Above),
+        (Call::Signum, 64, 0, 7, -128, Above),
+        (Call::Signum, 64, 0, 8, 0, Above),
+        (Call::Signum, -128, 0, 8, 0, Below),
+        (Call::Dist, -128, 127, 4, -1, Above),
+        (Call::Sqrt, 32, 0, 4, 22, Fits),
+        (Call::Sqrt, 127, 0, 8, -76, Above),
+        (Call::DivEuclid, 68, -8, 4, -128, Fits),
+        (Call::DivEuclid, 64, 100, 8, 0, Fits),
+        (Call::DivEuclidInt, -64, 2, 8, 0, Below),
+        (Call::RemInt, -128, 8, 4, 0, Fits),
+        (Call::RemInt, 127, 100, 4, 127, Fits),
+        (Call::Rem, -128, -1, 4, 0, Fits),
+        (Call::RemEuclid, -128, -1, 4, 0, Fits),
+        (Call::RemEuclidInt, -5, 1, 8, -5, Above),
+        (Call::NextMultipleOf, 48, -24, 4, 48, Fits),
+        (Call::NextMultipleOf, -128, -1, 4, -128, Fits),
+        (Call::NextMultipleOf, 127, -1, 4, 127, Fits),
+        (Call::Mul, 1, -1, 8, -1, Fits),
+        (Call::DivEuclidInt, -1, 2, 8, 0, Below),
+        (Call::RemInt, 0, -128, 8, 0, Fits),
+        (Call::Recip, -128, 0, 7, -128, Fits),
+        (Call::Sqrt, 64, 0, 8, -128, Above),
     ] {
         check_row(&rt, WordName::I8, row);
     }
@@ -51,12 +51,12 @@ fn signed_bytes(rt: HostRuntime) {
 #[test]
 fn unsigned_bytes(rt: HostRuntime) {
     for row in [
-        (Op::Mul, 255, 64, 4, 252, Above),
-        (Op::DivEuclid, 255, 4, 4, 240, Above),
-        (Op::Sqrt, 255, 0, 8, 255, Fits),
-        (Op::Recip, 3, 0, 8, 85, Above),
-        (Op::NextPowerOfTwo, 0, 0, 4, 1, Fits),
-        (Op::NextPowerOfTwo, 200, 0, 4, 0, Above),
+        (Call::Mul, 255, 64, 4, 252, Above),
+        (Call::DivEuclid, 255, 4, 4, 240, Above),
+        (Call::Sqrt, 255, 0, 8, 255, Fits),
+        (Call::Recip, 3, 0, 8, 85, Above),
+        (Call::NextPowerOfTwo, 0, 0, 4, 1, Fits),
+        (Call::NextPowerOfTwo, 200, 0, 4, 0, Above),
     ] {
         check_row(&rt, WordName::U8, row);
     }
@@ -65,19 +65,19 @@ fn unsigned_bytes(rt: HostRuntime) {
 #[test]
 fn signed_words_of_32_bits(rt: HostRuntime) {
     for row in [
-        (Op::Add, 2147483647, 1, 16, -2147483648, Above),
-        (Op::Add, -2147483648, -1, 16, 2147483647, Below),
-        (Op::Add, 2147483647, -2147483648, 16, -1, Fits),
-        (Op::Div, -2147483648, 1, 32, 0, Below),
-        (Op::Div, -2147483648, -2147483648, 32, 0, Above),
-        (Op::Div, -2147483647, -2147483648, 32, -2, Above),
-        (Op::Div, -2147483647, -1, 32, 0, Above),
-        (Op::Div, -2147483647, 1, 32, 0, Below),
-        (Op::RemInt, -2147483648, -1, 16, 0, Fits),
-        (Op::RemEuclidInt, -1073741824, 3, 31, 1073741824, Above),
-        (Op::RemEuclidInt, -536870912, 3, 31, 1610612736, Above),
-        (Op::RemEuclidInt, -536870912, 1, 31, 1610612736, Fits),
-        (Op::RemEuclidInt, -1610612736, 1, 32, -1610612736, Above),
+        (Call::Add, 2147483647, 1, 16, -2147483648, Above),
+        (Call::Add, -2147483648, -1, 16, 2147483647, Below),
+        (Call::Add, 2147483647, -2147483648, 16, -1, Fits),
+        (Call::Div, -2147483648, 1, 32, 0, Below),
+        (Call::Div, -2147483648, -2147483648, 32, 0, Above),
+        (Call::Div, -2147483647, -2147483648, 32, -2, Above),
+        (Call::Div, -2147483647, -1, 32, 0, Above),
+        (Call::Div, -2147483647, 1, 32, 0, Below),
+        (Call::RemInt, -2147483648, -1, 16, 0, Fits),
+        (Call::RemEuclidInt, -1073741824, 3, 31, 1073741824, Above),
+        (Call::RemEuclidInt, -536870912, 3, 31, 1610612736, Above),
+        (Call::RemEuclidInt, -536870912, 1, 31, 1610612736, Fits),
+        (Call::RemEuclidInt, -1610612736, 1, 32, -1610612736, Above),
     ] {
         check_row(&rt, WordName::I32, row);
     }
@@ -86,31 +86,31 @@ fn signed_words_of_32_bits(rt: HostRuntime) {
 #[test]
 fn each_kernel_at_a_signed_word(rt: HostRuntime) {
     for row in [
-        (Op::Neg, -5, 0, 0, 5, Fits),
-        (Op::Neg, -32768, 0, 0, -32768, Above),
-        (Op::Add, 32767, 1, 0, -32768, Above),
-        (Op::Sub, -32768, 1, 0, 32767, Below),
-        (Op::Dist, -3, 4, 0, 7, Fits),
-        (Op::Abs, -32768, 0, 0, -32768, Above),
-        (Op::Abs, -7, 0, 0, 7, Fits),
-        (Op::Signum, -9, 0, 4, -16, Fits),
-        (Op::Signum, 0, 0, 4, 0, Fits),
-        (Op::Mul, -3, 8, 4, -2, Fits),
-        (Op::MulInt, -300, 200, 4, 5536, Below),
-        (Op::Div, -7, 2, 1, -7, Fits),
-        (Op::Div, -7, 3, 0, -2, Fits),
-        (Op::DivInt, -7, 2, 0, -3, Fits),
-        (Op::Recip, -3, 0, 2, -5, Fits),
-        (Op::DivEuclid, -7, 2, 1, -8, Fits),
-        (Op::DivEuclidInt, -7, 2, 1, -4, Fits),
-        (Op::Rem, -7, 4, 0, -3, Fits),
-        (Op::Rem, 7, -4, 0, 3, Fits),
-        (Op::RemInt, -7, 3, 1, -1, Fits),
-        (Op::RemEuclid, -7, -4, 0, 1, Fits),
-        (Op::RemEuclidInt, -7, 3, 1, 5, Fits),
-        (Op::NextMultipleOf, -7, 4, 0, -4, Fits),
-        (Op::NextMultipleOf, -7, -4, 0, -8, Fits),
-        (Op::Sqrt, 50, 0, 0, 7, Fits),
+        (Call::Neg, -5, 0, 0, 5, Fits),
+        (Call::Neg, -32768, 0, 0, -32768, Above),
+        (Call::Add, 32767, 1, 0, -32768, Above),
+        (Call::Sub, -32768, 1, 0, 32767, Below),
+        (Call::Dist, -3, 4, 0, 7, Fits),
+        (Call::Abs, -32768, 0, 0, -32768, Above),
+        (Call::Abs, -7, 0, 0, 7, Fits),
+        (Call::Signum, -9, 0, 4, -16, Fits),
+        (Call::Signum, 0, 0, 4, 0, Fits),
+        (Call::Mul, -3, 8, 4, -2, Fits),
+        (Call::MulInt, -300, 200, 4, 5536, Below),
+        (Call::Div, -7, 2, 1, -7, Fits),
+        (Call::Div, -7, 3, 0, -2, Fits),
+        (Call::DivInt, -7, 2, 0, -3, Fits),
+        (Call::Recip, -3, 0, 2, -5, Fits),
+        (Call::DivEuclid, -7, 2, 1, -8, Fits),
+        (Call::DivEuclidInt, -7, 2, 1, -4, Fits),
+        (Call::Rem, -7, 4, 0, -3, Fits),
+        (Call::Rem, 7, -4, 0, 3, Fits),
+        (Call::RemInt, -7, 3, 1, -1, Fits),
+        (Call::RemEuclid, -7, -4, 0, 1, Fits),
+        (Call::RemEuclidInt, -7, 3, 1, 5, Fits),
+        (Call::NextMultipleOf, -7, 4, 0, -4, Fits),
+        (Call::NextMultipleOf, -7, -4, 0, -8, Fits),
+        (Call::Sqrt, 50, 0, 0, 7, Fits),
     ] {
         check_row(&rt, WordName::I16, row);
     }
@@ -119,26 +119,26 @@ fn each_kernel_at_a_signed_word(rt: HostRuntime) {
 #[test]
 fn each_kernel_at_an_unsigned_word(rt: HostRuntime) {
     for row in [
-        (Op::Neg, 5, 0, 0, 65531, Below),
-        (Op::Add, 65535, 1, 0, 0, Above),
-        (Op::Sub, 3, 4, 0, 65535, Below),
-        (Op::Dist, 3, 40000, 0, 39997, Fits),
-        (Op::Mul, 3, 40, 4, 7, Fits),
-        (Op::MulInt, 300, 300, 4, 24464, Above),
-        (Op::Div, 7, 2, 1, 7, Fits),
-        (Op::DivInt, 7, 2, 0, 3, Fits),
-        (Op::Recip, 3, 0, 2, 5, Fits),
-        (Op::DivEuclid, 7, 2, 1, 6, Fits),
-        (Op::DivEuclidInt, 7, 2, 1, 2, Fits),
-        (Op::Rem, 7, 4, 0, 3, Fits),
-        (Op::RemInt, 7, 3, 1, 1, Fits),
-        (Op::RemEuclid, 7, 4, 0, 3, Fits),
-        (Op::RemEuclidInt, 7, 2, 1, 3, Fits),
-        (Op::NextMultipleOf, 7, 4, 0, 8, Fits),
-        (Op::Sqrt, 50, 0, 1, 10, Fits),
-        (Op::NextPowerOfTwo, 32769, 0, 0, 0, Above),
-        (Op::NextPowerOfTwo, 33, 0, 0, 64, Fits),
-        (Op::Sqrt, 256, 0, 7, 181, Fits),
+        (Call::Neg, 5, 0, 0, 65531, Below),
+        (Call::Add, 65535, 1, 0, 0, Above),
+        (Call::Sub, 3, 4, 0, 65535, Below),
+        (Call::Dist, 3, 40000, 0, 39997, Fits),
+        (Call::Mul, 3, 40, 4, 7, Fits),
+        (Call::MulInt, 300, 300, 4, 24464, Above),
+        (Call::Div, 7, 2, 1, 7, Fits),
+        (Call::DivInt, 7, 2, 0, 3, Fits),
+        (Call::Recip, 3, 0, 2, 5, Fits),
+        (Call::DivEuclid, 7, 2, 1, 6, Fits),
+        (Call::DivEuclidInt, 7, 2, 1, 2, Fits),
+        (Call::Rem, 7, 4, 0, 3, Fits),
+        (Call::RemInt, 7, 3, 1, 1, Fits),
+        (Call::RemEuclid, 7, 4, 0, 3, Fits),
+        (Call::RemEuclidInt, 7, 2, 1, 3, Fits),
+        (Call::NextMultipleOf, 7, 4, 0, 8, Fits),
+        (Call::Sqrt, 50, 0, 1, 10, Fits),
+        (Call::NextPowerOfTwo, 32769, 0, 0, 0, Above),
+        (Call::NextPowerOfTwo, 33, 0, 0, 64, Fits),
+        (Call::Sqrt, 256, 0, 7, 181, Fits),
     ] {
         check_row(&rt, WordName::U16, row);
     }
@@ -147,8 +147,8 @@ fn each_kernel_at_an_unsigned_word(rt: HostRuntime) {
 #[test]
 fn reciprocals_with_no_integer_bits(rt: HostRuntime) {
     for row in [
-        (Op::Recip, 1, 0, 64, 0, Above),
-        (Op::Recip, 18446744073709551615, 0, 64, 1, Above),
+        (Call::Recip, 1, 0, 64, 0, Above),
+        (Call::Recip, 18446744073709551615, 0, 64, 1, Above),
     ] {
         check_row(&rt, WordName::U64, row);
     }

@@ -9,7 +9,7 @@ use fixed_word::RawWord;
 
 /// An operation on one or two numbers; an integer is the bits of the second.
 #[derive(Clone, Copy, Debug)]
-pub enum Op {
+pub enum Call {
     Neg,
     Add,
     Sub,
@@ -30,43 +30,43 @@ pub enum Op {
 }
 
 /// What the checked call answers.
-pub fn checked<N: Checked>(op: Op, a: N, b: N) -> Option<N>
+pub fn checked<N: Checked>(call: Call, a: N, b: N) -> Option<N>
     requires { N.FRACTION ≤ N.BITS }
 {
-    match op {
-        Op::Neg => a.checked_neg(),
-        Op::Add => a.checked_add(b),
-        Op::Sub => a.checked_sub(b),
-        Op::Dist => a.checked_dist(b),
-        Op::Mul => a.checked_mul(b),
-        Op::Sqrt => a.checked_sqrt(),
-        Op::Recip => a.checked_recip(),
-        _ => checked_quotient(op, a, b),
+    match call {
+        Call::Neg => a.checked_neg(),
+        Call::Add => a.checked_add(b),
+        Call::Sub => a.checked_sub(b),
+        Call::Dist => a.checked_dist(b),
+        Call::Mul => a.checked_mul(b),
+        Call::Sqrt => a.checked_sqrt(),
+        Call::Recip => a.checked_recip(),
+        _ => checked_quotient(call, a, b),
     }
 }
 
-fn checked_quotient<N: Checked>(op: Op, a: N, b: N) -> Option<N>
+fn checked_quotient<N: Checked>(call: Call, a: N, b: N) -> Option<N>
     requires { N.FRACTION ≤ N.BITS }
 {
-    match op {
-        Op::Div => a.checked_div(b),
-        Op::DivEuclid => a.checked_div_euclid(b),
-        Op::NextMultipleOf => a.checked_next_multiple_of(b),
-        Op::Rem => a.checked_rem(b),
-        Op::RemEuclid => a.checked_rem_euclid(b),
-        _ => checked_by_integer(op, a, b.to_bits()),
+    match call {
+        Call::Div => a.checked_div(b),
+        Call::DivEuclid => a.checked_div_euclid(b),
+        Call::NextMultipleOf => a.checked_next_multiple_of(b),
+        Call::Rem => a.checked_rem(b),
+        Call::RemEuclid => a.checked_rem_euclid(b),
+        _ => checked_by_integer(call, a, b.to_bits()),
     }
 }
 
-fn checked_by_integer<N: Checked>(op: Op, a: N, k: N::Bits) -> Option<N>
+fn checked_by_integer<N: Checked>(call: Call, a: N, k: N::Bits) -> Option<N>
     requires { N.FRACTION ≤ N.BITS }
 {
-    match op {
-        Op::MulInt => a.checked_mul_int(k),
-        Op::DivInt => a.checked_div_int(k),
-        Op::DivEuclidInt => a.checked_div_euclid_int(k),
-        Op::RemEuclidInt => a.checked_rem_euclid_int(k),
-        Op::RemInt => a.checked_rem_int(k),
+    match call {
+        Call::MulInt => a.checked_mul_int(k),
+        Call::DivInt => a.checked_div_int(k),
+        Call::DivEuclidInt => a.checked_div_euclid_int(k),
+        Call::RemEuclidInt => a.checked_rem_euclid_int(k),
+        Call::RemInt => a.checked_rem_int(k),
         _ => None,
     }
 }
@@ -93,22 +93,26 @@ fn is_from_zero<N: Number>(a: N) -> bool
 }
 
 /// The overflowing, the wrapping and the saturating answer, where the operation is defined and has them.
-pub fn kept<N: Overflowing + Wrapping + Saturating>(op: Op, a: N, b: N) -> Option<((N, bool), N, N)>
+pub fn kept<N: Overflowing + Wrapping + Saturating>(
+    call: Call,
+    a: N,
+    b: N,
+) -> Option<((N, bool), N, N)>
     requires { N.FRACTION ≤ N.BITS }
 {
-    match op {
-        Op::Neg => Some((a.overflowing_neg(), a.wrapping_neg(), a.saturating_neg())),
-        Op::Add => Some((a.overflowing_add(b), a.wrapping_add(b), a.saturating_add(b))),
-        Op::Sub => Some((a.overflowing_sub(b), a.wrapping_sub(b), a.saturating_sub(b))),
-        Op::Dist => Some((
+    match call {
+        Call::Neg => Some((a.overflowing_neg(), a.wrapping_neg(), a.saturating_neg())),
+        Call::Add => Some((a.overflowing_add(b), a.wrapping_add(b), a.saturating_add(b))),
+        Call::Sub => Some((a.overflowing_sub(b), a.wrapping_sub(b), a.saturating_sub(b))),
+        Call::Dist => Some((
             a.overflowing_dist(b),
             a.wrapping_dist(b),
             a.saturating_dist(b),
         )),
-        Op::Mul => Some((a.overflowing_mul(b), a.wrapping_mul(b), a.saturating_mul(b))),
-        Op::Sqrt => kept_root(a),
-        Op::Recip => kept_reciprocal(a),
-        _ => kept_quotient(op, a, b),
+        Call::Mul => Some((a.overflowing_mul(b), a.wrapping_mul(b), a.saturating_mul(b))),
+        Call::Sqrt => kept_root(a),
+        Call::Recip => kept_reciprocal(a),
+        _ => kept_quotient(call, a, b),
     }
 }
 
@@ -137,7 +141,7 @@ fn kept_reciprocal<N: Overflowing + Wrapping + Saturating>(a: N) -> Option<((N, 
 }
 
 fn kept_quotient<N: Overflowing + Wrapping + Saturating>(
-    op: Op,
+    call: Call,
     a: N,
     b: N,
 ) -> Option<((N, bool), N, N)>
@@ -146,24 +150,24 @@ fn kept_quotient<N: Overflowing + Wrapping + Saturating>(
     if is_zero(b) {
         return None;
     }
-    match op {
-        Op::Div => Some((a.overflowing_div(b), a.wrapping_div(b), a.saturating_div(b))),
-        Op::DivEuclid => Some((
+    match call {
+        Call::Div => Some((a.overflowing_div(b), a.wrapping_div(b), a.saturating_div(b))),
+        Call::DivEuclid => Some((
             a.overflowing_div_euclid(b),
             a.wrapping_div_euclid(b),
             a.saturating_div_euclid(b),
         )),
-        Op::NextMultipleOf => Some((
+        Call::NextMultipleOf => Some((
             a.overflowing_next_multiple_of(b),
             a.wrapping_next_multiple_of(b),
             a.saturating_next_multiple_of(b),
         )),
-        _ => kept_by_integer(op, a, b.to_bits()),
+        _ => kept_by_integer(call, a, b.to_bits()),
     }
 }
 
 fn kept_by_integer<N: Overflowing + Wrapping + Saturating>(
-    op: Op,
+    call: Call,
     a: N,
     k: N::Bits,
 ) -> Option<((N, bool), N, N)>
@@ -172,23 +176,23 @@ fn kept_by_integer<N: Overflowing + Wrapping + Saturating>(
     if is_zero_bits(k) {
         return None;
     }
-    match op {
-        Op::MulInt => Some((
+    match call {
+        Call::MulInt => Some((
             a.overflowing_mul_int(k),
             a.wrapping_mul_int(k),
             a.saturating_mul_int(k),
         )),
-        Op::DivInt => Some((
+        Call::DivInt => Some((
             a.overflowing_div_int(k),
             a.wrapping_div_int(k),
             a.saturating_div_int(k),
         )),
-        Op::DivEuclidInt => Some((
+        Call::DivEuclidInt => Some((
             a.overflowing_div_euclid_int(k),
             a.wrapping_div_euclid_int(k),
             a.saturating_div_euclid_int(k),
         )),
-        Op::RemEuclidInt => Some((
+        Call::RemEuclidInt => Some((
             a.overflowing_rem_euclid_int(k),
             a.wrapping_rem_euclid_int(k),
             a.saturating_rem_euclid_int(k),

@@ -4,99 +4,103 @@
 
 ghost use Rattle.std.specs.Prelude.{◌≤◌};
 
-use super::calls::Op;
+use super::calls::Call;
 use fixed_policy::Checked;
 use fixed_strict::{Strict, Unwrapped};
 
 /// The strict and the unwrapped answer, where the number fits.
-pub fn fitting<N: Checked + Strict + Unwrapped>(op: Op, a: N, b: N) -> Option<(N, N)>
+pub fn fitting<N: Checked + Strict + Unwrapped>(call: Call, a: N, b: N) -> Option<(N, N)>
     requires { N.FRACTION ≤ N.BITS }
 {
-    match op {
-        Op::Neg => {
+    match call {
+        Call::Neg => {
             a.checked_neg()?;
             Some((a.strict_neg(), a.unwrapped_neg()))
         }
-        Op::Add => {
+        Call::Add => {
             a.checked_add(b)?;
             Some((a.strict_add(b), a.unwrapped_add(b)))
         }
-        Op::Sub => {
+        Call::Sub => {
             a.checked_sub(b)?;
             Some((a.strict_sub(b), a.unwrapped_sub(b)))
         }
-        Op::Dist => {
+        Call::Dist => {
             a.checked_dist(b)?;
             Some((a.strict_dist(b), a.unwrapped_dist(b)))
         }
-        Op::Mul => {
+        Call::Mul => {
             a.checked_mul(b)?;
             Some((a.strict_mul(b), a.unwrapped_mul(b)))
         }
-        Op::Sqrt => {
+        Call::Sqrt => {
             a.checked_sqrt()?;
             Some((a.strict_sqrt(), a.unwrapped_sqrt()))
         }
-        Op::Recip => {
+        Call::Recip => {
             a.checked_recip()?;
             Some((a.strict_recip(), a.unwrapped_recip()))
         }
-        _ => fitting_quotient(op, a, b),
+        _ => fitting_quotient(call, a, b),
     }
 }
 
-fn fitting_quotient<N: Checked + Strict + Unwrapped>(op: Op, a: N, b: N) -> Option<(N, N)>
+fn fitting_quotient<N: Checked + Strict + Unwrapped>(call: Call, a: N, b: N) -> Option<(N, N)>
     requires { N.FRACTION ≤ N.BITS }
 {
-    match op {
-        Op::Div => {
+    match call {
+        Call::Div => {
             a.checked_div(b)?;
             Some((a.strict_div(b), a.unwrapped_div(b)))
         }
-        Op::DivEuclid => {
+        Call::DivEuclid => {
             a.checked_div_euclid(b)?;
             Some((a.strict_div_euclid(b), a.unwrapped_div_euclid(b)))
         }
-        Op::NextMultipleOf => {
+        Call::NextMultipleOf => {
             a.checked_next_multiple_of(b)?;
             Some((
                 a.strict_next_multiple_of(b),
                 a.unwrapped_next_multiple_of(b),
             ))
         }
-        Op::Rem => {
+        Call::Rem => {
             a.checked_rem(b)?;
             Some((a.strict_rem(b), a.unwrapped_rem(b)))
         }
-        Op::RemEuclid => {
+        Call::RemEuclid => {
             a.checked_rem_euclid(b)?;
             Some((a.strict_rem_euclid(b), a.unwrapped_rem_euclid(b)))
         }
-        _ => fitting_by_integer(op, a, b.to_bits()),
+        _ => fitting_by_integer(call, a, b.to_bits()),
     }
 }
 
-fn fitting_by_integer<N: Checked + Strict + Unwrapped>(op: Op, a: N, k: N::Bits) -> Option<(N, N)>
+fn fitting_by_integer<N: Checked + Strict + Unwrapped>(
+    call: Call,
+    a: N,
+    k: N::Bits,
+) -> Option<(N, N)>
     requires { N.FRACTION ≤ N.BITS }
 {
-    match op {
-        Op::MulInt => {
+    match call {
+        Call::MulInt => {
             a.checked_mul_int(k)?;
             Some((a.strict_mul_int(k), a.unwrapped_mul_int(k)))
         }
-        Op::DivInt => {
+        Call::DivInt => {
             a.checked_div_int(k)?;
             Some((a.strict_div_int(k), a.unwrapped_div_int(k)))
         }
-        Op::DivEuclidInt => {
+        Call::DivEuclidInt => {
             a.checked_div_euclid_int(k)?;
             Some((a.strict_div_euclid_int(k), a.unwrapped_div_euclid_int(k)))
         }
-        Op::RemEuclidInt => {
+        Call::RemEuclidInt => {
             a.checked_rem_euclid_int(k)?;
             Some((a.strict_rem_euclid_int(k), a.unwrapped_rem_euclid_int(k)))
         }
-        Op::RemInt => {
+        Call::RemInt => {
             a.checked_rem_int(k)?;
             Some((a.strict_rem_int(k), a.unwrapped_rem_int(k)))
         }

@@ -3,7 +3,7 @@
 
 ghost use Rattle.std.specs.Prelude.{◌≤◌};
 
-use super::calls::{Op, checked, kept};
+use super::calls::{Call, checked, kept};
 use super::fitting::fitting;
 use fixed_num::{Fixed, FixedI8, FixedI32, FixedU8, Number};
 use fixed_policy::{Checked, Overflowing, Wrapping};
@@ -16,197 +16,197 @@ use std::process::Abort;
 type Forms<N> = (Option<N>, Option<((N, bool), N, N)>, Option<(N, N)>);
 
 /// What they answer to an operation.
-fn answers<N>(op: Op, a: N, b: N) -> Forms<N>
+fn answers<N>(call: Call, a: N, b: N) -> Forms<N>
 where
     N: Checked + Overflowing + Wrapping + Saturating + Strict + Unwrapped,
     requires { N.FRACTION ≤ N.BITS }
 {
-    (checked(op, a, b), kept(op, a, b), fitting(op, a, b))
+    (checked(call, a, b), kept(call, a, b), fitting(call, a, b))
 }
 
 /// What they answer where this number is left of one on this side. Plain remainders are offered under checked,
 /// strict and unwrapped alone.
-fn forms<N: Number>(op: Op, left: N, side: Side) -> Forms<N> {
+fn forms<N: Number>(call: Call, left: N, side: Side) -> Forms<N> {
     let (checked, fitting, nearest) = match side {
         Fits => (Some(left), Some((left, left)), left),
         Above => (None, None, N::from_bits(<N::Bits as RawWord>::MAX)),
         Below => (None, None, N::from_bits(<N::Bits as RawWord>::MIN)),
     };
-    let kept = match op {
-        Op::Rem | Op::RemEuclid | Op::RemInt => None,
+    let kept = match call {
+        Call::Rem | Call::RemEuclid | Call::RemInt => None,
         _ => Some(((left, side != Fits), left, nearest)),
     };
     (checked, kept, fitting)
 }
 
 /// Asserts that all policies answer by the row of `a` and `b`: this number is left of one on this side.
-fn stands<N>(rt: &impl Abort, op: Op, a: N, b: N, left: N, side: Side)
+fn stands<N>(rt: &impl Abort, call: Call, a: N, b: N, left: N, side: Side)
 where
     N: Checked + Overflowing + Wrapping + Saturating + Strict + Unwrapped + PartialEq,
     requires { N.FRACTION ≤ N.BITS }
 {
     let (x, y) = (a.to_bits().magnitude(), b.to_bits().magnitude());
     assert!(rt;
-        answers(op, a, b) == forms(op, left, side),
-        "{op:?} of {x} and {y}, without their signs"
+        answers(call, a, b) == forms(call, left, side),
+        "{call:?} of {x} and {y}, without their signs"
     );
 }
 
 /// Asserts that the operation is undefined: there is no answer.
-fn is_undefined<N>(rt: &impl Abort, op: Op, a: N, b: N)
+fn is_undefined<N>(rt: &impl Abort, call: Call, a: N, b: N)
 where
     N: Checked + Overflowing + Wrapping + Saturating + Strict + Unwrapped + PartialEq,
     requires { N.FRACTION ≤ N.BITS }
 {
-    assert!(rt; answers(op, a, b) == (None, None, None), "{op:?}");
+    assert!(rt; answers(call, a, b) == (None, None, None), "{call:?}");
 }
 
 #[test]
 fn signed_bytes(rt: HostRuntime) {
-    for (op, a, b, left, side) in [
-        (Op::Neg, -128_i8, 0, -128, Above),
-        (Op::Neg, -127, 0, 127, Fits),
-        (Op::Add, 127, 1, -128, Above),
-        (Op::Add, -128, -1, 127, Below),
-        (Op::Add, 100, 27, 127, Fits),
-        (Op::Sub, 48, 8, 40, Fits),
-        (Op::Dist, -128, 127, -1, Above),
-        (Op::Dist, -48, 64, 112, Fits),
-        (Op::Mul, 127, 64, -4, Above),
-        (Op::Mul, 48, 8, 24, Fits),
-        (Op::Mul, -3, 5, -1, Fits),
-        (Op::MulInt, 48, 2, 96, Fits),
-        (Op::MulInt, -16, 8, -128, Fits),
-        (Op::MulInt, -100, 3, -44, Below),
-        (Op::Sqrt, 32, 0, 22, Fits),
-        (Op::Recip, -24, 0, -10, Fits),
-        (Op::Div, -7, 3, -37, Fits),
-        (Op::DivInt, -7, 2, -3, Fits),
-        (Op::DivEuclid, 68, -8, -128, Fits),
-        (Op::DivEuclid, 127, 4, -16, Above),
-        (Op::DivEuclid, -128, 4, 0, Below),
-        (Op::DivEuclid, -24, 20, -32, Fits),
-        (Op::DivEuclidInt, -128, -1, -128, Above),
-        (Op::DivEuclidInt, -24, -1, 32, Fits),
-        (Op::NextMultipleOf, 127, 126, -4, Above),
-        (Op::NextMultipleOf, -64, 24, -48, Fits),
-        (Op::NextMultipleOf, -64, -24, -72, Fits),
-        (Op::Rem, -23, 5, -3, Fits),
-        (Op::Rem, 23, -5, 3, Fits),
-        (Op::RemEuclid, -23, -5, 2, Fits),
-        (Op::RemEuclid, 5, -3, 2, Fits),
-        (Op::RemInt, -23, 1, -7, Fits),
-        (Op::RemEuclidInt, -120, 20, -56, Above),
-        (Op::RemEuclidInt, -23, 1, 9, Fits),
+    for (call, a, b, left, side) in [
+        (Call::Neg, -128_i8, 0, -128, Above),
+        (Call::Neg, -127, 0, 127, Fits),
+        (Call::Add, 127, 1, -128, Above),
+        (Call::Add, -128, -1, 127, Below),
+        (Call::Add, 100, 27, 127, Fits),
+        (Call::Sub, 48, 8, 40, Fits),
+        (Call::Dist, -128, 127, -1, Above),
+        (Call::Dist, -48, 64, 112, Fits),
+        (Call::Mul, 127, 64, -4, Above),
+        (Call::Mul, 48, 8, 24, Fits),
+        (Call::Mul, -3, 5, -1, Fits),
+        (Call::MulInt, 48, 2, 96, Fits),
+        (Call::MulInt, -16, 8, -128, Fits),
+        (Call::MulInt, -100, 3, -44, Below),
+        (Call::Sqrt, 32, 0, 22, Fits),
+        (Call::Recip, -24, 0, -10, Fits),
+        (Call::Div, -7, 3, -37, Fits),
+        (Call::DivInt, -7, 2, -3, Fits),
+        (Call::DivEuclid, 68, -8, -128, Fits),
+        (Call::DivEuclid, 127, 4, -16, Above),
+        (Call::DivEuclid, -128, 4, 0, Below),
+        (Call::DivEuclid, -24, 20, -32, Fits),
+        (Call::DivEuclidInt, -128, -1, -128, Above),
+        (Call::DivEuclidInt, -24, -1, 32, Fits),
+        (Call::NextMultipleOf, 127, 126, -4, Above),
+        (Call::NextMultipleOf, -64, 24, -48, Fits),
+        (Call::NextMultipleOf, -64, -24, -72, Fits),
+        (Call::Rem, -23, 5, -3, Fits),
+        (Call::Rem, 23, -5, 3, Fits),
+        (Call::RemEuclid, -23, -5, 2, Fits),
+        (Call::RemEuclid, 5, -3, 2, Fits),
+        (Call::RemInt, -23, 1, -7, Fits),
+        (Call::RemEuclidInt, -120, 20, -56, Above),
+        (Call::RemEuclidInt, -23, 1, 9, Fits),
     ] {
         let (x, y) = (FixedI8::<4> { bits: a }, Fixed { bits: b });
-        stands(&rt, op, x, y, Fixed { bits: left }, side);
+        stands(&rt, call, x, y, Fixed { bits: left }, side);
     }
 }
 
 #[test]
 fn one_integer_bit(rt: HostRuntime) {
-    for (op, a, b, left, side) in [
-        (Op::Recip, 32_i8, 0, 0, Above),
-        (Op::Recip, -32, 0, 0, Below),
+    for (call, a, b, left, side) in [
+        (Call::Recip, 32_i8, 0, 0, Above),
+        (Call::Recip, -32, 0, 0, Below),
     ] {
         let (x, y) = (FixedI8::<7> { bits: a }, Fixed { bits: b });
-        stands(&rt, op, x, y, Fixed { bits: left }, side);
+        stands(&rt, call, x, y, Fixed { bits: left }, side);
     }
 }
 
 #[test]
 fn no_integer_bits(rt: HostRuntime) {
-    for (op, a, b, left, side) in [
-        (Op::Div, -128_i8, -1, 0, Above),
-        (Op::Sqrt, 127, 0, -76, Above),
-        (Op::DivEuclid, 64, 100, 0, Fits),
-        (Op::DivEuclidInt, -64, 2, 0, Below),
+    for (call, a, b, left, side) in [
+        (Call::Div, -128_i8, -1, 0, Above),
+        (Call::Sqrt, 127, 0, -76, Above),
+        (Call::DivEuclid, 64, 100, 0, Fits),
+        (Call::DivEuclidInt, -64, 2, 0, Below),
     ] {
         let (x, y) = (FixedI8::<8> { bits: a }, Fixed { bits: b });
-        stands(&rt, op, x, y, Fixed { bits: left }, side);
+        stands(&rt, call, x, y, Fixed { bits: left }, side);
     }
 }
 
 #[test]
 fn unsigned_bytes(rt: HostRuntime) {
-    for (op, a, b, left, side) in [
-        (Op::Neg, 0_u8, 0, 0, Fits),
-        (Op::Add, 255, 3, 2, Above),
-        (Op::Add, 200, 55, 255, Fits),
-        (Op::Sub, 7, 8, 255, Below),
-        (Op::Dist, 50, 200, 150, Fits),
-        (Op::Mul, 255, 64, 252, Above),
-        (Op::Mul, 255, 17, 14, Above),
-        (Op::Mul, 201, 20, 251, Fits),
-        (Op::Recip, 7, 0, 36, Fits),
-        (Op::Div, 100, 7, 228, Fits),
-        (Op::Div, 100, 3, 21, Above),
-        (Op::DivEuclid, 255, 4, 240, Above),
-        (Op::DivEuclid, 250, 20, 192, Fits),
-        (Op::Rem, 250, 20, 10, Fits),
-        (Op::RemInt, 250, 3, 10, Fits),
+    for (call, a, b, left, side) in [
+        (Call::Neg, 0_u8, 0, 0, Fits),
+        (Call::Add, 255, 3, 2, Above),
+        (Call::Add, 200, 55, 255, Fits),
+        (Call::Sub, 7, 8, 255, Below),
+        (Call::Dist, 50, 200, 150, Fits),
+        (Call::Mul, 255, 64, 252, Above),
+        (Call::Mul, 255, 17, 14, Above),
+        (Call::Mul, 201, 20, 251, Fits),
+        (Call::Recip, 7, 0, 36, Fits),
+        (Call::Div, 100, 7, 228, Fits),
+        (Call::Div, 100, 3, 21, Above),
+        (Call::DivEuclid, 255, 4, 240, Above),
+        (Call::DivEuclid, 250, 20, 192, Fits),
+        (Call::Rem, 250, 20, 10, Fits),
+        (Call::RemInt, 250, 3, 10, Fits),
     ] {
         let (x, y) = (FixedU8::<4> { bits: a }, Fixed { bits: b });
-        stands(&rt, op, x, y, Fixed { bits: left }, side);
+        stands(&rt, call, x, y, Fixed { bits: left }, side);
     }
 }
 
 #[test]
 fn unsigned_fractions(rt: HostRuntime) {
-    for (op, a, b, left, side) in [(Op::Sqrt, 255_u8, 0, 255, Fits)] {
+    for (call, a, b, left, side) in [(Call::Sqrt, 255_u8, 0, 255, Fits)] {
         let (x, y) = (FixedU8::<8> { bits: a }, Fixed { bits: b });
-        stands(&rt, op, x, y, Fixed { bits: left }, side);
+        stands(&rt, call, x, y, Fixed { bits: left }, side);
     }
 }
 
 #[test]
 fn thirty_two_bits(rt: HostRuntime) {
-    for (op, a, b, left, side) in [(Op::RemInt, i32::MIN, -1, 0, Fits)] {
+    for (call, a, b, left, side) in [(Call::RemInt, i32::MIN, -1, 0, Fits)] {
         let (x, y) = (FixedI32::<16> { bits: a }, Fixed { bits: b });
-        stands(&rt, op, x, y, Fixed { bits: left }, side);
+        stands(&rt, call, x, y, Fixed { bits: left }, side);
     }
 }
 
 #[test]
 fn thirty_two_bits_one_integer_bit(rt: HostRuntime) {
-    for (op, a, b, left, side) in [
-        (Op::RemEuclidInt, -1073741824_i32, 3, 1073741824, Above),
-        (Op::RemEuclidInt, -536870912, 3, 1610612736, Above),
+    for (call, a, b, left, side) in [
+        (Call::RemEuclidInt, -1073741824_i32, 3, 1073741824, Above),
+        (Call::RemEuclidInt, -536870912, 3, 1610612736, Above),
     ] {
         let (x, y) = (FixedI32::<31> { bits: a }, Fixed { bits: b });
-        stands(&rt, op, x, y, Fixed { bits: left }, side);
+        stands(&rt, call, x, y, Fixed { bits: left }, side);
     }
 }
 
 #[test]
 fn thirty_two_fraction_bits(rt: HostRuntime) {
-    for (op, a, b, left, side) in [
-        (Op::Div, i32::MIN, 1, 0, Below),
-        (Op::Div, i32::MIN, i32::MIN, 0, Above),
-        (Op::Div, -2147483647, i32::MIN, -2, Above),
-        (Op::RemEuclidInt, -1610612736, 1, -1610612736, Above),
+    for (call, a, b, left, side) in [
+        (Call::Div, i32::MIN, 1, 0, Below),
+        (Call::Div, i32::MIN, i32::MIN, 0, Above),
+        (Call::Div, -2147483647, i32::MIN, -2, Above),
+        (Call::RemEuclidInt, -1610612736, 1, -1610612736, Above),
     ] {
         let (x, y) = (FixedI32::<32> { bits: a }, Fixed { bits: b });
-        stands(&rt, op, x, y, Fixed { bits: left }, side);
+        stands(&rt, call, x, y, Fixed { bits: left }, side);
     }
 }
 
 #[test]
 fn undefined(rt: HostRuntime) {
-    for (op, a, b) in [
-        (Op::Sqrt, -16_i8, 0),
-        (Op::Recip, 0, 0),
-        (Op::Div, 1, 0),
-        (Op::DivEuclid, 1, 0),
-        (Op::NextMultipleOf, 1, 0),
-        (Op::Rem, 5, 0),
-        (Op::RemEuclid, 5, 0),
-        (Op::DivInt, 1, 0),
-        (Op::DivEuclidInt, 1, 0),
-        (Op::RemEuclidInt, 1, 0),
-        (Op::RemInt, 5, 0),
+    for (call, a, b) in [
+        (Call::Sqrt, -16_i8, 0),
+        (Call::Recip, 0, 0),
+        (Call::Div, 1, 0),
+        (Call::DivEuclid, 1, 0),
+        (Call::NextMultipleOf, 1, 0),
+        (Call::Rem, 5, 0),
+        (Call::RemEuclid, 5, 0),
+        (Call::DivInt, 1, 0),
+        (Call::DivEuclidInt, 1, 0),
+        (Call::RemEuclidInt, 1, 0),
+        (Call::RemInt, 5, 0),
     ] {
-        is_undefined(&rt, op, FixedI8::<4> { bits: a }, Fixed { bits: b });
+        is_undefined(&rt, call, FixedI8::<4> { bits: a }, Fixed { bits: b });
     }
 }

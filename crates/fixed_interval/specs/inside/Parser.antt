@@ -4,7 +4,7 @@ use Rattle.std.specs.Str.{bytes_eq}
 use Rattle.fixed_text.specs.Numbers.{natural_in, numbered_in, whole_in}
 use Rattle.fixed_text.specs.Tokens.{◌>>=◌, next_by, at_end}
 use Rattle.fixed_text.specs.Words.{word_named}
-use Rattle.fixed_interval.specs.declared.op.Op.{Op}
+use Rattle.fixed_interval.specs.declared.op.IntervalOp.{IntervalOp}
 use Rattle.fixed_interval.specs.Lines.{op_in}
 use Rattle.fixed_interval.specs.Text.{IntervalHeader, IntervalRequest, IntervalLine, SetTo, OfTwo, RootOf}
 
@@ -29,7 +29,7 @@ set_at ts = do
   high ← next_by whole_in low.1
   at_end high.1 (SetTo low.0 high.0)
 
-unfoldable pub two_at : Op → List (List ℕ) → Option IntervalRequest
+unfoldable pub two_at : IntervalOp → List (List ℕ) → Option IntervalRequest
 two_at op ts = do
   a ← next_by register_in ts
   b ← next_by register_in a.1
