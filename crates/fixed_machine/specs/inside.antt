@@ -2,6 +2,7 @@
 pub mod Buffers
 pub mod Lines
 pub mod Moves
+pub mod Opened
 pub mod Quick
 pub mod QuickSteps
 pub mod Stepping

@@ -23,37 +23,30 @@ use fixed_word::Word;
 use std::alloc::{AllocError, Global};
 use std::marker::Model;
 
-/// Returns whether a number of fraction bits exceeds the width.
-fn has_wide(header: &Header<'_>) -> bool
-    ensures { result ≡ is_wide header.now.word header.now.fractions }
+/// Adds a register with bits 0 for each number of fraction bits, and returns whether none exceeds the width. Stops at
+/// the first that does.
+fn push_fractions(registers: &mut Vec<Register>, header: &Header<'_>) -> bool
+    requires room { vec_len registers.old + length header.now.fractions
+        ≤ vec_capacity registers.old }
+    ensures narrow { result ≡ true → is_wide header.now.word header.now.fractions ≡ false }
+    ensures wide { result ≡ false → is_wide header.now.word header.now.fractions ≡ true }
+    ensures items { result ≡ true → cells_of registers.new.items
+        ≡ cells_of registers.old.items ++ zeros header.now.fractions }
+    ensures capacity { vec_capacity registers.new ≡ vec_capacity registers.old }
 {
     let width = u128::from(header.word().width());
     let mut fractions = header.fractions();
     while let Some(fraction) = fractions.next() {
         if width < fraction {
-            return true;
+            return false;
         }
-    }
-    false
-}
-
-/// Adds a register with bits 0 for each number of fraction bits.
-fn push_fractions(registers: &mut Vec<Register>, header: &Header<'_>)
-    requires room { vec_len registers.old + length header.now.fractions
-        ≤ vec_capacity registers.old }
-    requires narrow { is_wide header.now.word header.now.fractions ≡ false }
-    ensures items { cells_of registers.new.items
-        ≡ cells_of registers.old.items ++ zeros header.now.fractions }
-    ensures capacity { vec_capacity registers.new ≡ vec_capacity registers.old }
-{
-    let mut fractions = header.fractions();
-    while let Some(fraction) = fractions.next() {
         registers.push_reserved(Register {
             magnitude: 0,
             fraction: fraction as u32,
             below_zero: false,
         });
     }
+    true
 }
 
 /// The word of a script's header, its registers and the bytes of its answers, with room that was made for the script.
@@ -128,12 +121,19 @@ impl Room {
         ensures { IfOk result
             (λ room. IsEmptySpace (spaces script.now) (2 * length script.now) room) }
     {
-        let most = spaces_of(script);
+        Room::of_size(alloc, spaces_of(script), 2 * script.len())
+    }
+
+    /// Returns a room without a header, registers and answers, with room for so many registers and answer bytes. Fails
+    /// if memory runs out.
+    pub(crate) fn of_size(alloc: Global, most: usize, bytes: usize) -> Result<Room, AllocError>
+        ensures { IfOk result (λ room. IsEmptySpace most bytes room) }
+    {
         Ok(Room {
             word: None,
             registers: Vec::with_capacity(alloc, most)?,
             most,
-            answers: Buffer::with_room(alloc, 2 * script.len())?,
+            answers: Buffer::with_room(alloc, bytes)?,
         })
     }
 
@@ -165,10 +165,10 @@ impl Room {
         ensures kept { KeepsRoom self.old self.new }
     {
         self.clear();
-        if has_wide(header) {
+        if !push_fractions(&mut self.registers, header) {
+            self.registers.clear();
             return Err(Cause::OutOfRange(1));
         }
-        push_fractions(&mut self.registers, header);
         self.word = Some(header.word());
         Ok(())
     }
@@ -307,7 +307,7 @@ pub fn step(room: &mut Room, line: &Line, number: u64) -> Result<Answer, Cause>
 }
 
 /// Returns the number of spaces of a piece.
-fn spaces_in(piece: &[u8]) -> usize
+pub(crate) fn spaces_in(piece: &[u8]) -> usize
     ensures { result ≡ spaces_in piece.now }
 {
     piece.iter().filter(|byte| **byte == b' ').count()

@@ -1,19 +1,20 @@
 //! Running a whole script in a room.
 
-ghost use Rattle.std.specs.Prelude.{◌≡◌, ◌≤◌, ◌<◌, ◌*◌, ◌+◌, drop, length, Some, None, Err, IfOk, IfErr, IfSome};
+ghost use Rattle.std.specs.Prelude.{◌≡◌, ◌≤◌, ◌<◌, ◌*◌, ◌+◌, drop, length, Some, None, Err, IfOk, IfErr, IfSome, IfNone};
 ghost use Rattle.fixed_text.specs.Words.{is_signed, width};
 ghost use Rattle.fixed_word.specs.Pieces.{pieces};
-ghost use Rattle.fixed_text.specs.inside.Ends.{after};
+ghost use Rattle.fixed_text.specs.inside.Ends.{after, stopped};
 ghost use Rattle.fixed_machine.specs.Meaning.{meaning, script_run};
 ghost use Rattle.fixed_machine.specs.inside.Lines.{run_lines};
 ghost use Rattle.fixed_machine.specs.inside.Moves.{HasMoved, HaveMoved};
-ghost use Rattle.fixed_machine.specs.Rooms.{KeepsRoom, IsAnswerOfMeaning, IsAnswerOfRun, Suffices};
+ghost use Rattle.fixed_machine.specs.inside.Opened.{IsOpened};
+ghost use Rattle.fixed_machine.specs.Rooms.{KeepsRoom, IsAnswerOfMeaning, IsAnswerOfRun, Suffices, spaces};
 ghost use Rattle.fixed_machine.specs.Step.{state_in};
 
 use crate::cause::{Cause, ScriptFault};
 use crate::quick::{LONGEST, quick_line};
-use crate::room::{Answers, Room};
-use fixed_script::header_of_piece;
+use crate::room::{Answers, Room, spaces_in};
+use fixed_script::{Header, header_of_piece};
 use fixed_text::{WordName, piece_end};
 use fixed_word::Word;
 use std::alloc::Global;
@@ -151,6 +152,35 @@ fn answer_lines(word: WordName, lines: &[u8], room: &mut Room) -> Result<(), Cau
     }
 }
 
+/// Returns the header of a script, and where its lines begin, or `None` if its first piece is not a header.
+fn open(script: &[u8]) -> Option<(Header<'_>, usize)>
+    ensures none { IfNone result (script_run script.now ≡ stopped None (Cause.Syntax 1)) }
+    ensures some { IfSome result (λ found. IsOpened script.now found.0 found.1) }
+{
+    if script.is_empty() {
+        return None;
+    }
+    let end = piece_end(script);
+    match header_of_piece(&script[..end]) {
+        Some(header) => Some((header, end)),
+        None => None,
+    }
+}
+
+/// Declares the registers of a script's header and runs the lines, which begin at `end`. Precondition: there is room.
+fn run_from(script: &[u8], header: &Header<'_>, end: usize, room: &mut Room) -> Result<(), Cause>
+    requires opened { IsOpened script.now header.now end }
+    requires registers { spaces script.now ≤ room.old.register_room }
+    requires answers { 2 * length script.now ≤ room.old.answer_room }
+    ensures tells { IsAnswerOfRun (script_run script.now) result room.new }
+    ensures kept { KeepsRoom room.old room.new }
+{
+    match room.declare(header) {
+        Ok(()) => answer_lines(header.word(), &script[end..], room),
+        Err(cause) => Err(cause),
+    }
+}
+
 /// Runs a script from a fresh start, without allocation. Leaves all answers in the room. If a line has a cause, returns
 /// the first one and leaves the registers and the answers of the lines before it in the room. Precondition: the room
 /// suffices for the script, as `suffices` tests.
@@ -159,18 +189,12 @@ pub fn run_in(script: &[u8], room: &mut Room) -> Result<(), Cause>
     ensures tells { IsAnswerOfRun (script_run script.now) result room.new }
     ensures kept { KeepsRoom room.old room.new }
 {
-    room.clear();
-    if script.is_empty() {
-        return Err(Cause::Syntax(1));
-    }
-    let end = piece_end(script);
-    let header = match header_of_piece(&script[..end]) {
-        Some(header) => header,
-        None => return Err(Cause::Syntax(1)),
-    };
-    match room.declare(&header) {
-        Ok(()) => answer_lines(header.word(), &script[end..], room),
-        Err(cause) => Err(cause),
+    match open(script) {
+        Some((header, end)) => run_from(script, &header, end, room),
+        None => {
+            room.clear();
+            Err(Cause::Syntax(1))
+        }
     }
 }
 
@@ -179,11 +203,14 @@ pub fn run_in(script: &[u8], room: &mut Room) -> Result<(), Cause>
 pub fn run(alloc: Global, script: &[u8]) -> Result<Answers, ScriptFault>
     ensures { IsAnswerOfMeaning (meaning script.now) result }
 {
-    let mut room = match Room::for_script(alloc, script) {
+    let Some((header, end)) = open(script) else {
+        return Err(ScriptFault::Script(Cause::Syntax(1)));
+    };
+    let mut room = match Room::of_size(alloc, spaces_in(&script[..end]), 2 * script.len()) {
         Ok(room) => room,
         Err(_) => return Err(ScriptFault::Memory),
     };
-    match run_in(script, &mut room) {
+    match run_from(script, &header, end, &mut room) {
         Ok(()) => Ok(room.into_answers()),
         Err(cause) => Err(ScriptFault::Script(cause)),
     }
