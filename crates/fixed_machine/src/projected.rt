@@ -116,7 +116,7 @@ pub(crate) fn answer_as<T: Word>(
     let a = operand_of::<T>(taken.a);
     let b = operand_of::<T>(taken.b);
     let c = operand_of::<T>(taken.c);
-    match outcome_by(rounding, policy, op, a, b, c) {
+    match outcome_by(rounding, op, a, b, c) {
         None => unanswered(policy, op, number),
         Some(outcome) => answered(policy, outcome, number),
     }

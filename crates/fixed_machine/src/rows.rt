@@ -8,6 +8,7 @@ ghost use Rattle.fixed_kernel.specs.Rows.{by_divisor};
 ghost use Rattle.fixed_kernel.specs.RoundedRows.{rounded_div, rounded_recip};
 ghost use Rattle.fixed_script.specs.Text.{takes_rounding as rounds};
 ghost use Rattle.fixed_script.specs.Offered.{is_offered};
+ghost use Rattle.fixed_script.specs.declared.names.Policy.{Policy};
 ghost use Rattle.fixed_machine.specs.inside.Groups.{group, OfOne, SumOrProduct, ByDivisor};
 
 use fixed_kernel::{
@@ -17,7 +18,7 @@ use fixed_kernel::{
     recip_round_of, rem_euclid_int_of, rem_euclid_of, rem_int_of, rem_of, signum_of, sqrt_of,
     sub_of,
 };
-use fixed_script::{Op, Policy, takes_rounding};
+use fixed_script::{Op, takes_rounding};
 use fixed_word::{Outcome, Rounding, Word};
 
 /// An operand: its bits in a word, and its number of fraction bits.
@@ -63,9 +64,9 @@ fn group_of(op: Op) -> Group
 /// Returns the outcome of an operation on one number, or `None` if its row is undefined.
 #[inline(always)]
 #[tactic(auto, unfolding(crate::specs::Rows::exact, fixed_script::specs::Offered::is_offered))]
-fn outcome_of_one<T: Word>(policy: Policy, op: Op, x: T, frac: u32) -> Option<Outcome<T>>
+fn outcome_of_one<T: Word>(op: Op, x: T, frac: u32) -> Option<Outcome<T>>
     requires group { group op ≡ OfOne }
-    requires offered { is_offered T.SIGNED policy op ≡ true }
+    requires offered { (policy : Policy) × (is_offered T.SIGNED policy op ≡ true) }
     requires frac { frac ≤ T.BITS }
     ensures { (b c : ℤ) (g h : ℕ) → IsOutcomeOfRow T.value T.SIGNED T.BITS
         (exact_row op (rounding_of op None) (T.value x) b c frac g h) result }
@@ -164,14 +165,8 @@ fn outcome_by_divisor<T: Word>(op: Op, x: T, y: T, frac: u32) -> Option<Outcome<
 /// Returns the outcome of the operation's row, or `None` if the row is undefined.
 #[inline(always)]
 #[tactic(auto)]
-fn outcome_as<T: Word>(
-    policy: Policy,
-    op: Op,
-    a: Operand<T>,
-    b: Operand<T>,
-    c: Operand<T>,
-) -> Option<Outcome<T>>
-    requires offered { is_offered T.SIGNED policy op ≡ true }
+fn outcome_as<T: Word>(op: Op, a: Operand<T>, b: Operand<T>, c: Operand<T>) -> Option<Outcome<T>>
+    requires offered { (policy : Policy) × (is_offered T.SIGNED policy op ≡ true) }
     requires a { a.fraction ≤ T.BITS }
     requires b { b.fraction ≤ T.BITS }
     requires c { c.fraction ≤ T.BITS }
@@ -180,7 +175,7 @@ fn outcome_as<T: Word>(
         a.fraction b.fraction c.fraction) result }
 {
     match group_of(op) {
-        Group::OfOne => outcome_of_one(policy, op, a.bits, a.fraction),
+        Group::OfOne => outcome_of_one(op, a.bits, a.fraction),
         Group::SumOrProduct => outcome_of_sum_or_product(op, a, b, c),
         Group::ByDivisor => outcome_by_divisor(op, a.bits, b.bits, a.fraction),
     }
@@ -257,13 +252,12 @@ fn rounded_outcome_as<T: Word>(
 #[inline(always)]
 pub(crate) fn outcome_by<T: Word>(
     rounding: Option<Rounding>,
-    policy: Policy,
     op: Op,
     a: Operand<T>,
     b: Operand<T>,
     c: Operand<T>,
 ) -> Option<Outcome<T>>
-    requires offered { is_offered T.SIGNED policy op ≡ true }
+    requires offered { (policy : Policy) × (is_offered T.SIGNED policy op ≡ true) }
     requires a { a.fraction ≤ T.BITS }
     requires b { b.fraction ≤ T.BITS }
     requires c { c.fraction ≤ T.BITS }
@@ -273,6 +267,6 @@ pub(crate) fn outcome_by<T: Word>(
 {
     match rounding {
         Some(rounding) if takes_rounding(op) => rounded_outcome_as(rounding, op, a, b, c),
-        _ => outcome_as(policy, op, a, b, c),
+        _ => outcome_as(op, a, b, c),
     }
 }

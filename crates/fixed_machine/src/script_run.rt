@@ -1,6 +1,7 @@
 //! Running a whole script in a room.
 
 ghost use Rattle.std.specs.Prelude.{◌≡◌, ◌≤◌, ◌<◌, ◌*◌, ◌+◌, drop, length, Some, None, Err, IfOk, IfErr, IfSome, IfNone};
+ghost use Rattle.fixed_text.specs.declared.names.WordName.{WordName};
 ghost use Rattle.fixed_text.specs.Words.{is_signed, width};
 ghost use Rattle.fixed_word.specs.Pieces.{pieces};
 ghost use Rattle.fixed_text.specs.inside.Ends.{after, stopped};
@@ -20,13 +21,15 @@ use fixed_word::Word;
 use std::alloc::Global;
 
 /// Runs the first line of the rest, and returns where it ends.
-fn answer_line(word: WordName, rest: &[u8], number: u64, room: &mut Room) -> Result<usize, Cause>
+fn answer_line(rest: &[u8], number: u64, room: &mut Room) -> Result<usize, Cause>
     requires some { 0 < length rest.now }
-    requires word { room.old.word ≡ Some word }
+    requires word { (word : WordName) × (room.old.word ≡ Some word) }
     requires space { length room.old.answers + 2 * length rest.now ≤ room.old.answer_room }
-    ensures ok { IfOk result (λ end. HasMoved word number rest.now end room.old room.new) }
-    ensures err { IfErr result (λ cause. IsAnswerOfRun (after room.old.answers (run_lines
-        (state_in word room.old.registers) number (pieces rest.now))) (Err cause) room.new) }
+    ensures ok { IfOk result (λ end. (word : WordName) → room.old.word ≡ Some word
+        → HasMoved word number rest.now end room.old room.new) }
+    ensures err { IfErr result (λ cause. (word : WordName) → room.old.word ≡ Some word
+        → IsAnswerOfRun (after room.old.answers (run_lines (state_in word room.old.registers) number
+        (pieces rest.now))) (Err cause) room.new) }
     ensures kept { KeepsRoom room.old room.new }
 {
     let end = piece_end(rest);
@@ -122,7 +125,7 @@ fn answer_lines_as<T: Word>(word: WordName, lines: &[u8], room: &mut Room) -> Re
     while at < lines.len() {
         (at, number) = answer_quick_lines::<T>(word, lines, at, number, room);
         if at < lines.len() {
-            match answer_line(word, &lines[at..], number, room) {
+            match answer_line(&lines[at..], number, room) {
                 Ok(end) => at += end,
                 Err(cause) => return Err(cause),
             }

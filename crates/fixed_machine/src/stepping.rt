@@ -7,6 +7,7 @@ ghost use Rattle.fixed_script.specs.Text.{may_round as rounds};
 ghost use Rattle.fixed_word.specs.Format.{highest, lowest, with_sign};
 ghost use Rattle.fixed_script.specs.Offered.{is_offered as offered};
 ghost use Rattle.fixed_machine.specs.Machine.{cell_at as cell_in, destination as destination_of, is_unoffered as unoffered, is_out_of_range as out_of_range, is_mismatched as mismatched, stored, integer};
+ghost use Rattle.fixed_text.specs.declared.names.WordName.{WordName};
 ghost use Rattle.fixed_text.specs.Words.{is_signed as signed, width};
 ghost use Rattle.fixed_machine.specs.inside.Stepping.{IsAnswerOfLine, IsApplied, HoldsOperands, script_line_of, values_of, is_value};
 ghost use Rattle.fixed_machine.specs.Step.{IsCell, IsStepOfLine, cell_of, cells_of, state_in};
@@ -159,8 +160,9 @@ fn fraction_at(registers: &[Register], index: u128) -> u32
 }
 
 #[tactic(auto, unfolding(crate::specs::Machine::is_mismatched))]
-fn is_mismatched(word: WordName, registers: &[Register], line: &Line) -> bool
-    ensures { result ≡ mismatched (state_in word (cells_of registers.now)) (script_line_of line.now) }
+fn is_mismatched(registers: &[Register], line: &Line) -> bool
+    ensures { (word : WordName) → result
+        ≡ mismatched (state_in word (cells_of registers.now)) (script_line_of line.now) }
 {
     match line {
         Line::Set { .. } => false,
@@ -194,10 +196,11 @@ fn integer_of(literal: Literal) -> Register
     }
 }
 
-/// Returns the operands of a line.
+/// Returns the operands of a line. Precondition: its literal is a value of some word.
 #[inline(always)]
-fn taken_by(word: WordName, registers: &[Register], line: &Line) -> OperandRegisters
-    requires { out_of_range (state_in word (cells_of registers.now)) (script_line_of line.now) ≡ false }
+fn taken_by(registers: &[Register], line: &Line) -> OperandRegisters
+    requires { (word : WordName) × (out_of_range
+        (state_in word (cells_of registers.now)) (script_line_of line.now) ≡ false) }
     ensures { HoldsOperands (cells_of registers.now) (script_line_of line.now) result }
 {
     let empty = Register {
@@ -262,7 +265,7 @@ fn answer_of_operation(
     requires cells { All (IsCell word) (cells_of registers.now) }
     ensures { IsAnswerOfLine (state_in word (cells_of registers.now)) (script_line_of line.now) number result }
 {
-    let taken = taken_by(word, registers, line);
+    let taken = taken_by(registers, line);
     answer_in_word(word, policy, op, rounding, &taken, number)
 }
 
@@ -326,7 +329,7 @@ fn answer_or_cause(
     if is_out_of_range(word, registers, line) {
         return Err(Cause::OutOfRange(number));
     }
-    if is_mismatched(word, registers, line) {
+    if is_mismatched(registers, line) {
         return Err(Cause::FractionMismatch(number));
     }
     answer_past_tests(word, registers, line, number)

@@ -13,3 +13,6 @@ returns-in-Some g c =
     let found = c.in-Some.ensures in
     let row : row_by c.args.rounding c.args.op (values_of c.args.taken.now) ≡ Some found.0 = cc (found.1) in
     subst (λ (o : Option ℤ). IsAnswerOfRow g.T.RawWord.SIGNED g.T.Valued.BITS c.args.policy c.args.op o c.args.number c.answered.result) (sym row) (c.answered.ensures found.0 c.args.op found.2)
+
+pub outcome_by-requires-clause-offered : goal.outcome_by-requires-clause-offered
+outcome_by-requires-clause-offered g c = (c.args.policy, c.requires.offered)

@@ -10,37 +10,37 @@ use Rattle.fixed_machine.proofs.script_run.answer_line.Goals as goal
 
 pub push-requires : goal.push-requires
 push-requires c =
-    let s = state_in c.args.word c.args.room.now.registers in
-    let tells = rw c.requires.word at c.in-Ok.ensures.tells in
+    let s = state_in c.requires.word.0 c.args.room.now.registers in
+    let tells = rw c.requires.word.1 at c.in-Ok.ensures.tells in
     let short = move_short s c.args.number (take c.piece_end-end.result c.args.rest.now) c.in-Ok.answer c.step_piece.new.self.registers tells in
     omega (arith, short, length-take c.piece_end-end.result c.args.rest.now, ap length c.in-Ok.ensures.kept.same_answers, c.in-Ok.ensures.kept.same_answer_room, c.requires.space, c.piece_end-end.ensures.within)
 
 pub returns-in-Ok-clause-ok : goal.returns-in-Ok-clause-ok
-returns-in-Ok-clause-ok c =
+returns-in-Ok-clause-ok c = λ word is.
     let room = c.args.room.now in
     let end = c.piece_end-end.result in
     let rest = c.args.rest.now in
-    let s = state_in c.args.word room.registers in
+    let s = state_in word room.registers in
     let text = answer_text c.in-Ok.answer in
-    let tells = rw c.requires.word at c.in-Ok.ensures.tells in
+    let tells = rw is at c.in-Ok.ensures.tells in
     let short = move_short s c.args.number (take end rest) c.in-Ok.answer c.step_piece.new.self.registers tells in
-    let moves = run_moves room.answers c.args.word room.registers c.step_piece.new.self.registers c.args.number rest (take end rest) (drop end rest) c.in-Ok.answer c.piece_end-end.ensures.cut tells in
+    let moves = run_moves room.answers word room.registers c.step_piece.new.self.registers c.args.number rest (take end rest) (drop end rest) c.in-Ok.answer c.piece_end-end.ensures.cut tells in
     let answers : c.push.new.self.answers ≡ room.answers ++ text = c.push.ensures.answers ∙ ap (λ (a : List ℕ). a ++ text) c.in-Ok.ensures.kept.same_answers in
     record {
       some = c.piece_end-end.ensures.some;
       within = c.piece_end-end.ensures.within;
-      run = sym (moves ∙ (λ i. after (sym answers i) (run_lines (state_in c.args.word (sym c.push.ensures.registers i)) (c.args.number + 1) (pieces (drop end rest)))));
-      its_word = c.push.ensures.word ∙ c.in-Ok.ensures.kept.same_word ∙ c.requires.word;
+      run = sym (moves ∙ (λ i. after (sym answers i) (run_lines (state_in word (sym c.push.ensures.registers i)) (c.args.number + 1) (pieces (drop end rest)))));
+      its_word = c.push.ensures.word ∙ c.in-Ok.ensures.kept.same_word ∙ is;
       space = omega (arith, ap length answers, length-append room.answers text, short, length-take end rest, length-drop end rest, c.push.ensures.kept.same_answer_room, c.in-Ok.ensures.kept.same_answer_room, c.requires.space);
     }
 
 pub returns-in-Err-clause-err : goal.returns-in-Err-clause-err
-returns-in-Err-clause-err c =
+returns-in-Err-clause-err c = λ word is.
     let room = c.args.room.now in
     let end = c.piece_end-end.result in
     let rest = c.args.rest.now in
-    let s = state_in c.args.word room.registers in
-    let tells = rw c.requires.word at c.in-Err.ensures.tells in
+    let s = state_in word room.registers in
+    let tells = rw is at c.in-Err.ensures.tells in
     told_fault _ s c.args.number (take end rest) room.answers c.in-Err.cause c.step_piece.new.self
     (run_fault room.answers s c.args.number rest (take end rest) (pieces (drop end rest)) c.in-Err.cause c.step_piece.new.self.registers c.piece_end-end.ensures.cut tells)
-    c.in-Err.ensures.kept.same_answers (c.in-Err.ensures.kept.same_word ∙ c.requires.word) tells
+    c.in-Err.ensures.kept.same_answers (c.in-Err.ensures.kept.same_word ∙ is) tells

@@ -31,7 +31,7 @@ pub answer_quick_lines-requires-clause-space : goal.answer_quick_lines-requires-
 answer_quick_lines-requires-clause-space g c = c.loop-at.invariant.space
 
 pub answer_line-requires-clause-word : goal.answer_line-requires-clause-word
-answer_line-requires-clause-word g c = c.answer_quick_lines.ensures.moved.its_word
+answer_line-requires-clause-word g c = (c.args.word, c.answer_quick_lines.ensures.moved.its_word)
 
 pub answer_line-requires-clause-space : goal.answer_line-requires-clause-space
 answer_line-requires-clause-space g c = simp take_rest c.answer_quick_lines.ensures.moved.space
@@ -56,7 +56,7 @@ loop-at-preserved-then-at-lines g c =
     let quick = c.answer_quick_lines.new.room in
     let new = c.answer_line.new.room in
     let before = c.answer_quick_lines.ensures.moved in
-    let moved : HasMoved c.args.word number (drop at lines) c.in-Ok.end quick new = simp take_rest at c.in-Ok.ensures.ok in
+    let moved : HasMoved c.args.word number (drop at lines) c.in-Ok.end quick new = simp take_rest at (c.in-Ok.ensures.ok c.args.word before.its_word) in
     record {
       within = omega (arith, moved.within, before.within, length-drop at lines);
       word = moved.its_word;

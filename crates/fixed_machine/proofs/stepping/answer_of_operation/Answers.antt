@@ -15,3 +15,6 @@ returns c =
     let s = state_in c.args.word (cells_of c.args.registers.now) in
     let t : PassesTests s (script_line_of c.args.line.now) = record { offered = c.requires.offered; in_range = c.requires.in_range; one_fraction = c.requires.one_fraction } in
     applied_tells s (script_line_of c.args.line.now) c.args.policy c.args.op c.args.rounding c.taken_by-taken.result c.args.number c.answer_in_word.result c.requires.is t c.taken_by-taken.ensures c.answer_in_word.ensures
+
+pub taken_by-taken-requires : goal.taken_by-taken-requires
+taken_by-taken-requires c = (c.args.word, c.requires.in_range)
