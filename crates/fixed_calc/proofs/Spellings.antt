@@ -1,5 +1,5 @@
 -- A script that is spelled out: how it is written, and that it means the same.
-use Rattle.std.specs.Option.{option_and_then, option_or}
+use Rattle.std.specs.Option.{option_and_then, option_map_or, option_or}
 use Rattle.std.proofs.Common.{◌≡◌, ◌+◌, ◌-◌, ℕ, Bool, true, false, not, ◌||◌, nat_le, List, [], ◌∷◌, ◌++◌, length, take, length-append, Option, Some, None, if◌then◌else◌, refl, sym, ap, ◌∙◌, arith, append_assoc}
 use Rattle.std.specs.List.{join_with_byte, list_any}
 use Rattle.std.proofs.lemmas.List.{append-nil}
@@ -8,7 +8,7 @@ use Rattle.std.proofs.Math.Seq.{take-append_seam}
 use Rattle.fixed_word.specs.declared.rounding.Rounding.{Rounding}
 use Rattle.fixed_word.specs.declared.rounding.Rounding.TheVariants.{Down}
 use Rattle.fixed_word.specs.Pieces.{pieces, body}
-use Rattle.std.specs.Prelude.{unwrap_or}
+use Rattle.std.specs.Prelude.{drop, slice_index_or, unwrap_or}
 use Rattle.fixed_script.specs.declared.names.Policy.{Policy}
 use Rattle.fixed_script.specs.declared.names.Op.{Op}
 use Rattle.fixed_script.specs.declared.names.Op.TheVariants.{Neg, Add, Sub, Mul, Div, Recip, MulAdd, AddProd, MulInt, DivInt, DivEuclid, DivEuclidInt, RemEuclidInt, NextMultipleOf, Dist, Sqrt, Abs, Signum, Rem, RemInt, RemEuclid, NextPowerOfTwo}
@@ -26,13 +26,15 @@ use Rattle.fixed_machine.specs.Machine.{State, OperandValues, operand_values, ro
 use Rattle.fixed_text.specs.Words.{is_signed, width}
 use Rattle.fixed_machine.specs.Rows.{exact}
 use Rattle.fixed_machine.specs.Projection.{project}
-use Rattle.fixed_text.specs.Runs.{lines_from, meaning_of, run_then}
+use Rattle.fixed_text.specs.Runs.{Run, Meaning, Output, Fault, lines_from, meaning_of, run_then}
+use Rattle.fixed_text.specs.inside.Ends.{after}
+use Rattle.fixed_text.proofs.Turns.{cause_turn, nothing_left, turn}
 use Rattle.fixed_machine.specs.Meaning.{step_by, started, script_run}
 use Rattle.fixed_machine.specs.inside.Lines.{by_cause, run_lines}
 use Rattle.fixed_machine.proofs.Runs.{run_pieces}
 use Rattle.fixed_machine.specs.declared.cause.Cause.TheVariants.{Syntax, OutOfRange, FractionMismatch}
-use Rattle.fixed_calc.specs.Spelled.{spelled_line, Spelling, Written, NoForm, in_front, spell_then, spelled_lines, spelled_from, spelled_pieces, spelled, KeepsMeaning}
-use Rattle.fixed_calc.specs.inside.Spelling.{added_to, with_end}
+use Rattle.fixed_calc.specs.Spelled.{spelled_line, spelled_piece, spelled_at, spelled_run, spelled, KeepsMeaning}
+use Rattle.fixed_calc.specs.inside.Spelling.{added_to, spelled_lines, with_end}
 use Rattle.fixed_machine.specs.inside.Stepping.{script_line_of, is_value}
 use Rattle.fixed_calc.proofs.Before.{join_last}
 use Rattle.fixed_text.proofs.Ended.{pieces_ended}
@@ -114,32 +116,32 @@ pub piece_written : (p : List ℕ) (l : ScriptLine) → line_of_piece p ≡ Some
 piece_written p l e = ap (with_end (added_to l)) (line_piece p l e) ∙ line_written l
 
 -- ---- one line, and then the rest
-in_front_twice : (xs ys : List ℕ) (s : Spelling) → in_front xs (in_front ys s) ≡ in_front (xs ++ ys) s
-in_front_twice xs ys (Written zs) = ap Written (sym (append_assoc xs ys zs))
-in_front_twice xs ys (NoForm k) = refl
-
-spelled_step : (k : ℕ) (rest p left : List ℕ) → pieces rest ≡ p ∷ pieces left → spelled_lines k (pieces rest) ≡ spell_then k (line_of_piece p) (spelled_lines (k + 1) (pieces left))
-unfolding spelled_lines
-spelled_step k rest p left cut = ap (spelled_lines k) cut
+line_spelled : (k : ℕ) (p : List ℕ) (o : Option ScriptLine) → line_of_piece p ≡ o → spelled_at tt k p ≡ spelled_piece (λ l. line_text (spelled_line l)) k o
+line_spelled k p o is = ap (spelled_piece (λ l. line_text (spelled_line l)) k) is
 
 pub spelling_moves : (old new : List ℕ) (k : ℕ) (rest p left : List ℕ) (l : ScriptLine) → pieces rest ≡ p ∷ pieces left → line_of_piece p ≡ Some l → new ≡ old ++ ended (line_text (spelled_line l))
-    → in_front new (spelled_lines (k + 1) (pieces left)) ≡ in_front old (spelled_lines k (pieces rest))
+    → after new (spelled_lines (k + 1) (pieces left)) ≡ after old (spelled_lines k (pieces rest))
 spelling_moves old new k rest p left l cut is written =
-    let more = spelled_lines (k + 1) (pieces left) in
-    ap (λ bs. in_front bs more) written ∙ sym (in_front_twice old (ended (line_text (spelled_line l))) more)
-    ∙ ap (in_front old) (sym (spelled_step k rest p left cut ∙ ap (λ o. spell_then k o more) is))
+    ap (λ bs. after bs (spelled_lines (k + 1) (pieces left))) written ∙ sym (turn spelled_at old (ended (line_text (spelled_line l))) tt tt k rest p left cut (line_spelled k p (Some l) is))
 
-pub spelling_stops : (old : List ℕ) (k : ℕ) (rest p left : List ℕ) → pieces rest ≡ p ∷ pieces left → line_of_piece p ≡ None → in_front old (spelled_lines k (pieces rest)) ≡ NoForm k
-spelling_stops old k rest p left cut is = ap (in_front old) (spelled_step k rest p left cut ∙ ap (λ o. spell_then k o (spelled_lines (k + 1) (pieces left))) is)
+pub spelling_stops : (old : List ℕ) (k : ℕ) (rest p left : List ℕ) → pieces rest ≡ p ∷ pieces left → line_of_piece p ≡ None → meaning_of (after old (spelled_lines k (pieces rest))) ≡ Fault k
+spelling_stops old k rest p left cut is = ap meaning_of (cause_turn spelled_at old tt k rest p (pieces left) k cut (line_spelled k p None is))
 
-pub spelling_ends : (written : List ℕ) (k : ℕ) → in_front written (spelled_lines k (pieces [])) ≡ Written written
-unfolding spelled_lines
-spelling_ends written k = ap Written (append-nil written)
+pub spelling_ends : (written : List ℕ) (k : ℕ) → meaning_of (after written (spelled_lines k (pieces []))) ≡ Output written
+spelling_ends written k = ap meaning_of (nothing_left spelled_at written tt k)
 
-pub script_spelled : (script p left before bytes : List ℕ) (h : ScriptHeader) → pieces script ≡ p ∷ pieces left → header_of_piece p ≡ Some h → before ≡ p → in_front before (spelled_lines 2 (pieces left)) ≡ Written bytes → spelled script ≡ Written bytes
-script_spelled script p left before bytes h cut is same e =
-    ap spelled_pieces cut ∙ ap (λ o. spelled_from o (pieces left)) is
-    ∙ ap (λ t. in_front t (spelled_lines 2 (pieces left))) (sym (header_piece p h is) ∙ sym same) ∙ e
+abbrev spelled_pieces : List (List ℕ) → Run (Unit {0}) ℕ
+spelled_pieces ps = run_then None (spelled_piece header_text 1 (header_of_piece (slice_index_or ps 0 []))) (λ s. lines_from spelled_at s 2 (drop 1 ps))
+
+pub script_spelled : (script p left before : List ℕ) (h : ScriptHeader) → pieces script ≡ p ∷ pieces left → header_of_piece p ≡ Some h → before ≡ p → spelled script ≡ meaning_of (after before (spelled_lines 2 (pieces left)))
+script_spelled script p left before h cut is same =
+    ap (λ ps. meaning_of (spelled_pieces ps)) cut
+    ∙ ap (λ o. meaning_of (run_then None (spelled_piece header_text 1 o) (λ s. lines_from spelled_at s 2 (pieces left)))) is
+    ∙ ap (λ t. meaning_of (after t (spelled_lines 2 (pieces left)))) (sym (header_piece p h is) ∙ sym same)
+
+pub nothing_spelled : (script : List ℕ) → script ≡ [] → spelled script ≡ Fault 1
+unfolding header_of_piece
+nothing_spelled script is = rw is refl
 
 -- ---- a line means the same with its default
 named_default : (own : Option Rounding) → option_or own own ≡ option_or None own
@@ -228,44 +230,51 @@ piece_line p l e = front_line (body p) l e
 ended_pieces : (t more : List ℕ) → pieces (t ++ (10 ∷ more)) ≡ ended t ∷ pieces more → pieces (ended t ++ more) ≡ ended t ∷ pieces more
 ended_pieces t more e = ap pieces (append_assoc t (10 ∷ []) more) ∙ e
 
-written_same : (xs ys : List ℕ) → Written xs ≡ Written ys → xs ≡ ys
-written_same xs ys e = cc
-
 abbrev KeepsLines : ℕ → List (List ℕ) → Type 0
-KeepsLines k ps = (s : State) (bytes : List ℕ) → spelled_lines k ps ≡ Written bytes → run_lines s k (pieces bytes) ≡ run_lines s k ps
+KeepsLines k ps = (s : State) → (spelled_lines k ps).cause ≡ None → run_lines s k (pieces (spelled_lines k ps).output) ≡ run_lines s k ps
 
-piece_kept : (s : State) (k : ℕ) (p : List ℕ) (ps : List (List ℕ)) (bytes : List ℕ) (o : Option ScriptLine) (rest : Spelling) → line_of_piece p ≡ o → spelled_lines (k + 1) ps ≡ rest → KeepsLines (k + 1) ps
-    → spell_then k o rest ≡ Written bytes → run_lines s k (pieces bytes) ≡ run_then (Some s) (step_by row_by s k o) (λ t. run_lines t (k + 1) ps)
+abbrev line_and_lines : ℕ → Option ScriptLine → List (List ℕ) → Run (Unit {0}) ℕ
+line_and_lines k o ps = run_then (Some tt) (spelled_piece (λ l. line_text (spelled_line l)) k o) (λ u. lines_from spelled_at u (k + 1) ps)
+
+piece_kept : (s : State) (k : ℕ) (p : List ℕ) (ps : List (List ℕ)) (o : Option ScriptLine) → line_of_piece p ≡ o → KeepsLines (k + 1) ps
+    → (line_and_lines k o ps).cause ≡ None → run_lines s k (pieces (line_and_lines k o ps).output) ≡ run_then (Some s) (step_by row_by s k o) (λ t. run_lines t (k + 1) ps)
 unfolding lines_from
-piece_kept s k p ps bytes None rest is later keeps e = cc
-piece_kept s k p ps bytes (Some l) (NoForm j) is later keeps e = cc
-piece_kept s k p ps bytes (Some l) (Written more) is later keeps e =
+piece_kept s k p ps None is keeps e = cc
+piece_kept s k p ps (Some l) is keeps e =
     let t = line_text (spelled_line l) in
-    let written = written_same (ended t ++ more) bytes e in
+    let more = (spelled_lines (k + 1) ps).output in
     let cut = ended_pieces t more (pieces_ended t more (line_lacks (spelled_line l))) in
-    ap (λ bs. run_lines s k (pieces bs)) (sym written) ∙ ap (run_lines s k) cut
+    ap (run_lines s k) cut
     ∙ ap (λ o. run_then (Some s) (step_by row_by s k o) (λ u. run_lines u (k + 1) (pieces more))) (line_read (spelled_line l) (still_line l (piece_line p l is)))
-    ∙ (λ i. run_then (Some s) (step_spelled s k l i) (λ u. keeps u more later i))
+    ∙ (λ i. run_then (Some s) (step_spelled s k l i) (λ u. keeps u e i))
 
 lines_kept : (ps : List (List ℕ)) (k : ℕ) → KeepsLines k ps
-unfolding lines_from spelled_lines
-lines_kept [] k s bytes e = ap (λ bs. run_lines s k (pieces bs)) (sym (written_same [] bytes e))
-lines_kept (p ∷ ps) k s bytes e = piece_kept s k p ps bytes (line_of_piece p) (spelled_lines (k + 1) ps) refl refl (lines_kept ps (k + 1)) e
+unfolding lines_from
+lines_kept [] k s e = refl
+lines_kept (p ∷ ps) k s e = piece_kept s k p ps (line_of_piece p) refl (lines_kept ps (k + 1)) e
 
-header_kept : (o : Option ScriptHeader) (ps : List (List ℕ)) (bytes : List ℕ) (rest : Spelling) → spelled_lines 2 ps ≡ rest → (spelled_from o ps ≡ Written bytes) → run_pieces (pieces bytes) ≡ run_then None (started o) (λ s. run_lines s 2 ps)
-header_kept None ps bytes rest later e = cc
-header_kept (Some h) ps bytes (NoForm k) later e = let f : in_front (ended (header_text h)) (NoForm k) ≡ Written bytes = ap (in_front (ended (header_text h))) (sym later) ∙ e in cc
-header_kept (Some h) ps bytes (Written more) later e =
-    let f : in_front (ended (header_text h)) (Written more) ≡ Written bytes = ap (in_front (ended (header_text h))) (sym later) ∙ e in
-    let written = written_same (ended (header_text h) ++ more) bytes f in
+abbrev header_and_lines : Option ScriptHeader → List (List ℕ) → Run (Unit {0}) ℕ
+header_and_lines o ps = run_then None (spelled_piece header_text 1 o) (λ u. lines_from spelled_at u 2 ps)
+
+header_kept : (o : Option ScriptHeader) (ps : List (List ℕ)) → (header_and_lines o ps).cause ≡ None → run_pieces (pieces (header_and_lines o ps).output) ≡ run_then None (started o) (λ s. run_lines s 2 ps)
+header_kept None ps e = cc
+header_kept (Some h) ps e =
+    let more = (spelled_lines 2 ps).output in
     let cut = ended_pieces (header_text h) more (script_pieces h more) in
-    ap (λ bs. run_pieces (pieces bs)) (sym written) ∙ ap run_pieces cut ∙ ap (λ o. run_then None (started o) (λ s. run_lines s 2 (pieces more))) (header_read h)
-    ∙ (λ i. run_then None (started (Some h)) (λ s. lines_kept ps 2 s more later i))
+    ap run_pieces cut ∙ ap (λ o. run_then None (started o) (λ s. run_lines s 2 (pieces more))) (header_read h)
+    ∙ (λ i. run_then None (started (Some h)) (λ s. lines_kept ps 2 s e i))
 
-pieces_kept : (ps : List (List ℕ)) (bytes : List ℕ) → spelled_pieces ps ≡ Written bytes → run_pieces (pieces bytes) ≡ run_pieces ps
-pieces_kept [] bytes e = cc
-pieces_kept (p ∷ ps) bytes e = header_kept (header_of_piece p) ps bytes (spelled_lines 2 ps) refl e
+abbrev bytes_of : Meaning ℕ → List ℕ
+bytes_of (Output bytes) = bytes
+bytes_of (Fault k) = []
+
+output_of : (run : Run (Unit {0}) ℕ) (bytes : List ℕ) (o : Option ℕ) → run.cause ≡ o → option_map_or Fault o (Output run.output) ≡ Output bytes → (run.cause ≡ None) × (run.output ≡ bytes)
+output_of run bytes None is e = (is, ap bytes_of e)
+output_of run bytes (Some k) is e = cc
 
 pub keeps_meaning : KeepsMeaning
 unfolding script_run
-keeps_meaning script bytes e = ap meaning_of (pieces_kept (pieces script) bytes e)
+keeps_meaning script bytes e =
+    let facts = output_of (spelled_run script) bytes (spelled_run script).cause refl e in
+    ap (λ bs. meaning_of (run_pieces (pieces bs))) (sym facts.1)
+    ∙ ap meaning_of (header_kept (header_of_piece (slice_index_or (pieces script) 0 [])) (drop 1 (pieces script)) facts.0)

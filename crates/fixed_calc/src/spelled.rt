@@ -2,9 +2,10 @@
 
 ghost use Rattle.std.specs.Prelude.{◌≡◌, ◌<◌, ◌∷◌, ◌++◌, [], length, IfErr, IfOk, OnOk};
 ghost use Rattle.fixed_word.specs.Pieces.{pieces};
+ghost use Rattle.fixed_text.specs.inside.Ends.{after};
 ghost use Rattle.fixed_script.specs.Names.{rounding_name};
-ghost use Rattle.fixed_calc.specs.Spelled.{IsAnswerOfSpelling, in_front, spelled, spelled_lines};
-ghost use Rattle.fixed_calc.specs.inside.Spelling.{SpellsAll, HasSpelled, StopsSpelling, added_to, with_end};
+ghost use Rattle.fixed_calc.specs.Spelled.{IsAnswerOfSpelling, spelled};
+ghost use Rattle.fixed_calc.specs.inside.Spelling.{SpellsAll, HasSpelled, StopsSpelling, added_to, spelled_lines, with_end};
 ghost use Rattle.fixed_machine.specs.inside.Stepping.{script_line_of};
 
 use crate::demo::Script;
@@ -71,7 +72,7 @@ fn spell_line(script: &mut Vec<u8>, rest: &[u8], number: u64) -> Result<usize, E
     requires { 0 < length rest.now }
     ensures ok { IfOk result (λ end. HasSpelled number rest.now end script.old.items script.new.items) }
     ensures err { IfErr result (λ fault. StopsSpelling
-        (in_front script.old.items (spelled_lines number (pieces rest.now))) fault) }
+        (after script.old.items (spelled_lines number (pieces rest.now))) fault) }
 {
     let end = piece_end(rest);
     let Some(line) = line_of_piece(&rest[..end]) else {
@@ -85,7 +86,7 @@ fn spell_line(script: &mut Vec<u8>, rest: &[u8], number: u64) -> Result<usize, E
 
 /// Adds the lines after the header, spelled out.
 fn spell_lines(script: &mut Vec<u8>, lines: &[u8]) -> Result<(), ExplicitFault>
-    ensures { SpellsAll (in_front script.old.items (spelled_lines 2 (pieces lines.now)))
+    ensures { SpellsAll (after script.old.items (spelled_lines 2 (pieces lines.now)))
         result script.new.items }
 {
     let mut at = 0;
