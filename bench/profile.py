@@ -21,7 +21,7 @@ PHASES = [
     ("the register's store", ["stepping::store"]),
     ("tests of the line", ["::is_", "may_round", "second_of", "fraction_at"]),
     ("operands and dispatch", ["projected::", "stepping::", "quick_step::", "register::", "piece::"]),
-    ("the loop", ["script_run::", "room::"]),
+    ("the loop", ["room_run::", "room::"]),
 ]
 
 

@@ -15,11 +15,11 @@ mod quick_names;
 mod quick_step;
 mod register;
 mod room;
+mod room_run;
 mod rows;
-mod script_run;
 mod stepping;
 
 pub use answer::Answer;
 pub use cause::{Cause, ScriptFault};
 pub use room::{Answers, Room, step};
-pub use script_run::{run, run_in};
+pub use room_run::{run, run_in};

@@ -7,7 +7,7 @@ use Rattle.fixed_machine.specs.inside.Moves.{HasMoved}
 use Rattle.fixed_machine.proofs.Moves.{kept_twice, run_past, space_past}
 use Rattle.fixed_machine.specs.Step.{state_in}
 use Rattle.fixed_machine.proofs.Runs.{run_ends, told_end}
-use Rattle.fixed_machine.proofs.script_run.answer_lines_as.Goals as goal
+use Rattle.fixed_machine.proofs.room_run.answer_lines_as.Goals as goal
 
 pub loop-at-init : goal.loop-at-init
 loop-at-init g c = record { within = omega arith; word = c.requires.word; run = refl; space = c.requires.space; kept = record { same_register_room = refl; same_answer_room = refl }; count = omega arith }

@@ -8,7 +8,7 @@ use Rattle.fixed_machine.specs.Meaning.{fractions_of, has_wide, zeros}
 use Rattle.fixed_machine.specs.Rooms.{spaces_of}
 use Rattle.fixed_machine.proofs.Short.{header_room}
 use Rattle.fixed_machine.proofs.Runs.{run_of_wide, run_of_lines, told_none, told_started, caps_wide, caps_narrow}
-use Rattle.fixed_machine.proofs.script_run.run_from.Goals as goal
+use Rattle.fixed_machine.proofs.room_run.run_from.Goals as goal
 
 pub declare-requires : goal.declare-requires
 declare-requires c =

@@ -1,7 +1,7 @@
 use Rattle.std.proofs.Common.{◌≤◌, length, ◌-◌}
 use Rattle.fixed_machine.specs.inside.Moves.{HaveMoved}
 use Rattle.fixed_machine.specs.Rooms.{KeepsRoom}
-use Rattle.fixed_machine.proofs.script_run.answer_quick_lines.Given as goal
+use Rattle.fixed_machine.proofs.room_run.answer_quick_lines.Given as goal
 
 -- the lines up to here have moved
 abbrev pub invariant-loop-at : goal.invariant-loop-at

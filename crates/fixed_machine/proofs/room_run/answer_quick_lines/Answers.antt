@@ -3,7 +3,7 @@ use Rattle.std.proofs.lemmas.List.{take_rest}
 use Rattle.fixed_machine.specs.Rooms.{Space}
 use Rattle.fixed_machine.specs.inside.Moves.{HasMoved, HaveMoved}
 use Rattle.fixed_machine.proofs.Moves.{kept_twice, moved_on}
-use Rattle.fixed_machine.proofs.script_run.answer_quick_lines.Goals as goal
+use Rattle.fixed_machine.proofs.room_run.answer_quick_lines.Goals as goal
 
 pub answer_quick_line-requires-clause-signed : goal.answer_quick_line-requires-clause-signed
 answer_quick_line-requires-clause-signed g c = c.requires.signed

@@ -7,7 +7,7 @@ use Rattle.fixed_text.specs.inside.Ends.{after}
 use Rattle.fixed_machine.specs.inside.Lines.{run_lines}
 use Rattle.fixed_machine.specs.Step.{IsStepOfLine, state_in}
 use Rattle.fixed_machine.proofs.Runs.{run_moves, move_short}
-use Rattle.fixed_machine.proofs.script_run.answer_quick_line.Goals as goal
+use Rattle.fixed_machine.proofs.room_run.answer_quick_line.Goals as goal
 
 pub push-requires : goal.push-requires
 push-requires g c =

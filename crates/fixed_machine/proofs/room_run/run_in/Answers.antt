@@ -1,5 +1,5 @@
 use Rattle.fixed_machine.proofs.Runs.{told_none}
-use Rattle.fixed_machine.proofs.script_run.run_in.Goals as goal
+use Rattle.fixed_machine.proofs.room_run.run_in.Goals as goal
 
 pub returns-in-None-clause-tells : goal.returns-in-None-clause-tells
 returns-in-None-clause-tells c =

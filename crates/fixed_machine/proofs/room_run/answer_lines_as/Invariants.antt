@@ -4,7 +4,7 @@ use Rattle.fixed_text.specs.inside.Ends.{after}
 use Rattle.fixed_machine.specs.inside.Lines.{run_lines}
 use Rattle.fixed_machine.specs.Step.{state_in}
 use Rattle.fixed_machine.specs.Rooms.{KeepsRoom}
-use Rattle.fixed_machine.proofs.script_run.answer_lines_as.Given as goal
+use Rattle.fixed_machine.proofs.room_run.answer_lines_as.Given as goal
 
 -- the run from here, after the answers so far, is the run of all
 abbrev pub invariant-loop-at : goal.invariant-loop-at

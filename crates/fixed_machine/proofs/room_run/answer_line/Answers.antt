@@ -6,7 +6,7 @@ use Rattle.fixed_text.specs.inside.Ends.{after}
 use Rattle.fixed_machine.specs.inside.Lines.{run_lines}
 use Rattle.fixed_machine.specs.Step.{state_in}
 use Rattle.fixed_machine.proofs.Runs.{run_fault, run_moves, told_fault, move_short}
-use Rattle.fixed_machine.proofs.script_run.answer_line.Goals as goal
+use Rattle.fixed_machine.proofs.room_run.answer_line.Goals as goal
 
 pub push-requires : goal.push-requires
 push-requires c =
