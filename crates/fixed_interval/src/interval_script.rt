@@ -116,9 +116,20 @@ fn made_of<T: Word>(
     }
 }
 
+/// Returns the interval of two given ends.
+fn stated<T: Word>(low: &Decimal, high: &Decimal) -> Option<Interval<T>>
+    ensures { (l h : ℤ) → low.now ≡ decimal_of l → high.now ≡ decimal_of h
+        → option_map (ends_of T.value) result ≡ set_ends T.SIGNED T.BITS l h }
+{
+    let low = value_in(low)?;
+    let high = value_in(high)?;
+    Interval::new(low, high)
+}
+
 impl<T: Word> IntervalRun<T> {
     /// Returns the place of a register, or `None` if the run does not have it.
     fn place(&self, register: u128) -> Option<usize>
+        ensures word { (self.now.signed ≡ T.SIGNED) × (self.now.bits ≡ T.BITS) }
         ensures within { IfSome result (λ i. i < length self.now.registers) }
         ensures place { (n : ℕ) → register ≡ cap n
             → result ≡ (if nat_lt n (length self.now.registers) then Some n else None) }
@@ -170,17 +181,6 @@ impl<T: Word> IntervalRun<T> {
         sqrt_in(x, self.frac)
     }
 
-    /// Returns the interval of two given ends.
-    fn stated(&self, low: &Decimal, high: &Decimal) -> Option<Interval<T>>
-        ensures { (l h : ℤ) → low.now ≡ decimal_of l → high.now ≡ decimal_of h
-            → option_map (ends_of T.value) result ≡ set_ends self.now.signed self.now.bits l h }
-    {
-        let _ = &self.frac;
-        let low = value_in(low)?;
-        let high = value_in(high)?;
-        Interval::new(low, high)
-    }
-
     /// Carries out a request.
     fn follow(
         &mut self,
@@ -188,12 +188,13 @@ impl<T: Word> IntervalRun<T> {
         request: Request,
         output: &mut Output,
     ) -> Result<(), LineFault>
-        requires { dest < length self.old.registers }
+        requires word { (self.old.signed ≡ T.SIGNED) × (self.old.bits ≡ T.BITS) }
+        requires dest { dest < length self.old.registers }
         ensures { (q : IntervalRequest) → request ≡ capped_request q
             → IsStepOfLine (request_read self.old dest q) result self.new output.old output.new }
     {
         match request {
-            Request::Set(low, high) => match self.stated(&low, &high) {
+            Request::Set(low, high) => match stated(&low, &high) {
                 Some(interval) => self.answer(dest, Some(interval), output),
                 None => Err(LineFault::Unfit),
             },
