@@ -3,6 +3,8 @@
 ghost use Rattle.std.specs.Prelude.{◌≡◌, ◌≤◌, ◌<◌, ◌+◌, ◌*◌, ◌%◌, ◌^◌};
 ghost use Rattle.fixed_elementary.specs.inside.RecipParts.{IsRecipRootOf, divided};
 
+use fixed_root::root_of_double;
+
 /// The root of the quotient's first digits, the remainder of that root, and the remainder of the quotient.
 #[derive(Clone, Copy)]
 struct RootSoFar {
@@ -40,7 +42,7 @@ fn begin(a: u64, dividend: u128) -> RootSoFar
 {
     let divisor = u128::from(a);
     let quotient = dividend / divisor;
-    let root = quotient.isqrt();
+    let root = root_of_double(quotient) as u128;
     RootSoFar {
         root,
         remainder: quotient - root * root,

@@ -3,15 +3,17 @@
 ghost use Rattle.std.specs.Prelude.{◌≡◌, ◌≤◌, ◌<◌, ◌+◌, ◌*◌, ◌^◌};
 ghost use Rattle.fixed_root.specs.inside.Parts.{IsRootOf};
 
+use fixed_root::{root_of_double, root_of_word};
+
 /// Returns the root of a number, rounded down. The root of a number that fits into 64 bits is found there, which is
 /// faster.
 pub(crate) fn root_of_whole(number: u128) -> u128
     ensures { IsRootOf number result }
 {
     if number <= u64::MAX as u128 {
-        u128::from((number as u64).isqrt())
+        root_of_word(number as u64) as u128
     } else {
-        number.isqrt()
+        root_of_double(number) as u128
     }
 }
 
@@ -20,7 +22,7 @@ pub(crate) fn root_past(rest: u128) -> u128
     ensures { IsRootOf (2 ^ 128 + rest) result }
 {
     let quarter = (1 << 126) + rest / 4;
-    let half = quarter.isqrt();
+    let half = root_of_double(quarter) as u128;
     let left = 4 * (quarter - half * half) + rest % 4;
     if left > 4 * half {
         2 * half + 1

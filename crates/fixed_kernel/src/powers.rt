@@ -5,7 +5,7 @@ ghost use Rattle.fixed_word.specs.Standing.{StandsFor};
 ghost use Rattle.fixed_root.specs.Root.{root_of};
 ghost use Rattle.fixed_kernel.specs.Rows.{exact_next_power_of_two};
 
-use fixed_root::root;
+use fixed_root::scaled_root;
 use fixed_word::{Arithmetic, Digits, Outcome, RawWord, Silent, Steps, Word, outcome_of};
 
 /// Returns the root of `a 2^frac`, rounded down. Preconditions: `frac` is at most the width, and `a` is not negative.
@@ -14,9 +14,7 @@ pub fn sqrt_of<T: Word>(a: T, frac: u32) -> Outcome<T>
     requires sign { pos 0 ≤ℤ T.value a }
     ensures { StandsFor T.value T.SIGNED T.BITS (root_of (T.value a) frac) result }
 {
-    let mut steps = Steps::new(Silent::new());
-    let found = root(a.to_unsigned(), frac, &mut steps);
-    outcome_of(false, found.magnitude() as u128)
+    outcome_of(false, scaled_root(a.magnitude(), frac) as u128)
 }
 
 /// Returns 1 less than the smallest power of two that is at least `a`. Precondition: the word is unsigned.

@@ -4,3 +4,4 @@ mod Digits
 mod Turns
 mod Doubled
 pub mod RootLaws
+mod Scaled

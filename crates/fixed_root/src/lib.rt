@@ -1,11 +1,15 @@
-//! Square roots, one binary digit at a time, within a proved number of steps.
+//! Square roots.
 //!
-//! [`root`] makes only the counted calls of [`Digits`](fixed_word::Digits), and uses no word of twice the width. It
-//! does not allocate.
+//! [`root`] finds one binary digit at a time, within a proved number of steps: it makes only the counted calls of
+//! [`Digits`](fixed_word::Digits), and uses no word of twice the width. [`root_of_word`], [`root_of_double`] and
+//! [`scaled_root`] are faster, and count no steps. None of them allocates.
 #![tactic(auto)]
 
 mod by_digit;
 mod exact;
 pub mod laws;
+mod near;
+mod whole;
 
 pub use by_digit::root;
+pub use whole::{root_of_double, root_of_word, scaled_root};
