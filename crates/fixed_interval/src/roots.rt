@@ -9,8 +9,8 @@ ghost use Rattle.fixed_interval.specs.Containment.{HoldsRoots};
 
 use crate::interval::{Interval, between};
 use fixed_kernel::sqrt_of;
-use fixed_root::root;
-use fixed_word::{Outcome, RawWord, Silent, Steps, Word, outcome_of};
+use fixed_root::scaled_root;
+use fixed_word::{Outcome, RawWord, Word, outcome_of};
 
 /// Returns the interval of the square roots of the numbers in `a`, each bits over `2^frac`: from the root of the low
 /// end, rounded down, to that of the high end, rounded up. Returns `None` if the low end is below 0 or an end does not
@@ -48,9 +48,7 @@ fn floor_root<T: Word>(a: T, frac: u32) -> u128
     ensures value { root_of (T.value a) frac ≡ pos result }
     ensures small { result < 2 ^ 64 }
 {
-    let mut steps = Steps::new(Silent::new());
-    let found = root(a.to_unsigned(), frac, &mut steps);
-    found.magnitude() as u128
+    scaled_root(a.magnitude(), frac) as u128
 }
 
 /// Returns `a 2^frac`. Precondition: `a` is at least 0.

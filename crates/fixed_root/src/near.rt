@@ -51,9 +51,15 @@ pub(crate) fn near_double_root(number: u128) -> u64 {
     let below = ((number >> 35) % (1 << 29)) as u64;
     let eighth = left.wrapping_mul(1 << 29).wrapping_add(below);
     let more = (eighth as u128).wrapping_mul(reciprocal as u128) >> 62;
-    let next = root.wrapping_mul(1 << 32).saturating_add((more % (1 << 64)) as u64);
+    let next = root
+        .wrapping_mul(1 << 32)
+        .saturating_add((more % (1 << 64)) as u64);
     let square = (next as u128).wrapping_mul(next as u128);
     let left = ((number.wrapping_sub(square) >> 41) % (1 << 64)) as u64;
-    let units = left.cast_signed().wrapping_sub(1).wrapping_mul(reciprocal.cast_signed()) >> 56;
+    let units = left
+        .cast_signed()
+        .wrapping_sub(1)
+        .wrapping_mul(reciprocal.cast_signed())
+        >> 56;
     next.saturating_add_signed(units)
 }
