@@ -1,6 +1,6 @@
 //! The script of a demonstration, from a generator of numbers.
 
-ghost use Rattle.std.specs.Prelude.{◌≡◌, ◌<◌, ◌≤◌, ◌∷◌, ◌++◌, flat_map, pos, slice_index, EachIndex, IfOk, OnOk};
+ghost use Rattle.std.specs.Prelude.{◌≡◌, ◌<◌, ◌≤◌, ◌∷◌, ◌++◌, [], flat_map, pos, IfOk, OnOk};
 ghost use Rattle.fixed_word.specs.Decimal.{natural_text};
 ghost use Rattle.fixed_script.specs.Text.{SetTo, line_text, register_text};
 ghost use Rattle.fixed_calc.specs.Demo.{demo_text, drawn_line};
@@ -86,27 +86,67 @@ fn push_set(script: &mut Vec<u8>, dest: u64, number: u64) -> Result<(), AllocErr
     push_number(script, number)
 }
 
-/// Adds the start of a line: its destination, the names of its policy and operation, and its operands, each after a
-/// space. All registers have one digit. Fails if memory runs out.
-fn push_applied(
+/// Adds the start of a line: its destination, and the names of its policy and operation, each after a space. The
+/// destination has one digit, as have all registers. Fails if memory runs out.
+fn push_names(script: &mut Vec<u8>, dest: u64, names: &[u8]) -> Result<(), AllocError>
+    requires { dest < 10 }
+    ensures { OnOk result (script.new.items ≡ script.old.items ++ register_text dest ++ names.now) }
+{
+    push_register(script, dest)?;
+    script.extend_from_slice(names)
+}
+
+/// Adds a line that applies an operation to one register. Fails if memory runs out.
+#[tactic(auto, using(fixed_digits::proofs::Shown::one_digit))]
+fn push_unary(script: &mut Vec<u8>, dest: u64, names: &[u8], a: u64) -> Result<(), AllocError>
+    requires dest { dest < 10 }
+    requires a { a < 10 }
+    ensures { OnOk result (script.new.items ≡ script.old.items
+        ++ register_text dest ++ names.now ++ flat_map (λ operand. 32 ∷ register_text operand) (a ∷ [])) }
+{
+    push_names(script, dest, names)?;
+    script.extend_from_slice(&[b' ', b'r', b'0' + a as u8])
+}
+
+/// Does the same for two registers.
+#[tactic(auto, using(fixed_digits::proofs::Shown::one_digit))]
+fn push_binary(
     script: &mut Vec<u8>,
     dest: u64,
     names: &[u8],
-    operands: &[u64],
+    a: u64,
+    b: u64,
 ) -> Result<(), AllocError>
     requires dest { dest < 10 }
-    requires operands { EachIndex operands.now (λ k. slice_index operands.now k < 10) }
+    requires a { a < 10 }
+    requires b { b < 10 }
     ensures { OnOk result (script.new.items ≡ script.old.items
-        ++ register_text dest ++ names.now
-        ++ flat_map (λ operand. 32 ∷ register_text operand) operands.now) }
+        ++ register_text dest ++ names.now ++ flat_map (λ operand. 32 ∷ register_text operand) (a ∷ b ∷ [])) }
 {
-    push_register(script, dest)?;
-    script.extend_from_slice(names)?;
-    for operand in operands {
-        script.extend_from_slice(b" ")?;
-        push_register(script, *operand)?;
-    }
-    Ok(())
+    push_names(script, dest, names)?;
+    script.extend_from_slice(&[b' ', b'r', b'0' + a as u8, b' ', b'r', b'0' + b as u8])
+}
+
+/// Does the same for three registers.
+#[tactic(auto, using(fixed_digits::proofs::Shown::one_digit))]
+fn push_ternary(
+    script: &mut Vec<u8>,
+    dest: u64,
+    names: &[u8],
+    a: u64,
+    b: u64,
+    c: u64,
+) -> Result<(), AllocError>
+    requires dest { dest < 10 }
+    requires a { a < 10 }
+    requires b { b < 10 }
+    requires c { c < 10 }
+    ensures { OnOk result (script.new.items ≡ script.old.items
+        ++ register_text dest ++ names.now ++ flat_map (λ operand. 32 ∷ register_text operand) (a ∷ b ∷ c ∷ [])) }
+{
+    push_names(script, dest, names)?;
+    let (a, b, c) = (b'0' + a as u8, b'0' + b as u8, b'0' + c as u8);
+    script.extend_from_slice(&[b' ', b'r', a, b' ', b'r', b, b' ', b'r', c])
 }
 
 /// Adds the line of a draw. Fails if memory runs out.
@@ -118,13 +158,13 @@ fn push_line(script: &mut Vec<u8>, draw: u64) -> Result<(), AllocError>
     let b = draw / 64 % 8;
     match draw / 512 % 8 {
         0 => push_set(script, dest, draw),
-        1 => push_applied(script, dest, b" wrapping add", &[a, b]),
-        2 => push_applied(script, dest, b" overflowing sub", &[a, b]),
-        3 => push_applied(script, dest, b" saturating mul", &[a, b]),
-        4 => push_applied(script, dest, b" checked div", &[a, b]),
-        5 => push_applied(script, dest, b" wrapping mul_add", &[a, b, dest]),
-        6 => push_applied(script, dest, b" overflowing add_prod", &[dest, a, b]),
-        _ => push_applied(script, dest, b" checked sqrt", &[a]),
+        1 => push_binary(script, dest, b" wrapping add", a, b),
+        2 => push_binary(script, dest, b" overflowing sub", a, b),
+        3 => push_binary(script, dest, b" saturating mul", a, b),
+        4 => push_binary(script, dest, b" checked div", a, b),
+        5 => push_ternary(script, dest, b" wrapping mul_add", a, b, dest),
+        6 => push_ternary(script, dest, b" overflowing add_prod", dest, a, b),
+        _ => push_unary(script, dest, b" checked sqrt", a),
     }
 }
 

@@ -5,7 +5,9 @@ ghost use Rattle.std.specs.Vec.{vec_capacity};
 ghost use Rattle.fixed_word.specs.Decimal.{natural_text, whole_text};
 ghost use Rattle.fixed_machine.specs.Answers.{answer_text};
 ghost use Rattle.fixed_machine.specs.inside.Signed.{signed_text};
+ghost use Rattle.fixed_machine.specs.inside.Stepping.{number_in, whole_answer};
 
+use crate::register::{Signed, with_sign};
 use fixed_digits::decimal_before;
 use fixed_text::{push_all, push_whole};
 
@@ -16,6 +18,29 @@ pub enum Answer {
     Absent,
     Bits(i128),
     Flagged(i128, bool),
+}
+
+/// An answer whose number is a sign and a magnitude.
+#[derive(Clone, Copy, Debug, PartialEq, Eq)]
+pub(crate) enum SignedAnswer {
+    Absent,
+    Bits(Signed),
+    Flagged(Signed, bool),
+}
+
+impl SignedAnswer {
+    /// Returns the answer with its number in one.
+    pub(crate) fn into_answer(self) -> Answer
+        ensures { result ≡ whole_answer self }
+    {
+        match self {
+            SignedAnswer::Absent => Answer::Absent,
+            SignedAnswer::Bits(bits) => Answer::Bits(with_sign(bits.below_zero, bits.magnitude)),
+            SignedAnswer::Flagged(bits, verdict) => {
+                Answer::Flagged(with_sign(bits.below_zero, bits.magnitude), verdict)
+            }
+        }
+    }
 }
 
 /// How many bytes are written for an answer at once. Those after its text are removed again.
@@ -134,6 +159,46 @@ fn push_with(out: &mut Vec<u8>, text: &mut [u8; 56], n: i128, tail: &[u8; 8], co
     } else {
         push_whole(out, n);
         push_all(out, &tail[..count]);
+    }
+}
+
+/// Does the same for a number as sign and magnitude. Zero has no minus.
+#[inline(always)]
+fn push_signed_with(out: &mut Vec<u8>, text: &mut [u8; 56], n: Signed, tail: &[u8; 8], count: usize)
+    requires count { count ≤ 8 }
+    requires room { vec_len out.old + 32 ≤ vec_capacity out.old }
+    ensures items { out.new.items ≡ out.old.items ++ (whole_text (number_in n) ++ take count tail.now) }
+    ensures len { vec_len out.new ≡ vec_len out.old + (length (whole_text (number_in n)) + count) }
+    ensures capacity { vec_capacity out.old ≤ vec_capacity out.new }
+{
+    push_number(
+        out,
+        text,
+        n.below_zero && n.magnitude > 0,
+        n.magnitude,
+        tail,
+        count,
+    );
+}
+
+/// Adds the text of an answer whose number is a sign and a magnitude. `text` is scratch space for its number.
+#[inline(always)]
+pub(crate) fn push_signed_answer(out: &mut Vec<u8>, text: &mut [u8; 56], answer: SignedAnswer)
+    requires { vec_len out.old + length (answer_text (whole_answer answer)) + 32 ≤ vec_capacity out.old }
+    ensures items { out.new.items ≡ out.old.items ++ answer_text (whole_answer answer) }
+    ensures len { vec_len out.new ≡ vec_len out.old + length (answer_text (whole_answer answer)) }
+    ensures capacity { vec_capacity out.old ≤ vec_capacity out.new }
+{
+    match answer {
+        SignedAnswer::Absent => push_all(out, b"none\n"),
+        SignedAnswer::Bits(n) => push_signed_with(out, text, n, b"\n.......", 1),
+        SignedAnswer::Flagged(n, verdict) => {
+            if verdict {
+                push_signed_with(out, text, n, b" true\n..", 6);
+            } else {
+                push_signed_with(out, text, n, b" false\n.", 7);
+            }
+        }
     }
 }
 

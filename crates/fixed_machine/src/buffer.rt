@@ -3,8 +3,9 @@
 ghost use Rattle.std.specs.Prelude.{◌≡◌, ◌+◌, ◌++◌, ◌≤◌, [], length, IfOk};
 ghost use Rattle.fixed_machine.specs.inside.Buffers.{Buffered};
 ghost use Rattle.fixed_machine.specs.Answers.{answer_text};
+ghost use Rattle.fixed_machine.specs.inside.Stepping.{whole_answer};
 
-use crate::answer::{Answer, SPARE, push_answer};
+use crate::answer::{Answer, SPARE, SignedAnswer, push_answer, push_signed_answer};
 use std::alloc::{AllocError, Global};
 use std::marker::Model;
 
@@ -69,6 +70,18 @@ impl Buffer {
         ensures { self.new ≡ record { bytes = []; room = self.old.room } }
     {
         self.held.clear();
+    }
+
+    /// Adds the text of an answer whose number is a sign and a magnitude. Precondition: there is room for it.
+    #[inline(always)]
+    pub(crate) fn push_signed_text(&mut self, answer: SignedAnswer)
+        requires { length self.old.bytes + length (answer_text (whole_answer answer)) ≤ self.old.room }
+        ensures { self.new ≡ record {
+          bytes = self.old.bytes ++ answer_text (whole_answer answer);
+          room = self.old.room;
+        } }
+    {
+        push_signed_answer(&mut self.held, &mut self.text, answer);
     }
 
     /// Adds the text of an answer. Precondition: there is room for it.

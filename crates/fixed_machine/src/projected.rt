@@ -8,11 +8,11 @@ ghost use Rattle.fixed_script.specs.Offered.{is_offered};
 ghost use Rattle.fixed_machine.specs.Machine.{row_by};
 ghost use Rattle.fixed_text.specs.Words.{is_signed, width};
 ghost use Rattle.fixed_machine.specs.Step.{FitsFormat, IsCell, cell_of};
-ghost use Rattle.fixed_machine.specs.inside.Stepping.{IsAnswerOfRow, values_of};
+ghost use Rattle.fixed_machine.specs.inside.Stepping.{IsAnswerOfRow, in_whole, number_in, values_of};
 
-use crate::answer::Answer;
+use crate::answer::SignedAnswer;
 use crate::cause::Cause;
-use crate::register::{OperandRegisters, Register, with_sign};
+use crate::register::{OperandRegisters, Register, Signed};
 use crate::rows::{Operand, outcome_by};
 use fixed_script::{Op, Policy};
 use fixed_text::WordName;
@@ -23,14 +23,12 @@ use fixed_word::{
 
 /// Returns the number of a word.
 #[inline(always)]
-fn number_of<T: RawWord>(word: T) -> i128
-    ensures { result ≡ T.value word }
+fn number_of<T: RawWord>(word: T) -> Signed
+    ensures { number_in result ≡ T.value word }
 {
-    let magnitude = word.magnitude() as i128;
-    if word.is_below_zero() {
-        -magnitude
-    } else {
-        magnitude
+    Signed {
+        below_zero: word.is_below_zero(),
+        magnitude: word.magnitude(),
     }
 }
 
@@ -59,23 +57,27 @@ fn operand_of<T: Word>(register: Register) -> Operand<T>
 /// Returns the policy's answer for the number of an outcome, or its cause.
 #[tactic(auto, unfolding(crate::specs::Machine::row_cause))]
 #[inline(always)]
-fn answered<T: Word>(policy: Policy, outcome: Outcome<T>, number: u64) -> Result<Answer, Cause>
+fn answered<T: Word>(
+    policy: Policy,
+    outcome: Outcome<T>,
+    number: u64,
+) -> Result<SignedAnswer, Cause>
     ensures { (x : ℤ) (op : Operation) → StandsFor T.value T.SIGNED T.BITS x outcome
-        → IsAnswerOfRow T.SIGNED T.BITS policy op (Some x) number result }
+        → IsAnswerOfRow T.SIGNED T.BITS policy op (Some x) number (in_whole result) }
 {
     match policy {
         Policy::Checked => match checked_of(outcome) {
-            Some(word) => Ok(Answer::Bits(number_of(word))),
-            None => Ok(Answer::Absent),
+            Some(word) => Ok(SignedAnswer::Bits(number_of(word))),
+            None => Ok(SignedAnswer::Absent),
         },
-        Policy::Saturating => Ok(Answer::Bits(number_of(saturating_of(outcome)))),
-        Policy::Wrapping => Ok(Answer::Bits(number_of(wrapping_of(outcome)))),
+        Policy::Saturating => Ok(SignedAnswer::Bits(number_of(saturating_of(outcome)))),
+        Policy::Wrapping => Ok(SignedAnswer::Bits(number_of(wrapping_of(outcome)))),
         Policy::Overflowing => {
             let (word, verdict) = overflowing_of(outcome);
-            Ok(Answer::Flagged(number_of(word), verdict))
+            Ok(SignedAnswer::Flagged(number_of(word), verdict))
         }
         Policy::Strict => match outcome.side {
-            Side::Fits => Ok(Answer::Bits(number_of(strict_of(outcome)))),
+            Side::Fits => Ok(SignedAnswer::Bits(number_of(strict_of(outcome)))),
             Side::Above | Side::Below => Err(Cause::Overflow(number)),
         },
     }
@@ -84,12 +86,12 @@ fn answered<T: Word>(policy: Policy, outcome: Outcome<T>, number: u64) -> Result
 /// Returns the policy's answer for a row that is undefined, or its cause.
 #[tactic(auto, unfolding(crate::specs::Machine::row_cause))]
 #[inline(always)]
-fn unanswered(policy: Policy, op: Op, number: u64) -> Result<Answer, Cause>
+fn unanswered(policy: Policy, op: Op, number: u64) -> Result<SignedAnswer, Cause>
     ensures { (signed : Bool) (n : ℕ) (row : Option ℤ) → row ≡ None
-        → IsAnswerOfRow signed n policy op row number result }
+        → IsAnswerOfRow signed n policy op row number (in_whole result) }
 {
     if policy == Policy::Checked {
-        Ok(Answer::Absent)
+        Ok(SignedAnswer::Absent)
     } else if op == Op::Sqrt {
         Err(Cause::NegativeRoot(number))
     } else {
@@ -106,12 +108,13 @@ pub(crate) fn answer_as<T: Word>(
     rounding: Option<Rounding>,
     taken: &OperandRegisters,
     number: u64,
-) -> Result<Answer, Cause>
+) -> Result<SignedAnswer, Cause>
     requires offered { is_offered T.SIGNED policy op ≡ true }
     requires a { FitsFormat T.SIGNED T.BITS (cell_of taken.now.a) }
     requires b { FitsFormat T.SIGNED T.BITS (cell_of taken.now.b) }
     requires c { FitsFormat T.SIGNED T.BITS (cell_of taken.now.c) }
-    ensures { IsAnswerOfRow T.SIGNED T.BITS policy op (row_by rounding op (values_of taken.now)) number result }
+    ensures { IsAnswerOfRow T.SIGNED T.BITS policy op (row_by rounding op (values_of taken.now)) number
+        (in_whole result) }
 {
     let a = operand_of::<T>(taken.a);
     let b = operand_of::<T>(taken.b);
@@ -131,13 +134,13 @@ pub(crate) fn answer_in_word(
     rounding: Option<Rounding>,
     taken: &OperandRegisters,
     number: u64,
-) -> Result<Answer, Cause>
+) -> Result<SignedAnswer, Cause>
     requires offered { is_offered (is_signed word) policy op ≡ true }
     requires a { IsCell word (cell_of taken.now.a) }
     requires b { IsCell word (cell_of taken.now.b) }
     requires c { IsCell word (cell_of taken.now.c) }
     ensures { IsAnswerOfRow (is_signed word)
-        (width word) policy op (row_by rounding op (values_of taken.now)) number result }
+        (width word) policy op (row_by rounding op (values_of taken.now)) number (in_whole result) }
 {
     match word {
         WordName::I8 => answer_as::<i8>(policy, op, rounding, taken, number),

@@ -11,13 +11,13 @@ ghost use Rattle.fixed_machine.specs.Machine.{cell_at as cell_in, is_mismatched 
 ghost use Rattle.fixed_machine.specs.Step.{IsCell, IsStepOfLine, cell_of, cells_of, state_in};
 ghost use Rattle.fixed_machine.specs.inside.Quick.{quick_number, quick_operands, script_line_of_quick};
 ghost use Rattle.fixed_machine.specs.inside.QuickSteps.{IsSecond};
-ghost use Rattle.fixed_machine.specs.inside.Stepping.{IsAnswerOfLine};
+ghost use Rattle.fixed_machine.specs.inside.Stepping.{IsAnswerOfLine, whole_answer};
 
-use crate::answer::Answer;
+use crate::answer::SignedAnswer;
 use crate::projected::answer_as;
 use crate::quick::{Applied, QuickLine};
-use crate::register::{OperandRegisters, Register, with_sign};
-use crate::stepping::{is_offered, store};
+use crate::register::{OperandRegisters, Register, Signed};
+use crate::stepping::{is_offered, store_signed};
 use fixed_script::{Arity, Op, arity_of};
 use fixed_text::WordName;
 use fixed_word::{Side, Word, outcome_of};
@@ -81,7 +81,7 @@ fn answer_of_applied<T: Word>(
     line: QuickLine,
     applied: Applied,
     number: u64,
-) -> Option<Answer>
+) -> Option<SignedAnswer>
     requires signed { T.SIGNED ≡ signed word }
     requires bits { T.BITS ≡ width_in word }
     requires cells { All (IsCell word) (cells_of registers.now) }
@@ -90,7 +90,7 @@ fn answer_of_applied<T: Word>(
     requires b { line.b < length registers.now }
     requires c { line.c < length registers.now }
     ensures { IfSome result (λ answer. IsAnswerOfLine (state_in word (cells_of registers.now))
-        (Apply line.dest applied.policy applied.op (quick_operands (arity applied.op) line) None) number (Ok answer)) }
+        (Apply line.dest applied.policy applied.op (quick_operands (arity applied.op) line) None) number (Ok (whole_answer answer))) }
 {
     if !is_offered(word, applied.policy, applied.op) {
         return None;
@@ -120,7 +120,7 @@ fn quick_answer<T: Word>(
     registers: &[Register],
     line: QuickLine,
     number: u64,
-) -> Option<Answer>
+) -> Option<SignedAnswer>
     requires signed { T.SIGNED ≡ signed word }
     requires bits { T.BITS ≡ width_in word }
     requires cells { All (IsCell word) (cells_of registers.now) }
@@ -129,12 +129,15 @@ fn quick_answer<T: Word>(
     requires b { line.b < length registers.now }
     requires c { line.c < length registers.now }
     ensures { IfSome result (λ answer. IsAnswerOfLine (state_in word (cells_of registers.now))
-        (script_line_of_quick line) number (Ok answer)) }
+        (script_line_of_quick line) number (Ok (whole_answer answer))) }
 {
     match line.applied {
         None => {
             if is_number::<T>(line) {
-                Some(Answer::Bits(with_sign(line.below_zero, line.magnitude)))
+                Some(SignedAnswer::Bits(Signed {
+                    below_zero: line.below_zero,
+                    magnitude: line.magnitude,
+                }))
             } else {
                 None
             }
@@ -151,7 +154,7 @@ pub(crate) fn quick_step<T: Word>(
     registers: &mut [Register],
     line: QuickLine,
     number: u64,
-) -> Option<Answer>
+) -> Option<SignedAnswer>
     requires signed { T.SIGNED ≡ signed word }
     requires bits { T.BITS ≡ width_in word }
     requires cells { All (IsCell word) (cells_of registers.old) }
@@ -160,7 +163,7 @@ pub(crate) fn quick_step<T: Word>(
     requires b { line.b < length registers.old }
     requires c { line.c < length registers.old }
     ensures some { IfSome result (λ answer. IsStepOfLine (state_in word (cells_of registers.old))
-        (Some (script_line_of_quick line)) number (Ok answer) (cells_of registers.new)) }
+        (Some (script_line_of_quick line)) number (Ok (whole_answer answer)) (cells_of registers.new)) }
     ensures none { result ≡ None → cells_of registers.new ≡ cells_of registers.old }
     ensures kept { All (IsCell word) (cells_of registers.new) }
 {
@@ -169,13 +172,13 @@ pub(crate) fn quick_step<T: Word>(
         None => return None,
     };
     match answer {
-        Answer::Absent => Some(answer),
-        Answer::Bits(x) => {
-            store(registers, line.dest as u128, x);
+        SignedAnswer::Absent => Some(answer),
+        SignedAnswer::Bits(bits) => {
+            store_signed(registers, line.dest, bits);
             Some(answer)
         }
-        Answer::Flagged(x, _) => {
-            store(registers, line.dest as u128, x);
+        SignedAnswer::Flagged(bits, _) => {
+            store_signed(registers, line.dest, bits);
             Some(answer)
         }
     }

@@ -4,12 +4,13 @@ ghost use Rattle.std.specs.Prelude.{◌≡◌, ◌≤◌, ◌<◌, ◌*◌, ◌+
 ghost use Rattle.fixed_machine.specs.Answers.{answer_text};
 ghost use Rattle.fixed_text.specs.Words.{is_signed as signed, width as width_in};
 ghost use Rattle.fixed_machine.specs.inside.Quick.{script_line_of_quick};
+ghost use Rattle.fixed_machine.specs.inside.Stepping.{whole_answer};
 ghost use Rattle.fixed_machine.specs.Meaning.{has_wide as is_wide, zeros};
 ghost use Rattle.fixed_script.specs.Capped.{checked_script_line};
 ghost use Rattle.fixed_machine.specs.Rooms.{KeepsTheRest, spaces, spaces_in};
 ghost use Rattle.fixed_machine.specs.Step.{IsStepOfLine, cell_of, cells_of, state_in};
 
-use crate::answer::Answer;
+use crate::answer::{Answer, SignedAnswer};
 use crate::buffer::Buffer;
 use crate::cause::Cause;
 use crate::piece::read_and_step;
@@ -203,7 +204,7 @@ impl Room {
         word: WordName,
         line: QuickLine,
         number: u64,
-    ) -> Option<Answer>
+    ) -> Option<SignedAnswer>
         requires signed { T.SIGNED ≡ signed word }
         requires bits { T.BITS ≡ width_in word }
         requires word { self.old.word ≡ Some word }
@@ -212,12 +213,24 @@ impl Room {
         requires b { line.b < length self.old.registers }
         requires c { line.c < length self.old.registers }
         ensures some { IfSome result (λ answer. IsStepOfLine (state_in word self.old.registers)
-            (Some (script_line_of_quick line)) number (Ok answer) self.new.registers) }
+            (Some (script_line_of_quick line)) number (Ok (whole_answer answer)) self.new.registers) }
         ensures none { result ≡ None → self.new.registers ≡ self.old.registers }
         ensures count { length self.new.registers ≡ length self.old.registers }
         ensures kept { KeepsTheRest self.old self.new }
     {
         quick_step::<T>(word, &mut self.registers, line, number)
+    }
+
+    /// Adds the text of an answer whose number is a sign and a magnitude. Precondition: there is room for it.
+    #[inline(always)]
+    pub(crate) fn push_signed(&mut self, answer: SignedAnswer)
+        requires { length self.old.answers + length (answer_text (whole_answer answer)) ≤ self.old.answer_room }
+        ensures answers { self.new.answers ≡ self.old.answers ++ answer_text (whole_answer answer) }
+        ensures word { self.new.word ≡ self.old.word }
+        ensures registers { self.new.registers ≡ self.old.registers }
+        ensures kept { KeepsRoom self.old self.new }
+    {
+        self.answers.push_signed_text(answer);
     }
 
     /// Adds the text of an answer. Precondition: there is room for it.

@@ -71,7 +71,7 @@ fn answer_quick_line<T: Word>(
     };
     match room.step_quick_line::<T>(word, line, number) {
         Some(answer) => {
-            room.push(answer);
+            room.push_signed(answer);
             Some(end)
         }
         None => None,

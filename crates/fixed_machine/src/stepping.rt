@@ -9,13 +9,13 @@ ghost use Rattle.fixed_script.specs.Offered.{is_offered as offered};
 ghost use Rattle.fixed_machine.specs.Machine.{cell_at as cell_in, destination as destination_of, is_unoffered as unoffered, is_out_of_range as out_of_range, is_mismatched as mismatched, stored, integer};
 ghost use Rattle.fixed_text.specs.declared.names.WordName.{WordName};
 ghost use Rattle.fixed_text.specs.Words.{is_signed as signed, width};
-ghost use Rattle.fixed_machine.specs.inside.Stepping.{IsAnswerOfLine, IsApplied, HoldsOperands, script_line_of, values_of, is_value};
+ghost use Rattle.fixed_machine.specs.inside.Stepping.{IsAnswerOfLine, IsApplied, HoldsOperands, script_line_of, values_of, is_value, number_in};
 ghost use Rattle.fixed_machine.specs.Step.{IsCell, IsStepOfLine, cell_of, cells_of, state_in};
 
 use crate::answer::Answer;
 use crate::cause::Cause;
 use crate::projected::answer_in_word;
-use crate::register::{OperandRegisters, Register, with_sign};
+use crate::register::{OperandRegisters, Register, Signed, with_sign};
 use fixed_script::{Arity, Line, Literal, Op, Policy, arity_of, takes_rounding};
 use fixed_text::WordName;
 use fixed_word::Rounding;
@@ -266,7 +266,10 @@ fn answer_of_operation(
     ensures { IsAnswerOfLine (state_in word (cells_of registers.now)) (script_line_of line.now) number result }
 {
     let taken = taken_by(registers, line);
-    answer_in_word(word, policy, op, rounding, &taken, number)
+    match answer_in_word(word, policy, op, rounding, &taken, number) {
+        Ok(answer) => Ok(answer.into_answer()),
+        Err(cause) => Err(cause),
+    }
 }
 
 /// Returns the answer of a line, or its cause, if the first three tests found none.
@@ -358,6 +361,18 @@ pub(crate) fn store(registers: &mut [Register], dest: u128, x: i128)
     let register = &mut registers[dest as usize];
     register.below_zero = x < 0;
     register.magnitude = x.unsigned_abs() as u64;
+}
+
+/// Stores a sign and a magnitude in a register.
+#[inline(always)]
+pub(crate) fn store_signed(registers: &mut [Register], dest: usize, number: Signed)
+    requires { dest < length registers.old }
+    ensures { cells_of registers.new ≡ set (cells_of registers.old) dest
+        (record { bits = number_in number; fraction = (cell_in (cells_of registers.old) dest).fraction }) }
+{
+    let register = &mut registers[dest];
+    register.below_zero = number.below_zero;
+    register.magnitude = number.magnitude;
 }
 
 /// Runs one line on the registers. Returns its answer, or its cause, which leaves the registers unchanged.

@@ -8,13 +8,17 @@ use Rattle.fixed_script.specs.declared.line.Line.{Line}
 use Rattle.fixed_script.specs.declared.line.Line.TheVariants.{Set, One, Two, Int, Three}
 use Rattle.fixed_script.specs.Text.{ScriptLine, SetTo, Apply, OneRegister, TwoRegisters, RegisterAndInt, ThreeRegisters}
 use Rattle.fixed_script.specs.Capped.{literal_value}
-use Rattle.fixed_word.specs.Format.{fits}
+use Rattle.fixed_word.specs.Format.{fits, with_sign}
 use Rattle.fixed_text.specs.declared.names.WordName.{WordName}
 use Rattle.fixed_text.specs.Words.{is_signed, width}
 use Rattle.fixed_machine.specs.Projection.{project}
 use Rattle.fixed_machine.specs.Machine.{Cell, State, OperandValues, operand_values, row_cause, cause, answer}
 use Rattle.fixed_machine.specs.declared.cause.Cause.{Cause}
 use Rattle.fixed_machine.specs.declared.register.OperandRegisters.{OperandRegisters}
+use Rattle.fixed_machine.specs.declared.register.Signed.{Signed}
+use Rattle.fixed_machine.specs.declared.answer.SignedAnswer.{SignedAnswer}
+use Rattle.fixed_machine.specs.declared.answer.SignedAnswer.TheVariants.{Absent as SignedAbsent, Bits as SignedBits, Flagged as SignedFlagged}
+use Rattle.fixed_machine.specs.declared.answer.Answer.TheVariants.{Absent, Bits, Flagged}
 use Rattle.fixed_machine.specs.Step.{cell_of}
 
 -- x is a number of the word
@@ -23,6 +27,20 @@ is_value word x = fits (is_signed word) (width word) x
 
 abbrev pub values_of : OperandRegisters → OperandValues
 values_of t = record { a = cell_of t.a; b = cell_of t.b; c = cell_of t.c }
+
+-- the number of a sign and a magnitude
+abbrev pub number_in : Signed → ℤ
+number_in n = with_sign n.below_zero n.magnitude
+
+-- the same answer, with that number
+abbrev pub whole_answer : SignedAnswer → Answer
+whole_answer SignedAbsent = Absent
+whole_answer (SignedBits n) = Bits (number_in n)
+whole_answer (SignedFlagged n verdict) = Flagged (number_in n) verdict
+
+abbrev pub in_whole : Result SignedAnswer Cause → Result Answer Cause
+in_whole (Ok a) = Ok (whole_answer a)
+in_whole (Err c) = Err c
 
 -- the line applies an operation under a policy, with that rounding
 abbrev pub IsApplied : ScriptLine → Policy → Op → Option Rounding → Type 0

@@ -14,28 +14,28 @@ returns-in-1 c =
     let t = c.args.draw in
     let a = t / 8 % 8 in
     let b = t / 64 % 8 in
-    adds_applied c.push_applied.result c.args.script.now.items c.push_applied.new.script.items t 1 Wrapping Add (TwoRegisters a b) (a ∷ b ∷ []) (codes " wrapping add") c.in-1.is refl refl refl c.push_applied.ensures
+    adds_applied c.push_binary.result c.args.script.now.items c.push_binary.new.script.items t 1 Wrapping Add (TwoRegisters a b) (a ∷ b ∷ []) (codes " wrapping add") c.in-1.is refl refl refl c.push_binary.ensures
 
 pub returns-in-2 : goal.returns-in-2
 returns-in-2 c =
     let t = c.args.draw in
     let a = t / 8 % 8 in
     let b = t / 64 % 8 in
-    adds_applied c.push_applied-in-2.result c.args.script.now.items c.push_applied-in-2.new.script.items t 2 Overflowing Sub (TwoRegisters a b) (a ∷ b ∷ []) (codes " overflowing sub") c.in-2.is refl refl refl c.push_applied-in-2.ensures
+    adds_applied c.push_binary-in-2.result c.args.script.now.items c.push_binary-in-2.new.script.items t 2 Overflowing Sub (TwoRegisters a b) (a ∷ b ∷ []) (codes " overflowing sub") c.in-2.is refl refl refl c.push_binary-in-2.ensures
 
 pub returns-in-3 : goal.returns-in-3
 returns-in-3 c =
     let t = c.args.draw in
     let a = t / 8 % 8 in
     let b = t / 64 % 8 in
-    adds_applied c.push_applied-in-3.result c.args.script.now.items c.push_applied-in-3.new.script.items t 3 Saturating Mul (TwoRegisters a b) (a ∷ b ∷ []) (codes " saturating mul") c.in-3.is refl refl refl c.push_applied-in-3.ensures
+    adds_applied c.push_binary-in-3.result c.args.script.now.items c.push_binary-in-3.new.script.items t 3 Saturating Mul (TwoRegisters a b) (a ∷ b ∷ []) (codes " saturating mul") c.in-3.is refl refl refl c.push_binary-in-3.ensures
 
 pub returns-in-4 : goal.returns-in-4
 returns-in-4 c =
     let t = c.args.draw in
     let a = t / 8 % 8 in
     let b = t / 64 % 8 in
-    adds_applied c.push_applied-in-4.result c.args.script.now.items c.push_applied-in-4.new.script.items t 4 Checked Div (TwoRegisters a b) (a ∷ b ∷ []) (codes " checked div") c.in-4.is refl refl refl c.push_applied-in-4.ensures
+    adds_applied c.push_binary-in-4.result c.args.script.now.items c.push_binary-in-4.new.script.items t 4 Checked Div (TwoRegisters a b) (a ∷ b ∷ []) (codes " checked div") c.in-4.is refl refl refl c.push_binary-in-4.ensures
 
 pub returns-in-5 : goal.returns-in-5
 returns-in-5 c =
@@ -43,7 +43,7 @@ returns-in-5 c =
     let d = t % 8 in
     let a = t / 8 % 8 in
     let b = t / 64 % 8 in
-    adds_applied c.push_applied-in-5.result c.args.script.now.items c.push_applied-in-5.new.script.items t 5 Wrapping MulAdd (ThreeRegisters a b d) (a ∷ b ∷ d ∷ []) (codes " wrapping mul_add") c.in-5.is refl refl refl c.push_applied-in-5.ensures
+    adds_applied c.push_ternary.result c.args.script.now.items c.push_ternary.new.script.items t 5 Wrapping MulAdd (ThreeRegisters a b d) (a ∷ b ∷ d ∷ []) (codes " wrapping mul_add") c.in-5.is refl refl refl c.push_ternary.ensures
 
 pub returns-in-6 : goal.returns-in-6
 returns-in-6 c =
@@ -51,11 +51,11 @@ returns-in-6 c =
     let d = t % 8 in
     let a = t / 8 % 8 in
     let b = t / 64 % 8 in
-    adds_applied c.push_applied-in-6.result c.args.script.now.items c.push_applied-in-6.new.script.items t 6 Overflowing AddProd (ThreeRegisters d a b) (d ∷ a ∷ b ∷ []) (codes " overflowing add_prod") c.in-6.is refl refl refl c.push_applied-in-6.ensures
+    adds_applied c.push_ternary-in-6.result c.args.script.now.items c.push_ternary-in-6.new.script.items t 6 Overflowing AddProd (ThreeRegisters d a b) (d ∷ a ∷ b ∷ []) (codes " overflowing add_prod") c.in-6.is refl refl refl c.push_ternary-in-6.ensures
 
 pub returns-in_default : goal.returns-in_default
 returns-in_default c =
     let t = c.args.draw in
     let a = t / 8 % 8 in
     let seven : t / 512 % 8 ≡ 7 = omega arith in
-    adds_applied c.push_applied-in_default.result c.args.script.now.items c.push_applied-in_default.new.script.items t 7 Checked Sqrt (OneRegister a) (a ∷ []) (codes " checked sqrt") seven refl refl refl c.push_applied-in_default.ensures
+    adds_applied c.push_unary.result c.args.script.now.items c.push_unary.new.script.items t 7 Checked Sqrt (OneRegister a) (a ∷ []) (codes " checked sqrt") seven refl refl refl c.push_unary.ensures

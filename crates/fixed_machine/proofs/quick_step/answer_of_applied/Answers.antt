@@ -1,6 +1,7 @@
 use Rattle.std.proofs.Common.{◌≡◌, true, false, get_or, rules}
 use Rattle.fixed_script.specs.Offered.{is_offered}
 use Rattle.fixed_machine.specs.Step.{cell_of, cells_of}
+use Rattle.fixed_machine.specs.inside.Stepping.{whole_answer}
 use Rattle.fixed_script.specs.Names.{arity}
 use Rattle.fixed_text.specs.Words.{is_signed}
 use Rattle.fixed_machine.proofs.QuickSteps.{applied_answer, are_there, held_cell, held_is, in_format, second_cell, second_in_word}
@@ -29,5 +30,5 @@ returns g c =
     let second = second_in_word g.T.RawWord.SIGNED g.T.Valued.BITS c.args.word (cells_of registers) line (arity op) (cell_of c.in-Some.second) c.requires.signed c.requires.bits c.in-Some.ensures in
     applied_answer g.T.RawWord.SIGNED g.T.Valued.BITS c.args.word (cells_of registers) line c.args.applied.policy op
     (record { a = get_or registers line.a (record { magnitude = 0; fraction = 0; below_zero = false }); b = c.in-Some.second; c = get_or registers line.c (record { magnitude = 0; fraction = 0; below_zero = false }) })
-    c.args.number c.in-Ok.answer c.requires.signed c.requires.bits (are_there registers line c.requires.dest c.requires.a c.requires.b c.requires.c) offered (c.is_matched.ensures matches)
+    c.args.number (whole_answer c.in-Ok.answer) c.requires.signed c.requires.bits (are_there registers line c.requires.dest c.requires.a c.requires.b c.requires.c) offered (c.is_matched.ensures matches)
     (held_is registers line.a (record { magnitude = 0; fraction = 0; below_zero = false }) c.requires.a) second (held_is registers line.c (record { magnitude = 0; fraction = 0; below_zero = false }) c.requires.c) c.in-Ok.ensures

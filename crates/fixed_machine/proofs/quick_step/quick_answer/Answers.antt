@@ -1,7 +1,4 @@
-use Rattle.std.proofs.Common.{◌≡◌, ◌∙◌, sym, subst, rules, true, Ok, Option, ℤ}
-use Rattle.std.specs.Int.{w128}
-use Rattle.std.proofs.lemmas.Int.{to_z-of_z}
-use mir.Val.{SFits}
+use Rattle.std.proofs.Common.{◌≡◌, ◌∙◌, sym, subst, true, Ok, Option}
 use Rattle.fixed_machine.specs.declared.answer.Answer.TheVariants.{Bits}
 use Rattle.fixed_machine.specs.declared.quick.Applied.{Applied}
 use Rattle.fixed_machine.specs.Step.{cells_of, state_in}
@@ -16,8 +13,6 @@ returns-then-is_number g c =
     let cells = cells_of c.args.registers.now in
     let s = state_in c.args.word cells in
     let fits : is_value c.args.word (quick_number line) ≡ true = rw (← c.requires.signed, ← c.requires.bits) (sym c.is_number.ensures ∙ c.if-is_number.true) in
-    let fx : SFits w128 c.with_sign.result = search rules in
     let there = are_there c.args.registers.now line c.requires.dest c.requires.a c.requires.b c.requires.c in
     let set = set_answer_quickly c.args.word cells line.dest (quick_number line) c.args.number there.dest fits in
-    let read = subst (λ (o : Option Applied). IsAnswerOfLine s (applied_or_set o line) c.args.number (Ok (Bits (quick_number line)))) (sym c.in-None.is) set in
-    simp to_z-of_z (subst (λ (x : ℤ). IsAnswerOfLine s (applied_or_set line.applied line) c.args.number (Ok (Bits x))) (sym c.with_sign.ensures) read)
+    subst (λ (o : Option Applied). IsAnswerOfLine s (applied_or_set o line) c.args.number (Ok (Bits (quick_number line)))) (sym c.in-None.is) set
