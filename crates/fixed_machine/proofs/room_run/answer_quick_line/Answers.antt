@@ -5,17 +5,18 @@ use Rattle.fixed_machine.specs.Answers.{answer_text}
 use Rattle.fixed_word.specs.Pieces.{pieces}
 use Rattle.fixed_text.specs.inside.Ends.{after}
 use Rattle.fixed_machine.specs.inside.Lines.{run_lines}
+use Rattle.fixed_machine.specs.inside.Stepping.{whole_answer}
 use Rattle.fixed_machine.specs.Step.{IsStepOfLine, state_in}
 use Rattle.fixed_machine.proofs.Runs.{run_moves, move_short}
 use Rattle.fixed_machine.proofs.room_run.answer_quick_line.Goals as goal
 
-pub push-requires : goal.push-requires
-push-requires g c =
+pub push_signed-requires : goal.push_signed-requires
+push_signed-requires g c =
     let s = state_in c.args.word c.args.room.now.registers in
     let end = c.in-Some.found.1 in
     let rest = c.args.rest.now in
     let new = c.step_quick_line.new.self.registers in
-    let answer = c.in-Some-step_quick_line.answer in
+    let answer = whole_answer c.in-Some-step_quick_line.answer in
     let tells = subst (λ (o : Option ScriptLine). IsStepOfLine s o c.args.number (Ok answer) new) (sym c.in-Some.ensures.reads) c.in-Some-step_quick_line.ensures.some in
     let short = move_short s c.args.number (take end rest) answer new tells in
     omega (arith, short, length-take end rest, ap length c.in-Some-step_quick_line.ensures.kept.same_answers, c.in-Some-step_quick_line.ensures.kept.same_answer_room, c.requires.space, c.in-Some.ensures.within)
@@ -27,17 +28,17 @@ returns-in-Some-step_quick_line-clause-some g c =
     let end = c.in-Some.found.1 in
     let rest = c.args.rest.now in
     let new = c.step_quick_line.new.self.registers in
-    let answer = c.in-Some-step_quick_line.answer in
+    let answer = whole_answer c.in-Some-step_quick_line.answer in
     let text = answer_text answer in
     let tells = subst (λ (o : Option ScriptLine). IsStepOfLine s o c.args.number (Ok answer) new) (sym c.in-Some.ensures.reads) c.in-Some-step_quick_line.ensures.some in
     let short = move_short s c.args.number (take end rest) answer new tells in
     let moves = run_moves room.answers c.args.word room.registers new c.args.number rest (take end rest) (drop end rest) answer c.in-Some.ensures.cut tells in
     let kept = c.in-Some-step_quick_line.ensures.kept in
-    let answers : c.push.new.self.answers ≡ room.answers ++ text = c.push.ensures.answers ∙ ap (λ (a : List ℕ). a ++ text) kept.same_answers in
+    let answers : c.push_signed.new.self.answers ≡ room.answers ++ text = c.push_signed.ensures.answers ∙ ap (λ (a : List ℕ). a ++ text) kept.same_answers in
     record {
       some = c.in-Some.ensures.some;
       within = c.in-Some.ensures.within;
-      run = sym (moves ∙ (λ i. after (sym answers i) (run_lines (state_in c.args.word (sym c.push.ensures.registers i)) (c.args.number + 1) (pieces (drop end rest)))));
-      its_word = c.push.ensures.word ∙ kept.same_word ∙ c.requires.word;
-      space = omega (arith, ap length answers, length-append room.answers text, short, length-take end rest, length-drop end rest, c.push.ensures.kept.same_answer_room, kept.same_answer_room, c.requires.space, c.in-Some.ensures.within);
+      run = sym (moves ∙ (λ i. after (sym answers i) (run_lines (state_in c.args.word (sym c.push_signed.ensures.registers i)) (c.args.number + 1) (pieces (drop end rest)))));
+      its_word = c.push_signed.ensures.word ∙ kept.same_word ∙ c.requires.word;
+      space = omega (arith, ap length answers, length-append room.answers text, short, length-take end rest, length-drop end rest, c.push_signed.ensures.kept.same_answer_room, kept.same_answer_room, c.requires.space, c.in-Some.ensures.within);
     }

@@ -4,6 +4,7 @@ use Rattle.std.proofs.lemmas.List.{length-map}
 use Rattle.fixed_text.specs.declared.names.WordName.{WordName}
 use Rattle.fixed_machine.specs.declared.register.Register.{Register}
 use Rattle.fixed_machine.specs.inside.Quick.{script_line_of_quick}
+use Rattle.fixed_machine.specs.inside.Stepping.{whole_answer}
 use Rattle.fixed_machine.specs.Machine.{Cell}
 use Rattle.fixed_machine.specs.Rooms.{IsRoom, Space}
 use Rattle.fixed_machine.specs.Step.{IsCell, IsStepOfLine, cell_of, cells_of, state_in}
@@ -43,7 +44,7 @@ pub returns-clause-some : goal.returns-clause-some
 returns-clause-some g c =
     let before : cells_of c.deref_mut.result.now ≡ c.args.self.now.registers = ap cells_of c.deref_mut.ensures.value ∙ ap (λ (s : Space). s.registers) c.self.view_is in
     let back = put_back c.self.inside.registers.len c.quick_step.new.registers c.self.inside.registers.items (c.quick_step.auto.registers ∙ c.deref_mut.ensures.len) in
-    let tells = λ (old new : List Cell). IfSome c.quick_step.result (λ answer. IsStepOfLine (state_in c.args.word old) (Some (script_line_of_quick c.args.line)) c.args.number (Ok answer) new) in
+    let tells = λ (old new : List Cell). IfSome c.quick_step.result (λ answer. IsStepOfLine (state_in c.args.word old) (Some (script_line_of_quick c.args.line)) c.args.number (Ok (whole_answer answer)) new) in
     subst (tells c.args.self.now.registers) (sym (ap cells_of back)) (subst (λ (old : List Cell). tells old (cells_of c.quick_step.new.registers)) before c.quick_step.ensures.some)
 
 pub returns-clause-none : goal.returns-clause-none
