@@ -13,3 +13,4 @@ pub mod Sums
 pub mod Centre
 pub mod Quick
 pub mod Cast
+pub mod Halves

@@ -15,6 +15,7 @@ mod lowered;
 mod near;
 mod nearest;
 mod outgoing;
+mod packed;
 mod parts;
 mod whole;
 

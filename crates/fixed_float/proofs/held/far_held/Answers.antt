@@ -1,4 +1,4 @@
-use Rattle.std.proofs.Common.{rules, sym, ◌∙◌}
+use Rattle.std.proofs.Common.{rules}
 use Rattle.fixed_float.proofs.Ends.{held_row}
 use Rattle.fixed_float.proofs.held.far_held.Goals as goal
 

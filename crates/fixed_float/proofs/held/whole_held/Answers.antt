@@ -1,4 +1,4 @@
-use Rattle.std.proofs.Common.{◌≡◌, ℤ, pos, negsuc, unsigned_abs, ℕ, ap, sym, ◌∙◌, refl, subst, Bool, true, arith, w64}
+use Rattle.std.proofs.Common.{◌≡◌, ℤ, pos, negsuc, unsigned_abs, ℕ, ap, sym, ◌∙◌, subst, Bool, true, arith, w64}
 use Rattle.std.specs.Prelude.{Some, int_lt}
 use Rattle.std.proofs.lemmas.Int.{ints, to_z-of_z}
 use mir.Val.{SFits, of_z, to_z}
