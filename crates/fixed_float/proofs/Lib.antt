@@ -14,3 +14,4 @@ pub mod Centre
 pub mod Quick
 pub mod Cast
 pub mod Halves
+pub mod Wide

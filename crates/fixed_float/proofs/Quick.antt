@@ -4,7 +4,7 @@ use Rattle.std.specs.Prelude.{Some}
 use native.Mathlib.Nat.{div-lt_iff_lt-mul, le_of_mul-le-mul_right, le_trans, lt_of_le_of_lt, mul_assoc, mul_comm, mul-le-mul_right, mul-pos}
 use lib.Pow.{pow-add, pow_pos}
 use Rattle.std.specs.Float.{Float, binary64, float_with_sign}
-use lib.Ieee.{add, fits, is_nan, le, mul, of_bits, round, to_bits}
+use lib.Ieee.{add, fits, is_nan, le, mul, neg, of_bits, round, to_bits}
 use lib.Ieee.Exact.{HasValue, round_exact}
 use lib.Ieee.Fits.{nearest-le}
 use lib.Ieee.Nearest.{closest}
@@ -15,7 +15,7 @@ use Rattle.fixed_word.specs.declared.rounding.Rounding.TheVariants.{Even}
 use Rattle.fixed_float.specs.Rows.{units_of_float}
 use Rattle.fixed_float.specs.inside.Parts.{AreParts}
 use Rattle.fixed_float.specs.declared.parts.Parts.{Parts}
-use Rattle.fixed_float.proofs.Centre.{abs_value, bits_at, closest_minus, closest_plus, finite_under, is_number, moved, size_under, value_at}
+use Rattle.fixed_float.proofs.Centre.{abs_value, bits_at, closest_minus, closest_plus, finite_under, is_number, moved, size_between, size_under, value_at}
 use Rattle.fixed_float.proofs.Fields.{packed_value}
 use Rattle.fixed_float.proofs.Products.{times_is}
 use Rattle.fixed_float.proofs.Roundings.{closest_stepped}
@@ -154,3 +154,6 @@ module _ (x : Float) (fit : T (fits binary64 x)) (g : ℕ) (G : g ≤ 64) where
       let finite = finite_under x bound ((2 ^ 52 + 0) * 2 ^ (1072 - g)) (2 ^ 1074) bound_value under in
       let p = parts_exist x fit finite in
       rounded_by_sum p.0 p.1 under
+
+  pub within : le (neg bound) x ≡ true → le x bound ≡ true → IsMoved x g (add binary64 (mul binary64 x power) centre)
+  within lo hi = quick (size_between x bound ((2 ^ 52 + 0) * 2 ^ (1072 - g)) (2 ^ 1074) bound_value lo hi)

@@ -2,7 +2,7 @@
 
 ghost use Rattle.std.specs.Prelude.{◌≡◌, ◌+◌, ◌*◌, ◌<◌, ◌≤◌, ◌^◌, pos};
 ghost use Rattle.fixed_word.specs.Format.{with_sign};
-ghost use Rattle.fixed_word.specs.Standing.{IsOutcomeOfRow, StandsFor};
+ghost use Rattle.fixed_word.specs.Standing.{IsOutcomeOfRow, StandsFor, side_of};
 ghost use Rattle.fixed_word.specs.declared.rounding.Rounding.TheVariants.{Even};
 ghost use Rattle.fixed_kernel.specs.Rounded.{rounded};
 ghost use Rattle.fixed_kernel.specs.inside.Alike.{Alike};
@@ -13,7 +13,7 @@ use crate::lowered::lowered;
 use crate::near::whole_near;
 use crate::parts::{LEAST, Parts, parts_of};
 use crate::whole::whole_far;
-use fixed_word::{Outcome, RawWord, Rounding, outcome_of_magnitude};
+use fixed_word::{Outcome, RawWord, Rounding, Side, outcome_of_magnitude};
 
 /// Returns the outcome of the float in units of `2^-frac`, rounded to the nearest, ties to even. Returns `None` for a
 /// NaN and the infinities.
@@ -53,12 +53,29 @@ fn far_outcome<T: RawWord>(x: f64, frac: u32, rounding: Rounding) -> Option<Outc
     }
 }
 
-/// Returns the outcome of the whole number.
+/// Returns the outcome of the whole number. A branch on the sign would be slow.
 #[inline]
 fn outcome_of_signed<T: RawWord>(whole: i64) -> Outcome<T>
     ensures { StandsFor T.value T.SIGNED T.BITS whole result }
 {
-    outcome_of_magnitude(whole < 0, whole.unsigned_abs() as u128)
+    Outcome {
+        wrapped: T::residue(false, whole.cast_unsigned() as u128),
+        side: side_of::<T>(whole as i128),
+    }
+}
+
+/// Returns the side of the number.
+#[inline]
+fn side_of<T: RawWord>(number: i128) -> Side
+    ensures { result ≡ side_of T.SIGNED T.BITS number }
+{
+    if number > T::MAX.magnitude() as i128 {
+        Side::Above
+    } else if number < -(T::MIN.magnitude() as i128) {
+        Side::Below
+    } else {
+        Side::Fits
+    }
 }
 
 /// Does the same for every `f64`, by its bits.

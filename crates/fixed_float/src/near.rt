@@ -32,7 +32,7 @@ fn even_near(x: f64, frac: u32) -> Option<i64>
     ensures { (whole : ℤ) → result ≡ Some whole → units_of_float x frac Even ≡ Some whole }
 {
     let bound = f64::from_bits((1073 - frac as u64) << 52);
-    if x.abs() <= bound {
+    if -bound <= x && x <= bound {
         let units = x * f64::from_bits((1023 + frac as u64) << 52);
         let sum = units + CENTRE;
         Some(sum.to_bits() as i64 - CENTRE_BITS)
