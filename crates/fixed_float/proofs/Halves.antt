@@ -32,7 +32,7 @@ above a b h = omega (arith, ints)
 below : (a b : ℕ) → a < b → pos a -ℤ pos b ≡ negsuc (b - suc a)
 below a b h = omega (arith, ints)
 
-same_le : (A B D a b c : ℕ) → 0 < c → A * c ≡ a * D → B * c ≡ b * D → a ≤ b → A ≤ B
+pub same_le : (A B D a b c : ℕ) → 0 < c → A * c ≡ a * D → B * c ≡ b * D → a ≤ b → A ≤ B
 same_le A B D a b c C h k l = le_of_mul-le-mul_right (subst (λ (z : ℕ). z ≤ B * c) (sym h) (subst (λ (z : ℕ). a * D ≤ z) (sym k) (mul-le-mul_right D l))) C
 
 over_above : (f : Format) (a b c : ℕ) → b ≤ a → round f false (a - b) c ≡ over f (pos a -ℤ pos b) c
@@ -102,7 +102,7 @@ sum_is f (fin true m e) (fin false q k) true a b l v w =
     ∙ ap (λ (z : ℤ). over f z (2 ^ l)) (sym same)
 
 -- ---- what is packed into a float's lowest bits
-rescaled : (x : Float) (s : Bool) (w l a c : ℕ) → 0 < l → a * l ≡ w * c → HasValue x s w l → HasValue x s a c
+pub rescaled : (x : Float) (s : Bool) (w l a c : ℕ) → 0 < l → a * l ≡ w * c → HasValue x s w l → HasValue x s a c
 rescaled nan s w l a c p h v = v
 rescaled (inf t) s w l a c p h v = v
 rescaled (fin t m e) s w l a c p h v = (
@@ -142,7 +142,7 @@ module _ (f : Format) (t by g : ℕ) (H : t < hid f) (B : by ≤ 32) (G : g ≤ 
       (moved f (hid f + t) by g G) (packed_value f (low f + by - g) t in_field H)
 
 -- ---- a difference of few digits is a float
-exact_at : (f : Format) (s : Bool) (q h g : ℕ) → q < 2 ^ prec f → h ≤ 32 → g ≤ 64 → HasValue (round f s (q * 2 ^ h) (2 ^ g)) s (q * 2 ^ h) (2 ^ g)
+pub exact_at : (f : Format) (s : Bool) (q h g : ℕ) → q < 2 ^ prec f → h ≤ 32 → g ≤ 64 → HasValue (round f s (q * 2 ^ h) (2 ^ g)) s (q * 2 ^ h) (2 ^ g)
 exact_at f s q h g Q H G =
     let room : q * 2 ^ (low f + h - g) < 2 ^ (prec f + (low f + h - g)) = subst (λ (z : ℕ). q * 2 ^ (low f + h - g) < z) (sym (pow-add 2 (prec f) (low f + h - g))) (mul-lt-mul_of_pos_right Q (pow_pos (low f + h - g))) in
     round_exact f s (q * 2 ^ h) (2 ^ g) q (low f + h - g) (pow_pos g) Q

@@ -15,3 +15,4 @@ pub mod Quick
 pub mod Cast
 pub mod Halves
 pub mod Wide
+pub mod Limits

@@ -1,5 +1,5 @@
 -- An integer of 64 bits as one of 128 bits.
-use Rattle.std.proofs.Common.{◌≡◌, ◌<◌, ℤ, pos, negsuc, ap, ◌∙◌, arith, w64}
+use Rattle.std.proofs.Common.{◌≡◌, ℤ, pos, negsuc, ap, ◌∙◌, arith, w64}
 use Rattle.std.proofs.lemmas.Int.{to_z-of_z}
 use Rattle.std.specs.Int.{w128}
 use mir.Val.{SFits, of_z, to_z}

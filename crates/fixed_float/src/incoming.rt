@@ -64,17 +64,18 @@ fn outcome_of_signed<T: RawWord>(whole: i64) -> Outcome<T>
     }
 }
 
-/// Returns the side of the number.
+/// Returns the side of the number. Most numbers fit, and are tested for that at once.
 #[inline]
 fn side_of<T: RawWord>(number: i128) -> Side
     ensures { result ≡ side_of T.SIGNED T.BITS number }
 {
-    if number > T::MAX.magnitude() as i128 {
-        Side::Above
-    } else if number < -(T::MIN.magnitude() as i128) {
+    let (least, most) = (-(T::MIN.magnitude() as i128), T::MAX.magnitude() as i128);
+    if least <= number && number <= most {
+        Side::Fits
+    } else if number < least {
         Side::Below
     } else {
-        Side::Fits
+        Side::Above
     }
 }
 

@@ -1,8 +1,9 @@
 //! Floats near 0, rounded to whole numbers by one sum.
 
-ghost use Rattle.std.specs.Prelude.{◌≡◌, ◌≤◌, ℤ, Some};
+ghost use Rattle.std.specs.Prelude.{◌≡◌, ◌-ℤ◌, ◌<◌, ◌≤◌, ◌^◌, ℤ, Some, pos};
 ghost use Rattle.fixed_word.specs.declared.rounding.Rounding.TheVariants.{Even};
 ghost use Rattle.fixed_float.specs.Rows.{units_of_float};
+ghost use Rattle.fixed_float.specs.inside.Small.{IsSmall};
 
 use fixed_word::Rounding;
 
@@ -25,7 +26,7 @@ const CENTRE: f64 = 6755399441055744.0;
 /// The bits of `CENTRE`.
 const CENTRE_BITS: i64 = 0x4338_0000_0000_0000;
 
-/// Does the same for the rounding to the nearest, by a sum with `CENTRE`.
+/// Does the same for the rounding to the nearest.
 #[inline]
 fn even_near(x: f64, frac: u32) -> Option<i64>
     requires { frac ≤ 64 }
@@ -33,10 +34,22 @@ fn even_near(x: f64, frac: u32) -> Option<i64>
 {
     let bound = f64::from_bits((1073 - frac as u64) << 52);
     if -bound <= x && x <= bound {
-        let units = x * f64::from_bits((1023 + frac as u64) << 52);
-        let sum = units + CENTRE;
-        Some(sum.to_bits() as i64 - CENTRE_BITS)
+        Some(bits_of_sum(x, frac) as i64 - CENTRE_BITS)
     } else {
         None
     }
+}
+
+/// Returns the bits of the sum of `CENTRE` and the float in units of `2^-frac`: they exceed `CENTRE_BITS` by the number
+/// of units, rounded to the nearest, ties to even. Precondition: there are at most `2^50` units.
+#[inline]
+pub(crate) fn bits_of_sum(x: f64, frac: u32) -> u64
+    requires frac { frac ≤ 64 }
+    requires small { IsSmall x frac }
+    ensures units { units_of_float x frac Even ≡ Some (pos result -ℤ pos 0x4338_0000_0000_0000) }
+    ensures bound { result < 2 ^ 63 }
+{
+    let units = x * f64::from_bits((1023 + frac as u64) << 52);
+    let sum = units + CENTRE;
+    sum.to_bits()
 }

@@ -30,7 +30,7 @@ pub(crate) fn nearest_f64<T: Castable>(a: T, frac: u32) -> f64
 
 /// Returns `number - least` over `2^frac`, which an `f64` holds.
 #[inline]
-fn held_f64(number: u64, least: u64, frac: u32) -> f64
+pub(crate) fn held_f64(number: u64, least: u64, frac: u32) -> f64
     requires number { number < 2 ^ 32 }
     requires least { least < 2 ^ 32 }
     requires frac { frac ≤ 64 }

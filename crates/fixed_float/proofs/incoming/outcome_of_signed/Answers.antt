@@ -1,7 +1,6 @@
-use Rattle.std.proofs.Common.{◌≡◌, ℕ, ℤ, pos, ap, ◌∙◌, w64}
+use Rattle.std.proofs.Common.{ℕ, pos, ap, ◌∙◌, w64}
 use Rattle.std.proofs.lemmas.Int.{to_z-of_z}
-use Rattle.std.specs.Int.{w128}
-use mir.Val.{SFits, of_z, to_z}
+use mir.Val.{SFits, of_z}
 use Rattle.fixed_word.specs.Format.{wrap}
 use Rattle.fixed_word.specs.Standing.{side_of}
 use Rattle.fixed_word.proofs.Integers.{of_bits}
