@@ -1,12 +1,10 @@
--- An integer of 64 bits as one of 128 bits.
-use Rattle.std.proofs.Common.{◌≡◌, ℤ, pos, negsuc, ap, ◌∙◌, arith, w64}
-use Rattle.std.proofs.lemmas.Int.{to_z-of_z}
-use Rattle.std.specs.Int.{w128}
-use mir.Val.{SFits, of_z, to_z}
+-- A whole number by its sign and its magnitude.
+use Rattle.std.proofs.Common.{◌≡◌, ℤ, pos, negsuc, unsigned_abs, ap, ◌∙◌, Bool, arith}
+use Rattle.std.specs.Prelude.{int_lt}
+use Rattle.std.proofs.lemmas.Int.{ints}
+use Rattle.fixed_word.specs.Format.{with_sign}
+use Rattle.fixed_word.proofs.Sides.{lt_no, lt_yes}
 
-wider : (x : ℤ) → SFits w64 x → SFits w128 x
-wider (pos a) f = let h = f.sfits in record { sfits = omega arith }
-wider (negsuc a) f = let h = f.sfits in record { sfits = omega arith }
-
-pub widened : (x : ℤ) → SFits w64 x → to_z w128 (of_z w128 (to_z w64 (of_z w64 x))) ≡ x
-widened x f = ap (λ (z : ℤ). to_z w128 (of_z w128 z)) (to_z-of_z w64 x f) ∙ to_z-of_z w128 x (wider x f)
+pub whole_again : (x : ℤ) → with_sign (int_lt x (pos 0)) (unsigned_abs x) ≡ x
+whole_again (pos n) = ap (λ (b : Bool). with_sign b (unsigned_abs (pos n))) (lt_no (pos n) (pos 0) (omega (arith, ints))) ∙ omega (arith, ints)
+whole_again (negsuc n) = ap (λ (b : Bool). with_sign b (unsigned_abs (negsuc n))) (lt_yes (negsuc n) (pos 0) (omega (arith, ints))) ∙ omega (arith, ints)

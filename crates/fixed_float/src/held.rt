@@ -13,7 +13,6 @@ use crate::incoming::magnitude_of_parts;
 use crate::near::{bits_of_sum, whole_near};
 use crate::nearest::held_f64;
 use crate::parts::parts_of;
-use crate::whole::whole_far;
 use fixed_word::{RawWord, Rounding};
 
 /// Returns the float in units of `2^-frac`, rounded as named, or the nearest word if that does not fit. An infinity
@@ -69,20 +68,7 @@ fn wide_held<T: RawWord>(x: f64, frac: u32, rounding: Rounding) -> T
 {
     match whole_near(x, frac, rounding) {
         Some(whole) => whole_held(whole),
-        None => far_held(x, frac, rounding),
-    }
-}
-
-/// Does the same for every `f64`, in words of 64 bits first by a cast: narrower ones hold no such float. Precondition:
-/// it is not a NaN.
-#[inline]
-fn far_held<T: RawWord>(x: f64, frac: u32, rounding: Rounding) -> T
-    requires { NotNan x }
-    ensures { Some (T.value result) ≡ saturated_float T.SIGNED T.BITS x frac rounding }
-{
-    match whole_far(x, frac) {
-        Some(whole) if T::BITS == 64 => whole_held(whole),
-        _ => held_by_parts(x, frac, rounding),
+        None => held_by_parts(x, frac, rounding),
     }
 }
 
@@ -132,7 +118,7 @@ fn end_beside<T: RawWord>(x: f64) -> T
 
 /// Returns the lower end of the range if `below_zero`, and otherwise the upper end.
 #[inline]
-fn end_on<T: RawWord>(below_zero: bool) -> T
+pub(crate) fn end_on<T: RawWord>(below_zero: bool) -> T
     ensures { T.value result
         ≡ (if below_zero then lowest T.SIGNED T.BITS else highest T.SIGNED T.BITS) }
 {

@@ -1,19 +1,20 @@
 //! Conversions of floats to words.
 
-ghost use Rattle.std.specs.Prelude.{◌≡◌, ◌+◌, ◌*◌, ◌<◌, ◌≤◌, ◌^◌, pos};
+ghost use Rattle.std.specs.Prelude.{◌≡◌, ◌+◌, ◌*◌, ◌<◌, ◌≤◌, ◌^◌, pos, if◌then◌else◌};
 ghost use Rattle.fixed_word.specs.Format.{with_sign};
-ghost use Rattle.fixed_word.specs.Standing.{IsOutcomeOfRow, StandsFor, side_of};
+ghost use Rattle.fixed_word.specs.Standing.{IsOutcomeOfRow, StandsFor};
+ghost use Rattle.fixed_word.specs.declared.outcome.Side.TheVariants.{Above, Below, Fits};
 ghost use Rattle.fixed_word.specs.declared.rounding.Rounding.TheVariants.{Even};
 ghost use Rattle.fixed_kernel.specs.Rounded.{rounded};
 ghost use Rattle.fixed_kernel.specs.inside.Alike.{Alike};
 ghost use Rattle.fixed_float.specs.Rows.{units_of_float};
 
 use crate::binary::Binary;
+use crate::held::end_on;
 use crate::lowered::lowered;
 use crate::near::whole_near;
 use crate::parts::{LEAST, Parts, parts_of};
-use crate::whole::whole_far;
-use fixed_word::{Outcome, RawWord, Rounding, Side, outcome_of_magnitude};
+use fixed_word::{Outcome, RawWord, Rounding, Side};
 
 /// Returns the outcome of the float in units of `2^-frac`, rounded to the nearest, ties to even. Returns `None` for a
 /// NaN and the infinities.
@@ -38,18 +39,7 @@ pub fn from_float_round_of<X: Binary, T: RawWord>(
     let wide = x.widened();
     match whole_near(wide, frac, rounding) {
         Some(whole) => Some(outcome_of_signed(whole)),
-        None => far_outcome(wide, frac, rounding),
-    }
-}
-
-/// Does the same for every `f64`, in words of 64 bits first by a cast: narrower ones hold no such float.
-#[inline]
-fn far_outcome<T: RawWord>(x: f64, frac: u32, rounding: Rounding) -> Option<Outcome<T>>
-    ensures { IsOutcomeOfRow T.value T.SIGNED T.BITS (units_of_float x frac rounding) result }
-{
-    match whole_far(x, frac) {
-        Some(whole) if T::BITS == 64 => Some(outcome_of_signed(whole)),
-        _ => outcome_by_parts(x, frac, rounding),
+        None => outcome_by_parts(wide, frac, rounding),
     }
 }
 
@@ -58,24 +48,10 @@ fn far_outcome<T: RawWord>(x: f64, frac: u32, rounding: Rounding) -> Option<Outc
 fn outcome_of_signed<T: RawWord>(whole: i64) -> Outcome<T>
     ensures { StandsFor T.value T.SIGNED T.BITS whole result }
 {
+    let end = end_on::<T>(whole < 0).magnitude();
     Outcome {
         wrapped: T::residue(false, whole.cast_unsigned() as u128),
-        side: side_of::<T>(whole as i128),
-    }
-}
-
-/// Returns the side of the number. Most numbers fit, and are tested for that at once.
-#[inline]
-fn side_of<T: RawWord>(number: i128) -> Side
-    ensures { result ≡ side_of T.SIGNED T.BITS number }
-{
-    let (least, most) = (-(T::MIN.magnitude() as i128), T::MAX.magnitude() as i128);
-    if least <= number && number <= most {
-        Side::Fits
-    } else if number < least {
-        Side::Below
-    } else {
-        Side::Above
+        side: side_past(whole < 0, whole.unsigned_abs() > end),
     }
 }
 
@@ -101,7 +77,33 @@ fn outcome_of_parts<T: RawWord>(parts: Parts, frac: u32, rounding: Rounding) -> 
         (rounded (with_sign parts.below_zero (parts.digits * 2 ^ (parts.scale + frac)))
         (pos (2 ^ 1074)) rounding) result }
 {
-    outcome_of_magnitude(parts.below_zero, magnitude_of_parts(parts, frac, rounding))
+    outcome_of_size(parts.below_zero, magnitude_of_parts(parts, frac, rounding))
+}
+
+/// Returns the outcome of the magnitude with that sign.
+#[inline]
+fn outcome_of_size<T: RawWord>(below_zero: bool, magnitude: u128) -> Outcome<T>
+    ensures { StandsFor T.value T.SIGNED T.BITS (with_sign below_zero magnitude) result }
+{
+    let end: T = end_on(below_zero);
+    Outcome {
+        wrapped: T::residue(below_zero, magnitude),
+        side: side_past(below_zero, magnitude > end.magnitude() as u128),
+    }
+}
+
+/// Returns the side of a number with that sign, which fits unless it is past the end on its side.
+#[inline]
+fn side_past(below_zero: bool, past: bool) -> Side
+    ensures { result ≡ (if past then (if below_zero then Below else Above) else Fits) }
+{
+    if !past {
+        Side::Fits
+    } else if below_zero {
+        Side::Below
+    } else {
+        Side::Above
+    }
 }
 
 /// Returns the magnitude of `digits * 2^(scale + frac - LEAST)`, rounded as named with the sign. In place of one of
@@ -119,6 +121,9 @@ pub(crate) fn magnitude_of_parts(parts: Parts, frac: u32, rounding: Rounding) ->
         // After a shift by 63 places or more, only what the rounding adds is left.
         let by = (LEAST - up).min(63) as u32;
         lowered(parts.below_zero, parts.digits, by, rounding) as u128
+    } else if up <= LEAST + 11 {
+        // The digits are a whole number of less than 2^64 units.
+        (parts.digits << (up - LEAST) as u32) as u128
     } else {
         // After a shift by 64 places or more, each word truncates to 0, and a number above 0 is out of range.
         let by = (up - LEAST).min(64) as u32;

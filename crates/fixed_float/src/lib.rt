@@ -17,7 +17,6 @@ mod nearest;
 mod outgoing;
 mod packed;
 mod parts;
-mod whole;
 
 pub use binary::Binary;
 pub use compare::compare_float_of;
