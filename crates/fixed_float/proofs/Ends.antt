@@ -38,7 +38,7 @@ past_highest : (s : Bool) (n a : ℕ) → unsigned_abs (highest s n) < a → hig
 past_highest true n a h = omega (arith, ints)
 past_highest false n a h = omega (arith, ints)
 
-to_highest : (s : Bool) (n a : ℕ) → a ≤ unsigned_abs (highest s n) → InRange s n (pos a)
+pub to_highest : (s : Bool) (n a : ℕ) → a ≤ unsigned_abs (highest s n) → InRange s n (pos a)
 to_highest true n a h = let p = pow_pos (n - 1) in (omega (arith, ints), omega (arith, ints))
 to_highest false n a h = let p = pow_pos n in (omega (arith, ints), omega (arith, ints))
 
@@ -46,7 +46,7 @@ past_lowest : (s : Bool) (n a : ℕ) → unsigned_abs (lowest s n) < suc a → n
 past_lowest true n a h = omega (arith, ints)
 past_lowest false n a h = omega (arith, ints)
 
-to_lowest : (s : Bool) (n a : ℕ) → suc a ≤ unsigned_abs (lowest s n) → InRange s n (negsuc a)
+pub to_lowest : (s : Bool) (n a : ℕ) → suc a ≤ unsigned_abs (lowest s n) → InRange s n (negsuc a)
 to_lowest true n a h = let p = pow_pos (n - 1) in (omega (arith, ints), omega (arith, ints))
 to_lowest false n a h = absurd (omega (arith, ints))
 

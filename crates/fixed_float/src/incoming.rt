@@ -1,7 +1,7 @@
 //! Conversions of floats to words.
 
-ghost use Rattle.std.specs.Prelude.{◌≡◌, ◌+◌, ◌*◌, ◌<◌, ◌≤◌, ◌^◌, pos, if◌then◌else◌};
-ghost use Rattle.fixed_word.specs.Format.{with_sign};
+ghost use Rattle.std.specs.Prelude.{◌≡◌, ◌↔◌, ◌+◌, ◌*◌, ◌<◌, ◌≤◌, ◌^◌, IsTrue, pos, if◌then◌else◌};
+ghost use Rattle.fixed_word.specs.Format.{InRange, with_sign};
 ghost use Rattle.fixed_word.specs.Standing.{IsOutcomeOfRow, StandsFor};
 ghost use Rattle.fixed_word.specs.declared.outcome.Side.TheVariants.{Above, Below, Fits};
 ghost use Rattle.fixed_word.specs.declared.rounding.Rounding.TheVariants.{Even};
@@ -43,16 +43,33 @@ pub fn from_float_round_of<X: Binary, T: RawWord>(
     }
 }
 
-/// Returns the outcome of the whole number. A branch on the sign would be slow.
+/// Returns the outcome of the whole number.
 #[inline]
 fn outcome_of_signed<T: RawWord>(whole: i64) -> Outcome<T>
     ensures { StandsFor T.value T.SIGNED T.BITS whole result }
 {
-    let end = end_on::<T>(whole < 0).magnitude();
-    Outcome {
-        wrapped: T::residue(false, whole.cast_unsigned() as u128),
-        side: side_past(whole < 0, whole.unsigned_abs() > end),
+    let wrapped = T::residue(false, whole.cast_unsigned() as u128);
+    if is_held::<T>(whole) {
+        Outcome {
+            wrapped,
+            side: Side::Fits,
+        }
+    } else {
+        Outcome {
+            wrapped,
+            side: side_past(whole < 0, true),
+        }
     }
+}
+
+/// Returns whether the number is in the range, by one comparison of how far it is above the least one.
+#[inline]
+fn is_held<T: RawWord>(number: i64) -> bool
+    ensures { IsTrue result ↔ InRange T.SIGNED T.BITS number }
+{
+    let least = T::MIN.magnitude();
+    let most = T::MAX.magnitude().min(i64::MAX.cast_unsigned());
+    number.cast_unsigned().wrapping_add(least) <= least + most
 }
 
 /// Does the same for every `f64`, by its bits.
