@@ -38,27 +38,20 @@ pub fn from_float_round_of<X: Binary, T: RawWord>(
 {
     let wide = x.widened();
     match whole_near(wide, frac, rounding) {
-        Some(whole) => Some(outcome_of_signed(whole)),
-        None => outcome_by_parts(wide, frac, rounding),
+        Some(whole) if is_held::<T>(whole) => Some(outcome_of_held(whole)),
+        _ => outcome_by_parts(wide, frac, rounding),
     }
 }
 
-/// Returns the outcome of the whole number.
+/// Returns the outcome of a whole number in the range.
 #[inline]
-fn outcome_of_signed<T: RawWord>(whole: i64) -> Outcome<T>
+fn outcome_of_held<T: RawWord>(whole: i64) -> Outcome<T>
+    requires { InRange T.SIGNED T.BITS whole }
     ensures { StandsFor T.value T.SIGNED T.BITS whole result }
 {
-    let wrapped = T::residue(false, whole.cast_unsigned() as u128);
-    if is_held::<T>(whole) {
-        Outcome {
-            wrapped,
-            side: Side::Fits,
-        }
-    } else {
-        Outcome {
-            wrapped,
-            side: side_past(whole < 0, true),
-        }
+    Outcome {
+        wrapped: T::residue(false, whole.cast_unsigned() as u128),
+        side: Side::Fits,
     }
 }
 
@@ -97,7 +90,7 @@ fn outcome_of_parts<T: RawWord>(parts: Parts, frac: u32, rounding: Rounding) -> 
     outcome_of_size(parts.below_zero, magnitude_of_parts(parts, frac, rounding))
 }
 
-/// Returns the outcome of the magnitude with that sign.
+/// Returns the outcome of the magnitude with that sign. A branch on the sign would be slow.
 #[inline]
 fn outcome_of_size<T: RawWord>(below_zero: bool, magnitude: u128) -> Outcome<T>
     ensures { StandsFor T.value T.SIGNED T.BITS (with_sign below_zero magnitude) result }
