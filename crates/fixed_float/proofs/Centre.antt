@@ -60,7 +60,6 @@ finite_under (fin s m e) (fin t n k) b d w h = refl
 
 -- ---- the size as the larger of a float and its negation
 
-
 at_none : (a b : ℕ) → a ≡ 0 → (ltb a b || (eqb a b && true)) ≡ true
 at_none a b e = elim (cases_lt a b) [
   | inl l ↦ rw (lt-ltb a b l) refl

@@ -66,7 +66,7 @@ lt_is (fin r m e) (inf u) s t a b c C v w = absurd w
 lt_is (fin r m e) (fin u n k) s t a b c C v w =
     (λ i. below (v.0 i) (m * up e * down k) (w.0 i) (n * up k * down e))
     ∙ same_below s t (m * up e * down k) (n * up k * down e) (down e * down k) a b c (mul-pos (down_pos e) (down_pos k)) C
-        (left_over (m * up e) (down e) a c (down k) v.1) (right_over (n * up k) (down k) b c (down e) w.1)
+    (left_over (m * up e) (down e) a c (down k) v.1) (right_over (n * up k) (down k) b c (down e) w.1)
     ∙ below_is s t a b
 
 less_from : (x y : ℤ) → int_lt x y ≡ true → x <ℤ y
