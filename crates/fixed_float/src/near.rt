@@ -1,7 +1,6 @@
 //! Floats near 0, rounded to whole numbers by one sum.
 
-ghost use Rattle.std.specs.Prelude.{◌≡◌, ◌-ℤ◌, ◌<◌, ◌≤◌, ◌^◌, ℤ, Some, pos, if◌then◌else◌};
-ghost use Rattle.std.specs.Float.Ieee.{lt};
+ghost use Rattle.std.specs.Prelude.{◌≡◌, ◌-ℤ◌, ◌<◌, ◌≤◌, ◌^◌, ℤ, Some, pos};
 ghost use Rattle.fixed_word.specs.declared.rounding.Rounding.TheVariants.{Even};
 ghost use Rattle.fixed_float.specs.Rows.{units_of_float};
 ghost use Rattle.fixed_float.specs.inside.Small.{IsSmall};
@@ -34,19 +33,12 @@ fn even_near(x: f64, frac: u32) -> Option<i64>
     ensures { (whole : ℤ) → result ≡ Some whole → units_of_float x frac Even ≡ Some whole }
 {
     let bound = f64::from_bits((1073 - frac as u64) << 52);
-    if larger(x, -x) <= bound {
+    // Both comparisons compile to one of the size, where `abs` would be three.
+    if (-bound <= x) & (x <= bound) {
         Some(bits_of_sum(x, frac) as i64 - CENTRE_BITS)
     } else {
         None
     }
-}
-
-/// Returns the larger float. Of a float and its negation that is the size, in fewer steps than `abs` has here.
-#[inline]
-fn larger(x: f64, y: f64) -> f64
-    ensures { result ≡ (if lt x y then y else x) }
-{
-    if x < y { y } else { x }
 }
 
 /// Returns the bits of the sum of `CENTRE` and the float in units of `2^-frac`: they exceed `CENTRE_BITS` by the number

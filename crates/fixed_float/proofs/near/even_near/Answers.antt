@@ -1,9 +1,9 @@
-use Rattle.std.proofs.Common.{◌≡◌, ◌+◌, ◌-◌, ◌*◌, ◌%◌, ◌^◌, ◌<◌, ◌≤◌, ◌-ℤ◌, ℕ, ℤ, suc, pos, T, not, ap, sym, ◌∙◌, subst, arith, w64}
+use Rattle.std.proofs.Common.{◌≡◌, ◌+◌, ◌-◌, ◌*◌, ◌%◌, ◌^◌, ◌<◌, ◌≤◌, ◌-ℤ◌, ℕ, ℤ, suc, pos, ◌&&◌, T, not, ap, sym, ◌∙◌, subst, arith, w64}
 use Rattle.std.specs.Prelude.{Some}
 use Rattle.std.specs.Bool.{passes}
 use Rattle.std.specs.Float.{binary64}
 use Rattle.std.proofs.lemmas.Int.{ints, to_z_pos, to_z-of_z}
-use lib.Ieee.{le, nan_bits, of_bits}
+use lib.Ieee.{le, nan_bits, neg, of_bits}
 use mir.Val.{SFits, to_z}
 use Rattle.fixed_float.proofs.Fields.{packed_not_nan}
 use Rattle.fixed_float.proofs.Quick.{small_within}
@@ -26,15 +26,15 @@ pub bits_of_sum-requires-clause-small : goal.bits_of_sum-requires-clause-small
 bits_of_sum-requires-clause-small c =
     let g = c.args.frac in
     let x = c.args.x in
-    small_within x (passes _ c.well_formed.0.1) g c.requires ((λ i. le (sym c.larger.ensures i) (of_bits binary64 (sym (bound_is g c.requires) i))) ∙ c.if-larger-bound.true)
+    small_within x (passes _ c.well_formed.0.1) g c.requires ((λ i. le (neg (of_bits binary64 (sym (bound_is g c.requires) i))) x && le x (of_bits binary64 (sym (bound_is g c.requires) i))) ∙ c.if-bound-x.true)
 
 pub overflow_sub-result : goal.overflow_sub-result
 overflow_sub-result c =
     let h = c.bits_of_sum.ensures.bound in
     subst (SFits w64) (sym (read_as c.bits_of_sum.result h)) (apart_fits c.bits_of_sum.result h)
 
-pub returns-then-larger-bound : goal.returns-then-larger-bound
-returns-then-larger-bound c = λ whole e.
+pub returns-then-bound-x : goal.returns-then-bound-x
+returns-then-bound-x c = λ whole e.
     let h = c.bits_of_sum.ensures.bound in
     let same = read_as c.bits_of_sum.result h in
     c.bits_of_sum.ensures.units ∙ ap Some (sym same) ∙ ap Some (sym (to_z-of_z w64 _ (subst (SFits w64) (sym same) (apart_fits c.bits_of_sum.result h)))) ∙ e
