@@ -4,7 +4,7 @@ use Rattle.std.specs.Prelude.{Some}
 use native.Mathlib.Nat.{eq_of_mul-eq-mul_right, div-lt_iff_lt-mul, le_of_mul-le-mul_right, le_trans, lt_of_le_of_lt, mul_assoc, mul_comm, mul-le-mul_right, mul-pos}
 use lib.Pow.{pow-add, pow_pos}
 use Rattle.std.specs.Float.{Float, binary64, nan, inf, fin, float_is_finite, float_with_sign}
-use lib.Ieee.{add, down, fits, is_nan, le, mul, neg, of_bits, round, to_bits}
+use lib.Ieee.{add, down, fits, is_nan, le, lt, mul, neg, of_bits, round, to_bits}
 use lib.Ieee.Exact.{HasValue, round_exact}
 use lib.Ieee.Fits.{down_pos, nearest-le}
 use lib.Ieee.Nearest.{closest}
@@ -16,7 +16,7 @@ use Rattle.fixed_float.specs.Rows.{units_of_float}
 use Rattle.fixed_float.specs.inside.Parts.{AreParts}
 use Rattle.fixed_float.specs.inside.Small.{IsSmall}
 use Rattle.fixed_float.specs.declared.parts.Parts.{Parts}
-use Rattle.fixed_float.proofs.Centre.{abs_value, bits_at, closest_minus, closest_plus, finite_under, is_number, moved, size_between, size_under, value_at}
+use Rattle.fixed_float.proofs.Centre.{abs_value, bits_at, closest_minus, closest_plus, finite_under, is_number, moved, size_between, size_by_larger, size_under, value_at}
 use Rattle.fixed_float.proofs.Fields.{packed_value}
 use Rattle.fixed_float.proofs.Products.{times_is}
 use Rattle.fixed_float.proofs.Roundings.{closest_stepped}
@@ -173,10 +173,8 @@ module _ (x : Float) (fit : T (fits binary64 x)) (g : ℕ) (G : g ≤ 64) where
       let e : h.size ≡ d p.0 p.1 = same_size x h.sign p.0.below_zero h.size (d p.0 p.1) h.value p.1.value in
       rounded_by_sum p.0 p.1 (omega (arith, n_is p.0 p.1, h.small, ap (λ (z : ℕ). z * 2 ^ g) e))
 
-  pub small_within : (le (neg bound) x && le x bound) ≡ true → IsSmall x g
-  small_within h =
-      let both = both_true (le (neg bound) x) (le x bound) h in
-      let under = size_between x bound ((2 ^ 52 + 0) * 2 ^ (1072 - g)) (2 ^ 1074) bound_value both.0 both.1 in
+  small_under : le (float_with_sign false x) bound ≡ true → IsSmall x g
+  small_under under =
       let p = parts_exist x fit (finite_under x bound ((2 ^ 52 + 0) * 2 ^ (1072 - g)) (2 ^ 1074) bound_value under) in
       record {
         sign = p.0.below_zero;
@@ -184,3 +182,11 @@ module _ (x : Float) (fit : T (fits binary64 x)) (g : ℕ) (G : g ≤ 64) where
         value = p.1.value;
         small = omega (arith, n_is p.0 p.1, small p.0 p.1 under);
       }
+
+  pub small_between : (le (neg bound) x && le x bound) ≡ true → IsSmall x g
+  small_between h =
+      let both = both_true (le (neg bound) x) (le x bound) h in
+      small_under (size_between x bound ((2 ^ 52 + 0) * 2 ^ (1072 - g)) (2 ^ 1074) bound_value both.0 both.1)
+
+  pub small_by_larger : le (if lt x (neg x) then neg x else x) bound ≡ true → IsSmall x g
+  small_by_larger h = small_under (size_by_larger x bound ((2 ^ 52 + 0) * 2 ^ (1072 - g)) (2 ^ 1074) bound_value h)

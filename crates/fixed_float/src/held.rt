@@ -66,7 +66,7 @@ fn wide_held<T: RawWord>(x: f64, frac: u32, rounding: Rounding) -> T
     requires { NotNan x }
     ensures { Some (T.value result) ≡ saturated_float T.SIGNED T.BITS x frac rounding }
 {
-    match whole_near(x, frac, rounding) {
+    match whole_near::<T>(x, frac, rounding) {
         Some(whole) => whole_held(whole),
         None => held_by_parts(x, frac, rounding),
     }

@@ -37,7 +37,7 @@ pub fn from_float_round_of<X: Binary, T: RawWord>(
         (units_of_float (X.float x) frac rounding) result }
 {
     let wide = x.widened();
-    match whole_near(wide, frac, rounding) {
+    match whole_near::<T>(wide, frac, rounding) {
         Some(whole) if is_held::<T>(whole) => Some(outcome_of_held(whole)),
         _ => outcome_by_parts(wide, frac, rounding),
     }
