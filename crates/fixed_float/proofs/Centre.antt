@@ -1,8 +1,8 @@
 -- The sum with a float in which the last bit counts 1: it rounds to a whole number.
 use Rattle.std.proofs.Common.{◌≡◌, ◌+◌, ◌-◌, ◌*◌, ◌/◌, ◌%◌, ◌^◌, ◌<◌, ◌≤◌, ℕ, suc, Bool, true, false, ◌&&◌, ◌||◌, ltb, T, not, refl, ap, sym, ◌∙◌, subst, arith, inl, inr, true≢false, if◌then◌else◌}
 use lib.Dec.{eqb}
-use borrow.Author.Tests.{ne_eqb}
-use native.Mathlib.Nat.{add-mul, lt_of_mul-lt-mul_right, le_of_mul-le-mul_right, lt_of_lt_of_le, lt_of_le_of_lt, mul_assoc, mul_comm, mul_left_comm, mul-div_cancel, mul-le-mul_right, mul-lt-mul_of_pos_right, mul-mul-mul_comm, mul-pos}
+use borrow.Author.Tests.{eq-eqb, ne_eqb}
+use native.Mathlib.Nat.{eq_of_mul-eq-mul_right, add-mul, lt_of_mul-lt-mul_right, le_of_mul-le-mul_right, lt_of_lt_of_le, lt_of_le_of_lt, mul_assoc, mul_comm, mul_left_comm, mul-div_cancel, mul-le-mul_right, mul-lt-mul_of_pos_right, mul-mul-mul_comm, mul-pos}
 use Rattle.std.proofs.lemmas.Bool.{cases_lt, le-ltb, lt-ltb}
 use Rattle.std.proofs.lemmas.Nat.{div-add-mod', mod_below}
 use lib.Arith.{digits_div, digits_mod}
@@ -57,6 +57,63 @@ finite_under x (inf t) b d w h = absurd w
 finite_under nan (fin t n k) b d w h = absurd (true≢false (sym h))
 finite_under (inf s) (fin t n k) b d w h = absurd (true≢false (sym h))
 finite_under (fin s m e) (fin t n k) b d w h = refl
+
+-- ---- the size of a number between -y and y
+turned_way : (a b : ℕ) (r : Bool) → (ltb b a || (eqb a b && r)) ≡ true → (ltb b a || (eqb b a && true)) ≡ true
+turned_way a b r h = elim (cases_lt b a) [
+  | inl l ↦ rw (lt-ltb b a l) refl
+  | inr g ↦ elim (cases_lt a b) [
+    | inl k ↦
+        let e : ltb b a ≡ false = le-ltb b a g in
+        let q : eqb a b ≡ false = ne_eqb a b (omega arith) in
+        absurd (true≢false (sym h ∙ (λ i. e i || (q i && r))))
+    | inr k ↦ let e : b ≡ a = omega arith in rw (eq-eqb b a e, le-ltb b a g) refl
+  ]
+]
+
+pub size_between : (x y : Float) (b d : ℕ) → HasValue y false b d → le (neg y) x ≡ true → le x y ≡ true → le (float_with_sign false x) y ≡ true
+unfolding le lt eq neg float_with_sign
+size_between x nan b d w lo hi = absurd w
+size_between x (inf t) b d w lo hi = absurd w
+size_between x (fin true n k) b d w lo hi = absurd (true≢false w.0)
+size_between nan (fin false n k) b d w lo hi = absurd (true≢false (sym hi))
+size_between (inf false) (fin false n k) b d w lo hi = absurd (true≢false (sym hi))
+size_between (inf true) (fin false n k) b d w lo hi = absurd (true≢false (sym lo))
+size_between (fin false m e) (fin false n k) b d w lo hi = hi
+size_between (fin true m e) (fin false n k) b d w lo hi = turned_way (n * up k * down e) (m * up e * down k) _ lo
+
+-- ---- the size as the larger of a float and its negation
+
+at_none : (a b : ℕ) → a ≡ 0 → (ltb a b || (eqb a b && true)) ≡ true
+at_none a b e = elim (cases_lt a b) [
+  | inl l ↦ rw (lt-ltb a b l) refl
+  | inr g ↦ let q : a ≡ b = omega arith in rw (le-ltb a b g, eq-eqb a b q) refl
+]
+
+none_above : (a : ℕ) → ltb 0 a ≡ false → a ≡ 0
+none_above a e = elim (cases_lt 0 a) [
+  | inl l ↦ absurd (true≢false (sym (lt-ltb 0 a l) ∙ e))
+  | inr g ↦ omega arith
+]
+
+pub size_by_larger : (x y : Float) (b d : ℕ) → HasValue y false b d → le (if lt x (neg x) then neg x else x) y ≡ true → le (float_with_sign false x) y ≡ true
+unfolding le lt eq neg float_with_sign
+size_by_larger x nan b d w h = absurd w
+size_by_larger x (inf t) b d w h = absurd w
+size_by_larger x (fin true n k) b d w h = absurd (true≢false w.0)
+size_by_larger nan (fin false n k) b d w h = absurd (true≢false (sym h))
+size_by_larger (inf false) (fin false n k) b d w h = absurd (true≢false (sym h))
+size_by_larger (inf true) (fin false n k) b d w h = absurd (true≢false (sym h))
+size_by_larger (fin false m e) (fin false n k) b d w h = h
+size_by_larger (fin true m e) (fin false n k) b d w h = go (ltb 0 (m * up e * down e + m * up e * down e)) refl h
+  where
+    go : (c : Bool) → ltb 0 (m * up e * down e + m * up e * down e) ≡ c → le (if c then fin false m e else fin true m e) (fin false n k) ≡ true → le (fin false m e) (fin false n k) ≡ true
+    go true e i = i
+    go false q i =
+        let z : m * up e * down e ≡ 0 * down e = omega (arith, none_above (m * up e * down e + m * up e * down e) q) in
+        let y : m * up e ≡ 0 = eq_of_mul-eq-mul_right (down e) (down_pos e) (m * up e) 0 z in
+        let x : m * up e * down k ≡ 0 = ap (λ (v : ℕ). v * down k) y ∙ omega arith in
+        at_none (m * up e * down k) (n * up k * down e) x
 
 -- ---- the sum of ±n and b, over one divisor
 pub moved : (f : Format) (x y : Float) (s : Bool) (n b l : ℕ) → HasValue x s n (2 ^ l) → HasValue y false b (2 ^ l) → n < b

@@ -14,6 +14,7 @@ use Rattle.fixed_word.specs.declared.outcome.Side.{Side}
 use Rattle.fixed_word.specs.declared.outcome.Side.TheVariants.{Fits, Above, Below}
 use Rattle.fixed_word.specs.declared.rounding.Rounding.{Rounding}
 use Rattle.fixed_word.proofs.Nearest.{clamp_above, clamp_below}
+use Rattle.fixed_word.proofs.Sides.{side_above, side_below, side_fits}
 use Rattle.fixed_word.proofs.Standings.{clamp_same, range_from_side}
 use Rattle.fixed_word.proofs.Wraps.{width_pos, wrap_same}
 use Rattle.fixed_kernel.specs.inside.Alike.{Alike}
@@ -37,7 +38,7 @@ past_highest : (s : Bool) (n a : ℕ) → unsigned_abs (highest s n) < a → hig
 past_highest true n a h = omega (arith, ints)
 past_highest false n a h = omega (arith, ints)
 
-to_highest : (s : Bool) (n a : ℕ) → a ≤ unsigned_abs (highest s n) → InRange s n (pos a)
+pub to_highest : (s : Bool) (n a : ℕ) → a ≤ unsigned_abs (highest s n) → InRange s n (pos a)
 to_highest true n a h = let p = pow_pos (n - 1) in (omega (arith, ints), omega (arith, ints))
 to_highest false n a h = let p = pow_pos n in (omega (arith, ints), omega (arith, ints))
 
@@ -45,7 +46,7 @@ past_lowest : (s : Bool) (n a : ℕ) → unsigned_abs (lowest s n) < suc a → n
 past_lowest true n a h = omega (arith, ints)
 past_lowest false n a h = omega (arith, ints)
 
-to_lowest : (s : Bool) (n a : ℕ) → suc a ≤ unsigned_abs (lowest s n) → InRange s n (negsuc a)
+pub to_lowest : (s : Bool) (n a : ℕ) → suc a ≤ unsigned_abs (lowest s n) → InRange s n (negsuc a)
 to_lowest true n a h = let p = pow_pos (n - 1) in (omega (arith, ints), omega (arith, ints))
 to_lowest false n a h = absurd (omega (arith, ints))
 
@@ -72,6 +73,22 @@ module _ {T : Type 0} (value : T → ℤ) (s : Bool) (n : ℕ) (N : 0 < n) (end 
   held_is false m k e w K = (λ i. value (if ltb ((K ∙ ap unsigned_abs e) i) m then end else kept)) ∙ held_above m e w
   held_is true zero k e w K = (λ i. value (if ltb ((K ∙ ap unsigned_abs e) i) 0 then end else kept)) ∙ held_zero e w
   held_is true (suc a) k e w K = (λ i. value (if ltb ((K ∙ ap unsigned_abs e) i) (suc a) then end else kept)) ∙ held_below a e w
+
+-- ---- the side of such a number
+pub side_is : (s : Bool) (n : ℕ) (b : Bool) (m k : ℕ) (v : ℤ) → v ≡ (if b then lowest s n else highest s n) → k ≡ unsigned_abs v
+    → (if ltb k m then (if b then Below else Above) else Fits) ≡ side_of s n (with_sign b m)
+side_is s n b m k v e K = (λ i. if ltb ((K ∙ ap unsigned_abs e) i) m then (if b then Below else Above) else Fits) ∙ at b m
+  where
+    at : (b : Bool) (m : ℕ) → (if ltb (unsigned_abs (if b then lowest s n else highest s n)) m then (if b then Below else Above) else Fits) ≡ side_of s n (with_sign b m)
+    at false a = elim (cases_lt (unsigned_abs (highest s n)) a) [
+      | inl l ↦ rw (lt-ltb (unsigned_abs (highest s n)) a l) (sym (side_above s n (pos a) (past_highest s n a l)))
+      | inr g ↦ rw (le-ltb (unsigned_abs (highest s n)) a g) (let r = to_highest s n a g in sym (side_fits s n (pos a) r.0 r.1))
+    ]
+    at true zero = rw (le-ltb (unsigned_abs (lowest s n)) 0 (omega arith)) (let r = to_highest s n 0 (omega arith) in sym (side_fits s n (pos 0) r.0 r.1))
+    at true (suc a) = elim (cases_lt (unsigned_abs (lowest s n)) (suc a)) [
+      | inl l ↦ rw (lt-ltb (unsigned_abs (lowest s n)) (suc a) l) (sym (side_below s n (negsuc a) (past_lowest s n a l)))
+      | inr g ↦ rw (le-ltb (unsigned_abs (lowest s n)) (suc a) g) (let r = to_lowest s n a g in sym (side_fits s n (negsuc a) r.0 r.1))
+    ]
 
 -- ---- numbers of which every word keeps the same
 above_from_side : (s : Bool) (n : ℕ) (x : ℤ) → side_of s n x ≡ Above → highest s n <ℤ x

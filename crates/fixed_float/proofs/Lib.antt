@@ -12,4 +12,6 @@ pub mod Beside
 pub mod Sums
 pub mod Centre
 pub mod Quick
-pub mod Cast
+pub mod Halves
+pub mod Wide
+pub mod Limits

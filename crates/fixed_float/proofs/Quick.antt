@@ -1,12 +1,12 @@
 -- A float of at most 50 bits, rounded by its sum with 1.5 * 2 ^ 52.
-use Rattle.std.proofs.Common.{◌≡◌, ◌+◌, ◌-◌, ◌*◌, ◌/◌, ◌%◌, ◌^◌, ◌<◌, ◌≤◌, ℕ, suc, Bool, true, false, T, not, refl, ap, sym, ◌∙◌, subst, arith, lit<, lit≤, if◌then◌else◌}
+use Rattle.std.proofs.Common.{◌≡◌, ◌+◌, ◌-◌, ◌*◌, ◌/◌, ◌%◌, ◌^◌, ◌<◌, ◌≤◌, ℕ, suc, Bool, true, false, ◌&&◌, true≢false, T, not, refl, ap, sym, ◌∙◌, subst, arith, lit<, lit≤, if◌then◌else◌}
 use Rattle.std.specs.Prelude.{Some}
-use native.Mathlib.Nat.{div-lt_iff_lt-mul, le_of_mul-le-mul_right, le_trans, lt_of_le_of_lt, mul_assoc, mul_comm, mul-le-mul_right, mul-pos}
+use native.Mathlib.Nat.{eq_of_mul-eq-mul_right, div-lt_iff_lt-mul, le_of_mul-le-mul_right, le_trans, lt_of_le_of_lt, mul_assoc, mul_comm, mul-le-mul_right, mul-pos}
 use lib.Pow.{pow-add, pow_pos}
-use Rattle.std.specs.Float.{Float, binary64, float_with_sign}
-use lib.Ieee.{add, fits, is_nan, le, mul, of_bits, round, to_bits}
+use Rattle.std.specs.Float.{Float, binary64, nan, inf, fin, float_is_finite, float_with_sign}
+use lib.Ieee.{add, down, fits, is_nan, le, lt, mul, neg, of_bits, round, to_bits}
 use lib.Ieee.Exact.{HasValue, round_exact}
-use lib.Ieee.Fits.{nearest-le}
+use lib.Ieee.Fits.{down_pos, nearest-le}
 use lib.Ieee.Nearest.{closest}
 use lib.Ieee.Scale.{round_same}
 use Prim.Native.Nat.{compare}
@@ -14,8 +14,9 @@ use Rattle.fixed_word.specs.Format.{with_sign}
 use Rattle.fixed_word.specs.declared.rounding.Rounding.TheVariants.{Even}
 use Rattle.fixed_float.specs.Rows.{units_of_float}
 use Rattle.fixed_float.specs.inside.Parts.{AreParts}
+use Rattle.fixed_float.specs.inside.Small.{IsSmall}
 use Rattle.fixed_float.specs.declared.parts.Parts.{Parts}
-use Rattle.fixed_float.proofs.Centre.{abs_value, bits_at, closest_minus, closest_plus, finite_under, is_number, moved, size_under, value_at}
+use Rattle.fixed_float.proofs.Centre.{abs_value, bits_at, closest_minus, closest_plus, finite_under, is_number, moved, size_between, size_by_larger, size_under, value_at}
 use Rattle.fixed_float.proofs.Fields.{packed_value}
 use Rattle.fixed_float.proofs.Products.{times_is}
 use Rattle.fixed_float.proofs.Roundings.{closest_stepped}
@@ -66,6 +67,10 @@ beside_is true n h =
       is_number (round binary64 false r (2 ^ 1074)) false (closest r (2 ^ 1074) * 2 ^ 1074) (2 ^ 1074) (value_at binary64 r e.2 hi qlo qhi),
       bits_at binary64 r e.2 hi qlo qhi ∙ ap (λ (z : ℕ). 1074 * 2 ^ 52 + z) q ∙ omega (arith, c),
     )
+
+both_true : (a b : Bool) → (a && b) ≡ true → (a ≡ true) × (b ≡ true)
+both_true true b h = (refl, h)
+both_true false b h = absurd (true≢false (sym h))
 
 -- y is moved by c from the centre, up or down, where c is how many units x is, rounded
 pub record IsMoved (x : Float) (g : ℕ) (y : Float) : Type 0 where
@@ -134,23 +139,54 @@ module _ (x : Float) (fit : T (fits binary64 x)) (g : ℕ) (G : g ≤ 64) where
           let m : d * 2 ^ g ≤ (2 ^ 52 + 0) * 2 ^ (1072 - g) * 2 ^ g = mul-le-mul_right (2 ^ g) l in
           omega (arith, n_is, m, e)
 
+    module _ (few : n ≤ 2 ^ 50 * 2 ^ 1074) where
       sum_is : add binary64 (mul binary64 x power) centre ≡ round binary64 false (beside p.below_zero n (2 ^ 1074)) (2 ^ 1074)
-      sum_is = moved binary64 (mul binary64 x power) centre p.below_zero n ((2 ^ 52 + 2 ^ 51) * 2 ^ 1074) 1074 (scaled_value (lt_of_le_of_lt small (lit< tt))) centre_value (low_enough n (2 ^ 1074) (pow_pos 1074) small).1
+      sum_is = moved binary64 (mul binary64 x power) centre p.below_zero n ((2 ^ 52 + 2 ^ 51) * 2 ^ 1074) 1074 (scaled_value (lt_of_le_of_lt few (lit< tt))) centre_value (low_enough n (2 ^ 1074) (pow_pos 1074) few).1
 
       pub rounded_by_sum : IsMoved x g (add binary64 (mul binary64 x power) centre)
       unfolding Beside
       rounded_by_sum =
-          let b = beside_is p.below_zero n small in record {
+          let b = beside_is p.below_zero n few in record {
             below = p.below_zero;
             size = closest n (2 ^ 1074);
             number = subst (λ (y : Float). T (not (is_nan y))) (sym sum_is) b.0;
             bits = ap (to_bits binary64) sum_is ∙ b.1;
-            small = le_trans (closest_small n (2 ^ 1074) (pow_pos 1074) small) (lit≤ tt);
+            small = le_trans (closest_small n (2 ^ 1074) (pow_pos 1074) few) (lit≤ tt);
             row = row_of_parts x p g Even are ∙ ap Some (rounded_magnitude Even p.below_zero n (2 ^ 1074) (pow_pos 1074) ∙ ap (with_sign p.below_zero) (sym (closest_stepped n (2 ^ 1074) p.below_zero)));
           }
 
-  pub quick : le (float_with_sign false x) bound ≡ true → IsMoved x g (add binary64 (mul binary64 x power) centre)
-  quick under =
-      let finite = finite_under x bound ((2 ^ 52 + 0) * 2 ^ (1072 - g)) (2 ^ 1074) bound_value under in
-      let p = parts_exist x fit finite in
-      rounded_by_sum p.0 p.1 under
+  -- the same by the size
+  same_size : (y : Float) (s t : Bool) (a b : ℕ) → HasValue y s a (2 ^ 1074) → HasValue y t b (2 ^ 1074) → a ≡ b
+  same_size nan s t a b v w = absurd v
+  same_size (inf r) s t a b v w = absurd v
+  same_size (fin r m e) s t a b v w = eq_of_mul-eq-mul_right (down e) (down_pos e) a b (sym v.1 ∙ w.1)
+
+  finite_by : (y : Float) (s : Bool) (a c : ℕ) → HasValue y s a c → float_is_finite y ≡ true
+  unfolding float_is_finite
+  finite_by nan s a c v = absurd v
+  finite_by (inf r) s a c v = absurd v
+  finite_by (fin r m e) s a c v = refl
+
+  pub moved_by_sum : IsSmall x g → IsMoved x g (add binary64 (mul binary64 x power) centre)
+  moved_by_sum h =
+      let p = parts_exist x fit (finite_by x h.sign h.size (2 ^ 1074) h.value) in
+      let e : h.size ≡ d p.0 p.1 = same_size x h.sign p.0.below_zero h.size (d p.0 p.1) h.value p.1.value in
+      rounded_by_sum p.0 p.1 (omega (arith, n_is p.0 p.1, h.small, ap (λ (z : ℕ). z * 2 ^ g) e))
+
+  small_under : le (float_with_sign false x) bound ≡ true → IsSmall x g
+  small_under under =
+      let p = parts_exist x fit (finite_under x bound ((2 ^ 52 + 0) * 2 ^ (1072 - g)) (2 ^ 1074) bound_value under) in
+      record {
+        sign = p.0.below_zero;
+        size = d p.0 p.1;
+        value = p.1.value;
+        small = omega (arith, n_is p.0 p.1, small p.0 p.1 under);
+      }
+
+  pub small_between : (le (neg bound) x && le x bound) ≡ true → IsSmall x g
+  small_between h =
+      let both = both_true (le (neg bound) x) (le x bound) h in
+      small_under (size_between x bound ((2 ^ 52 + 0) * 2 ^ (1072 - g)) (2 ^ 1074) bound_value both.0 both.1)
+
+  pub small_by_larger : le (if lt x (neg x) then neg x else x) bound ≡ true → IsSmall x g
+  small_by_larger h = small_under (size_by_larger x bound ((2 ^ 52 + 0) * 2 ^ (1072 - g)) (2 ^ 1074) bound_value h)

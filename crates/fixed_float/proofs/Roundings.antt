@@ -1,6 +1,5 @@
 -- Equal fractions are rounded alike, and a whole number is not moved.
 use Rattle.std.proofs.Common.{◌≡◌, ◌+◌, ◌*◌, ◌/◌, ◌%◌, ◌<◌, ◌≤◌, ℕ, zero, suc, Bool, true, false, pos, refl, ap, sym, ◌∙◌, subst, arith, inl, inr, if◌then◌else◌, nat_le}
-use mathlib.Core.Bool.{not, beq}
 use native.Mathlib.Nat.{add-mul, mul-pos, mul_right_comm, zero-mul, lt_irrefl}
 use Rattle.std.proofs.lemmas.Bool.{cases_lt}
 use Rattle.std.proofs.lemmas.Bool.Decides.{nat_tests}

@@ -1,16 +1,18 @@
 //! Conversions of floats to the nearest word.
 
-ghost use Rattle.std.specs.Prelude.{◌≡◌, Bool, Some, if◌then◌else◌};
+ghost use Rattle.std.specs.Prelude.{◌≡◌, ◌≤◌, Bool, Some, if◌then◌else◌};
 ghost use Rattle.std.specs.Float.{NotNan, inf};
+ghost use Rattle.std.specs.Float.Ieee.{lt};
 ghost use Rattle.fixed_word.specs.Format.{clamp, highest, lowest, with_sign};
 ghost use Rattle.fixed_word.specs.Policies.{saturating};
+ghost use Rattle.fixed_word.specs.declared.rounding.Rounding.TheVariants.{Even};
 ghost use Rattle.fixed_float.specs.Rows.{saturated_float};
 
 use crate::binary::Binary;
 use crate::incoming::magnitude_of_parts;
-use crate::near::whole_near;
+use crate::near::{bits_of_sum, whole_near};
+use crate::nearest::held_f64;
 use crate::parts::parts_of;
-use crate::whole::whole_far;
 use fixed_word::{RawWord, Rounding};
 
 /// Returns the float in units of `2^-frac`, rounded as named, or the nearest word if that does not fit. An infinity
@@ -22,22 +24,51 @@ pub fn saturating_float_of<X: Binary, T: RawWord>(x: X, frac: u32, rounding: Rou
         ≡ saturated_float T.SIGNED T.BITS (X.float x) frac rounding }
 {
     let wide = x.widened();
-    match whole_near(wide, frac, rounding) {
-        Some(whole) => whole_held(whole),
-        None => far_held(wide, frac, rounding),
+    match rounding {
+        Rounding::Even if frac <= 64 && T::BITS <= 32 => even_held(wide, frac),
+        _ => wide_held(wide, frac, rounding),
     }
 }
 
-/// Does the same for every `f64`, in words of 64 bits first by a cast: narrower ones hold no such float. Precondition:
-/// it is not a NaN.
+/// Does the same for every `f64`, of words of at most 32 bits, by a sum. Loops do this without a branch. Preconditions:
+/// it is not a NaN, and `frac` is at most 64.
 #[inline]
-fn far_held<T: RawWord>(x: f64, frac: u32, rounding: Rounding) -> T
+fn even_held<T: RawWord>(x: f64, frac: u32) -> T
+    requires number { NotNan x }
+    requires narrow { T.BITS ≤ 32 }
+    requires frac { frac ≤ 64 }
+    ensures { Some (T.value result) ≡ saturated_float T.SIGNED T.BITS x frac Even }
+{
+    let least = held_f64(0, T::MIN.magnitude(), frac);
+    let most = held_f64(T::MAX.magnitude(), 0, frac);
+    let held = clamped(x, least, most);
+    // The lowest 32 bits of the centre's are 0.
+    T::residue(false, bits_of_sum(held, frac) as u128)
+}
+
+/// Returns the number nearest to `x` from `least` to `most`.
+#[inline]
+fn clamped(x: f64, least: f64, most: f64) -> f64
+    ensures { result ≡ (if lt x least then least else (if lt most x then most else x)) }
+{
+    if x < least {
+        least
+    } else if most < x {
+        most
+    } else {
+        x
+    }
+}
+
+/// Does the same for every `f64`, of every word. Precondition: it is not a NaN.
+#[inline]
+fn wide_held<T: RawWord>(x: f64, frac: u32, rounding: Rounding) -> T
     requires { NotNan x }
     ensures { Some (T.value result) ≡ saturated_float T.SIGNED T.BITS x frac rounding }
 {
-    match whole_far(x, frac) {
-        Some(whole) if T::BITS == 64 => whole_held(whole),
-        _ => held_by_parts(x, frac, rounding),
+    match whole_near::<T>(x, frac, rounding) {
+        Some(whole) => whole_held(whole),
+        None => held_by_parts(x, frac, rounding),
     }
 }
 
@@ -87,7 +118,7 @@ fn end_beside<T: RawWord>(x: f64) -> T
 
 /// Returns the lower end of the range if `below_zero`, and otherwise the upper end.
 #[inline]
-fn end_on<T: RawWord>(below_zero: bool) -> T
+pub(crate) fn end_on<T: RawWord>(below_zero: bool) -> T
     ensures { T.value result
         ≡ (if below_zero then lowest T.SIGNED T.BITS else highest T.SIGNED T.BITS) }
 {

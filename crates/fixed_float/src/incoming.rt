@@ -1,19 +1,20 @@
 //! Conversions of floats to words.
 
-ghost use Rattle.std.specs.Prelude.{◌≡◌, ◌+◌, ◌*◌, ◌<◌, ◌≤◌, ◌^◌, pos};
-ghost use Rattle.fixed_word.specs.Format.{with_sign};
+ghost use Rattle.std.specs.Prelude.{◌≡◌, ◌↔◌, ◌+◌, ◌*◌, ◌<◌, ◌≤◌, ◌^◌, IsTrue, pos, if◌then◌else◌};
+ghost use Rattle.fixed_word.specs.Format.{InRange, with_sign};
 ghost use Rattle.fixed_word.specs.Standing.{IsOutcomeOfRow, StandsFor};
+ghost use Rattle.fixed_word.specs.declared.outcome.Side.TheVariants.{Above, Below, Fits};
 ghost use Rattle.fixed_word.specs.declared.rounding.Rounding.TheVariants.{Even};
 ghost use Rattle.fixed_kernel.specs.Rounded.{rounded};
 ghost use Rattle.fixed_kernel.specs.inside.Alike.{Alike};
 ghost use Rattle.fixed_float.specs.Rows.{units_of_float};
 
 use crate::binary::Binary;
+use crate::held::end_on;
 use crate::lowered::lowered;
 use crate::near::whole_near;
 use crate::parts::{LEAST, Parts, parts_of};
-use crate::whole::whole_far;
-use fixed_word::{Outcome, RawWord, Rounding, outcome_of_magnitude};
+use fixed_word::{Outcome, RawWord, Rounding, Side};
 
 /// Returns the outcome of the float in units of `2^-frac`, rounded to the nearest, ties to even. Returns `None` for a
 /// NaN and the infinities.
@@ -36,29 +37,32 @@ pub fn from_float_round_of<X: Binary, T: RawWord>(
         (units_of_float (X.float x) frac rounding) result }
 {
     let wide = x.widened();
-    match whole_near(wide, frac, rounding) {
-        Some(whole) => Some(outcome_of_signed(whole)),
-        None => far_outcome(wide, frac, rounding),
+    match whole_near::<T>(wide, frac, rounding) {
+        Some(whole) if is_held::<T>(whole) => Some(outcome_of_held(whole)),
+        _ => outcome_by_parts(wide, frac, rounding),
     }
 }
 
-/// Does the same for every `f64`, in words of 64 bits first by a cast: narrower ones hold no such float.
+/// Returns the outcome of a whole number in the range.
 #[inline]
-fn far_outcome<T: RawWord>(x: f64, frac: u32, rounding: Rounding) -> Option<Outcome<T>>
-    ensures { IsOutcomeOfRow T.value T.SIGNED T.BITS (units_of_float x frac rounding) result }
-{
-    match whole_far(x, frac) {
-        Some(whole) if T::BITS == 64 => Some(outcome_of_signed(whole)),
-        _ => outcome_by_parts(x, frac, rounding),
-    }
-}
-
-/// Returns the outcome of the whole number.
-#[inline]
-fn outcome_of_signed<T: RawWord>(whole: i64) -> Outcome<T>
+fn outcome_of_held<T: RawWord>(whole: i64) -> Outcome<T>
+    requires { InRange T.SIGNED T.BITS whole }
     ensures { StandsFor T.value T.SIGNED T.BITS whole result }
 {
-    outcome_of_magnitude(whole < 0, whole.unsigned_abs() as u128)
+    Outcome {
+        wrapped: T::residue(false, whole.cast_unsigned() as u128),
+        side: Side::Fits,
+    }
+}
+
+/// Returns whether the number is in the range, by one comparison of how far it is above the least one.
+#[inline]
+fn is_held<T: RawWord>(number: i64) -> bool
+    ensures { IsTrue result ↔ InRange T.SIGNED T.BITS number }
+{
+    let least = T::MIN.magnitude();
+    let most = T::MAX.magnitude().min(i64::MAX.cast_unsigned());
+    number.cast_unsigned().wrapping_add(least) <= least + most
 }
 
 /// Does the same for every `f64`, by its bits.
@@ -83,7 +87,33 @@ fn outcome_of_parts<T: RawWord>(parts: Parts, frac: u32, rounding: Rounding) -> 
         (rounded (with_sign parts.below_zero (parts.digits * 2 ^ (parts.scale + frac)))
         (pos (2 ^ 1074)) rounding) result }
 {
-    outcome_of_magnitude(parts.below_zero, magnitude_of_parts(parts, frac, rounding))
+    outcome_of_size(parts.below_zero, magnitude_of_parts(parts, frac, rounding))
+}
+
+/// Returns the outcome of the magnitude with that sign. A branch on the sign would be slow.
+#[inline]
+fn outcome_of_size<T: RawWord>(below_zero: bool, magnitude: u128) -> Outcome<T>
+    ensures { StandsFor T.value T.SIGNED T.BITS (with_sign below_zero magnitude) result }
+{
+    let end: T = end_on(below_zero);
+    Outcome {
+        wrapped: T::residue(below_zero, magnitude),
+        side: side_past(below_zero, magnitude > end.magnitude() as u128),
+    }
+}
+
+/// Returns the side of a number with that sign, which fits unless it is past the end on its side.
+#[inline]
+fn side_past(below_zero: bool, past: bool) -> Side
+    ensures { result ≡ (if past then (if below_zero then Below else Above) else Fits) }
+{
+    if !past {
+        Side::Fits
+    } else if below_zero {
+        Side::Below
+    } else {
+        Side::Above
+    }
 }
 
 /// Returns the magnitude of `digits * 2^(scale + frac - LEAST)`, rounded as named with the sign. In place of one of
@@ -101,6 +131,9 @@ pub(crate) fn magnitude_of_parts(parts: Parts, frac: u32, rounding: Rounding) ->
         // After a shift by 63 places or more, only what the rounding adds is left.
         let by = (LEAST - up).min(63) as u32;
         lowered(parts.below_zero, parts.digits, by, rounding) as u128
+    } else if up <= LEAST + 11 {
+        // The digits are a whole number of less than 2^64 units.
+        (parts.digits << (up - LEAST) as u32) as u128
     } else {
         // After a shift by 64 places or more, each word truncates to 0, and a number above 0 is out of range.
         let by = (up - LEAST).min(64) as u32;

@@ -15,8 +15,8 @@ mod lowered;
 mod near;
 mod nearest;
 mod outgoing;
+mod packed;
 mod parts;
-mod whole;
 
 pub use binary::Binary;
 pub use compare::compare_float_of;

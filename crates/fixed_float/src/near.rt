@@ -1,19 +1,21 @@
 //! Floats near 0, rounded to whole numbers by one sum.
 
-ghost use Rattle.std.specs.Prelude.{◌≡◌, ◌≤◌, ℤ, Some};
+ghost use Rattle.std.specs.Prelude.{◌≡◌, ◌-ℤ◌, ◌<◌, ◌≤◌, ◌^◌, ℤ, IsTrue, Some, pos, if◌then◌else◌};
+ghost use Rattle.std.specs.Float.Ieee.{lt};
 ghost use Rattle.fixed_word.specs.declared.rounding.Rounding.TheVariants.{Even};
 ghost use Rattle.fixed_float.specs.Rows.{units_of_float};
+ghost use Rattle.fixed_float.specs.inside.Small.{IsSmall};
 
-use fixed_word::Rounding;
+use fixed_word::{RawWord, Rounding};
 
 /// Returns the float in units of `2^-frac`, rounded to the nearest, ties to even. `None` decides nothing: the rounding
-/// is another one, or there are more than `2^50` units.
+/// is another one, or there are more than `2^50` units. The word is one of those to which floats are converted.
 #[inline]
-pub(crate) fn whole_near(x: f64, frac: u32, rounding: Rounding) -> Option<i64>
+pub(crate) fn whole_near<T: RawWord>(x: f64, frac: u32, rounding: Rounding) -> Option<i64>
     ensures { (whole : ℤ) → result ≡ Some whole → units_of_float x frac rounding ≡ Some whole }
 {
     match rounding {
-        Rounding::Even if frac <= 64 => even_near(x, frac),
+        Rounding::Even if frac <= 64 => even_near::<T>(x, frac),
         _ => None,
     }
 }
@@ -25,18 +27,52 @@ const CENTRE: f64 = 6755399441055744.0;
 /// The bits of `CENTRE`.
 const CENTRE_BITS: i64 = 0x4338_0000_0000_0000;
 
-/// Does the same for the rounding to the nearest, by a sum with `CENTRE`.
+/// Does the same for the rounding to the nearest.
 #[inline]
-fn even_near(x: f64, frac: u32) -> Option<i64>
+fn even_near<T: RawWord>(x: f64, frac: u32) -> Option<i64>
     requires { frac ≤ 64 }
     ensures { (whole : ℤ) → result ≡ Some whole → units_of_float x frac Even ≡ Some whole }
 {
-    let bound = f64::from_bits((1073 - frac as u64) << 52);
-    if x.abs() <= bound {
-        let units = x * f64::from_bits((1023 + frac as u64) << 52);
-        let sum = units + CENTRE;
-        Some(sum.to_bits() as i64 - CENTRE_BITS)
+    if is_near::<T>(x, frac) {
+        Some(bits_of_sum(x, frac) as i64 - CENTRE_BITS)
     } else {
         None
     }
+}
+
+/// Returns whether there are at most `2^50` units. Most floats in range of a narrow word are: two branches. To those
+/// beyond, in range of a word of 64 bits, a branch on each side would be slow.
+#[inline]
+fn is_near<T: RawWord>(x: f64, frac: u32) -> bool
+    requires { frac ≤ 64 }
+    ensures { IsTrue result → IsSmall x frac }
+{
+    let bound = f64::from_bits((1073 - frac as u64) << 52);
+    if T::BITS <= 32 {
+        (-bound <= x) & (x <= bound)
+    } else {
+        larger(x, -x) <= bound
+    }
+}
+
+/// Returns the larger float.
+#[inline]
+fn larger(x: f64, y: f64) -> f64
+    ensures { result ≡ (if lt x y then y else x) }
+{
+    if x < y { y } else { x }
+}
+
+/// Returns the bits of the sum of `CENTRE` and the float in units of `2^-frac`: they exceed `CENTRE_BITS` by the number
+/// of units, rounded to the nearest, ties to even. Precondition: there are at most `2^50` units.
+#[inline]
+pub(crate) fn bits_of_sum(x: f64, frac: u32) -> u64
+    requires frac { frac ≤ 64 }
+    requires small { IsSmall x frac }
+    ensures units { units_of_float x frac Even ≡ Some (pos result -ℤ pos 0x4338_0000_0000_0000) }
+    ensures bound { result < 2 ^ 63 }
+{
+    let units = x * f64::from_bits((1023 + frac as u64) << 52);
+    let sum = units + CENTRE;
+    sum.to_bits()
 }

@@ -1,16 +1,12 @@
-use Rattle.std.proofs.Common.{◌≡◌, ℤ, pos, negsuc, unsigned_abs, ℕ, ap, sym, ◌∙◌, refl, subst, Bool, true, arith, w64}
+use Rattle.std.proofs.Common.{◌≡◌, ℤ, pos, negsuc, ℕ, ap, sym, ◌∙◌, subst, Bool, true, arith, w64}
 use Rattle.std.specs.Prelude.{Some, int_lt}
 use Rattle.std.proofs.lemmas.Int.{ints, to_z-of_z}
 use mir.Val.{SFits, of_z, to_z}
 use Rattle.fixed_word.specs.Format.{InRange, with_sign, wrap, clamp}
-use Rattle.fixed_word.proofs.Sides.{lt_no, lt_yes}
 use Rattle.fixed_word.proofs.Standings.{clamp_same}
 use Rattle.fixed_word.proofs.Wraps.{wrap_same}
+use Rattle.fixed_float.proofs.Wide.{whole_again}
 use Rattle.fixed_float.proofs.held.whole_held.Goals as goal
-
-whole_again : (x : ℤ) → with_sign (int_lt x (pos 0)) (unsigned_abs x) ≡ x
-whole_again (pos n) = ap (λ (b : Bool). with_sign b (unsigned_abs (pos n))) (lt_no (pos n) (pos 0) (omega (arith, ints))) ∙ omega (arith, ints)
-whole_again (negsuc n) = ap (λ (b : Bool). with_sign b (unsigned_abs (negsuc n))) (lt_yes (negsuc n) (pos 0) (omega (arith, ints))) ∙ omega (arith, ints)
 
 in_word : (x : ℤ) → SFits w64 x → InRange true 64 x
 in_word (pos n) f = let h = f.sfits in (omega (arith, ints), omega (arith, ints))

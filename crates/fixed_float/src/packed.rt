@@ -1,0 +1,26 @@
+//! Floats that hold a whole number in their lowest bits.
+
+ghost use Rattle.std.specs.Prelude.{◌≡◌, ◌+◌, ◌*◌, ◌<◌, ◌≤◌, ◌^◌, false};
+ghost use Rattle.std.specs.Float.Ieee.Exact.{HasValue};
+
+/// Returns the float `(2^52 + low) * 2^by / 2^frac`, whose lowest 52 bits are `low`.
+#[inline]
+pub(crate) fn packed_f64(low: u64, by: u32, frac: u32) -> f64
+    requires low { low < 2 ^ 52 }
+    requires by { by ≤ 32 }
+    requires frac { frac ≤ 64 }
+    ensures { HasValue result false ((2 ^ 52 + low) * 2 ^ by) (2 ^ frac) }
+{
+    f64::from_bits((((1075 + by - frac) as u64) << 52) + low)
+}
+
+/// Returns the float `(2^23 + low) * 2^by / 2^frac`, whose lowest 23 bits are `low`.
+#[inline]
+pub(crate) fn packed_f32(low: u32, by: u32, frac: u32) -> f32
+    requires low { low < 2 ^ 23 }
+    requires by { by ≤ 16 }
+    requires frac { frac ≤ 64 }
+    ensures { HasValue result false ((2 ^ 23 + low) * 2 ^ by) (2 ^ frac) }
+{
+    f32::from_bits(((150 + by - frac) << 23) + low)
+}
