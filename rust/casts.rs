@@ -1,5 +1,5 @@
-//! Casts between integers and floats, which the proved language has as calls of its std, and of integers to words of the
-//! other sign, which Rust's std has from 1.87 on. Where std has a method, its own goes first.
+//! Casts of integers to `f32`, which the proved language has as calls of its std, and to words of the other sign, which
+//! Rust's std has from 1.87 on. Where std has a method, its own goes first.
 
 /// The `f32` nearest to `n`, and of two as near the one whose last bit is 0: so Rust's reference defines `as`.
 #[inline]
@@ -7,29 +7,10 @@ pub fn nearest_i64_to_f32(n: i64) -> f32 {
     n as f32
 }
 
-/// The `f64` nearest to `n`, and of two as near the one whose last bit is 0.
-#[inline]
-pub fn nearest_i64_to_f64(n: i64) -> f64 {
-    n as f64
-}
-
 /// The `f32` nearest to `n`, and of two as near the one whose last bit is 0.
 #[inline]
 pub fn nearest_u64_to_f32(n: u64) -> f32 {
     n as f32
-}
-
-/// The `f64` nearest to `n`, and of two as near the one whose last bit is 0.
-#[inline]
-pub fn nearest_u64_to_f64(n: u64) -> f64 {
-    n as f64
-}
-
-/// `x` without its fraction, or the nearest `i64` if that does not fit, and 0 for a NaN: so Rust's reference defines
-/// `as`.
-#[inline]
-pub fn saturating_f64_to_i64(x: f64) -> i64 {
-    x as i64
 }
 
 /// The signed word of the same bits.

@@ -54,9 +54,8 @@
 //!   between types, `From` and `TryFrom`, [`Sum`](core::iter::Sum) and [`Product`](core::iter::Product), `{:b}` to `{:X}`,
 //!   and replies as results, which forward to proved calls; `{:e}` and `{:E}`, which move the point in a proved text and
 //!   round it; and that a format holds every number that `From` takes, which they assert at compile time.
-//! - `rust/casts.rs`: that `as` from integers to floats rounds to the nearest, ties to even, and from floats to `i64`
-//!   drops the fraction and holds the ends, as the Rust reference states; with a feature `rust/memory.rs`, which
-//!   forwards to `alloc`.
+//! - `rust/casts.rs`: that `as` from integers to `f32` rounds to the nearest, ties to even, as the Rust reference states;
+//!   with a feature `rust/memory.rs`, which forwards to `alloc`.
 //! - A `usize` of 64 bits, as in every proof. On smaller targets nothing is proved of lengths and indexes.
 //! - Every implementation of this library's traits in another crate. Nothing is proved of one, nor of a generic call
 //!   that uses it. The traits of words and floats are sealed, since a word that misstates itself would break every call.

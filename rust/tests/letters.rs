@@ -13,11 +13,10 @@ use std::fs;
 const WRITTEN: &str = include_str!(concat!(env!("OUT_DIR"), "/library.rs"));
 
 /// Forms of sources, and what Rust has in their place.
-const FORMS: [(&str, &str); 13] = [
+const FORMS: [(&str, &str); 12] = [
     ("use std::alloc::AllocError;", ""),
     ("std::alloc", "crate::memory"),
     ("std::num::{nearest_i64_to_f32", "crate::casts::{nearest_i64_to_f32"),
-    ("std::num::saturating_f64_to_i64", "crate::casts::saturating_f64_to_i64"),
     ("Valued: Copy {", "Valued: Copy + crate::sealed::Sealed {"),
     ("Binary: Copy {", "Binary: Copy + crate::sealed::Sealed {"),
     ("type Unsigned: RawWord", "type Unsigned: UnsignedWord"),
