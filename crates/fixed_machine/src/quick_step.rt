@@ -6,6 +6,7 @@ ghost use Rattle.std.specs.List.{All};
 ghost use Rattle.fixed_word.specs.Format.{fits};
 ghost use Rattle.fixed_script.specs.Names.{arity};
 ghost use Rattle.fixed_script.specs.Text.{Apply};
+ghost use Rattle.fixed_text.specs.declared.names.WordName.{WordName};
 ghost use Rattle.fixed_text.specs.Words.{is_signed as signed, width as width_in};
 ghost use Rattle.fixed_machine.specs.Machine.{cell_at as cell_in, is_mismatched as mismatched};
 ghost use Rattle.fixed_machine.specs.Step.{IsCell, IsStepOfLine, cell_of, cells_of, state_in};
@@ -33,12 +34,12 @@ fn is_number<T: Word>(line: QuickLine) -> bool
 /// Returns whether the operands have the numbers of fraction bits that the operation requires.
 #[inline(always)]
 #[tactic(auto, unfolding(crate::specs::Machine::is_mismatched))]
-fn is_matched(word: WordName, registers: &[Register], line: QuickLine, applied: Applied) -> bool
+fn is_matched(registers: &[Register], line: QuickLine, applied: Applied) -> bool
     requires dest { line.dest < length registers.now }
     requires a { line.a < length registers.now }
     requires b { line.b < length registers.now }
     requires c { line.c < length registers.now }
-    ensures { result ≡ true → mismatched (state_in word (cells_of registers.now))
+    ensures { result ≡ true → (word : WordName) → mismatched (state_in word (cells_of registers.now))
         (Apply line.dest applied.policy applied.op (quick_operands (arity applied.op) line) None) ≡ false }
 {
     let fraction = registers[line.dest].fraction;
@@ -99,7 +100,7 @@ fn answer_of_applied<T: Word>(
         Some(second) => second,
         None => return None,
     };
-    if !is_matched(word, registers, line, applied) {
+    if !is_matched(registers, line, applied) {
         return None;
     }
     let taken = OperandRegisters {

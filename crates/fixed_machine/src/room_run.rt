@@ -156,7 +156,7 @@ fn answer_lines(word: WordName, lines: &[u8], room: &mut Room) -> Result<(), Cau
 }
 
 /// Returns the header of a script, and where its lines begin, or `None` if its first piece is not a header.
-fn open(script: &[u8]) -> Option<(Header<'_>, usize)>
+fn open_script(script: &[u8]) -> Option<(Header<'_>, usize)>
     ensures none { IfNone result (script_run script.now ≡ stopped None (Cause.Syntax 1)) }
     ensures some { IfSome result (λ found. IsOpened script.now found.0 found.1) }
 {
@@ -192,7 +192,7 @@ pub fn run_in(script: &[u8], room: &mut Room) -> Result<(), Cause>
     ensures tells { IsAnswerOfRun (script_run script.now) result room.new }
     ensures kept { KeepsRoom room.old room.new }
 {
-    match open(script) {
+    match open_script(script) {
         Some((header, end)) => run_from(script, &header, end, room),
         None => {
             room.clear();
@@ -206,7 +206,7 @@ pub fn run_in(script: &[u8], room: &mut Room) -> Result<(), Cause>
 pub fn run(alloc: Global, script: &[u8]) -> Result<Answers, ScriptFault>
     ensures { IsAnswerOfMeaning (meaning script.now) result }
 {
-    let Some((header, end)) = open(script) else {
+    let Some((header, end)) = open_script(script) else {
         return Err(ScriptFault::Script(Cause::Syntax(1)));
     };
     let mut room = match Room::of_size(alloc, spaces_in(&script[..end]), 2 * script.len()) {

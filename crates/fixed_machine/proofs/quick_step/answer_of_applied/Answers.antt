@@ -30,5 +30,5 @@ returns g c =
     let second = second_in_word g.T.RawWord.SIGNED g.T.Valued.BITS c.args.word (cells_of registers) line (arity op) (cell_of c.in-Some.second) c.requires.signed c.requires.bits c.in-Some.ensures in
     applied_answer g.T.RawWord.SIGNED g.T.Valued.BITS c.args.word (cells_of registers) line c.args.applied.policy op
     (record { a = get_or registers line.a (record { magnitude = 0; fraction = 0; below_zero = false }); b = c.in-Some.second; c = get_or registers line.c (record { magnitude = 0; fraction = 0; below_zero = false }) })
-    c.args.number (whole_answer c.in-Ok.answer) c.requires.signed c.requires.bits (are_there registers line c.requires.dest c.requires.a c.requires.b c.requires.c) offered (c.is_matched.ensures matches)
+    c.args.number (whole_answer c.in-Ok.answer) c.requires.signed c.requires.bits (are_there registers line c.requires.dest c.requires.a c.requires.b c.requires.c) offered (c.is_matched.ensures matches c.args.word)
     (held_is registers line.a (record { magnitude = 0; fraction = 0; below_zero = false }) c.requires.a) second (held_is registers line.c (record { magnitude = 0; fraction = 0; below_zero = false }) c.requires.c) c.in-Ok.ensures

@@ -1,7 +1,7 @@
 use Rattle.std.proofs.Common.{None, arith}
 use Rattle.std.proofs.lemmas.List.{nil_from_length}
 use Rattle.fixed_machine.proofs.Runs.{run_of_nil, run_of_pieces}
-use Rattle.fixed_machine.proofs.room_run.open.Goals as goal
+use Rattle.fixed_machine.proofs.room_run.open_script.Goals as goal
 
 pub returns-then-is_empty-clause-none : goal.returns-then-is_empty-clause-none
 returns-then-is_empty-clause-none c = run_of_nil c.args.script.now (nil_from_length c.args.script.now (grind arith))
