@@ -56,6 +56,9 @@ ALLOWED = [
     Allowed(ADAPTERS, "impl", "impl<W: Write> Sink for StdSink<W> {", 1, ADAPTED),
     Allowed(ADAPTERS, "impl", "impl<W: Write> Sink for StdErrors<W> {", 1, ADAPTED),
     Allowed("crates/fixed_calc/src/status.rt", "drop", "Status::Script(_) => 1,", 1, "Status has no drop of its own"),
+    *(Allowed("crates/fixed_machine/src/answer.rt", "drop", line, 1, "answers have no drop of their own")
+      for line in ("SignedAnswer::Bits(bits) => Answer::Bits(with_sign(bits.below_zero, bits.magnitude)),",
+                   "SignedAnswer::Flagged(bits, verdict) => {")),
     *(Allowed(f"crates/{crate}/src/reply.rt", "drop", line, 1, "replies have no drop of their own")
       for crate, line in [("fixed_filter", "Reply::Value(output) => Ok(output),"),
                           ("fixed_filter", "Reply::Overflow(tap) => Err(TapOverflow { tap }),"),
