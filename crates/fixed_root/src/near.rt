@@ -19,7 +19,7 @@ struct Guess {
     reciprocal: u64,
 }
 
-/// Returns numbers near the root of `top 2^-64`, none of which is above it. The root is at most one unit below.
+/// Returns a number near the root of `top 2^-64`, and one near its reciprocal.
 #[inline]
 fn guess_of(top: u64) -> Guess {
     let first = RECIPROCALS[(top >> 57) as usize] as u64;
@@ -36,7 +36,7 @@ fn guess_of(top: u64) -> Guess {
     }
 }
 
-/// Returns a number near the root of a number whose first or second bit is set: the root, or 1 less.
+/// Returns a number near the root of a number whose first or second bit is set.
 #[inline]
 pub(crate) fn near_root(number: u64) -> u32 {
     (guess_of(number).root % (1 << 32)) as u32

@@ -5,8 +5,8 @@ ghost use Rattle.fixed_root.specs.Root.{root_of};
 
 use crate::near::{near_double_root, near_root};
 
-/// Returns the root of a number, rounded down: a number near it, or 1 more, and where neither is the root, which was
-/// never seen, the one that std finds.
+/// Returns the root of a number, rounded down: a number near it, or 1 more, and where neither is the root, the one that
+/// std finds.
 #[inline]
 pub fn root_of_word(number: u64) -> u64
     ensures square_le { result * result ≤ number }
