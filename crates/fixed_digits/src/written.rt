@@ -8,6 +8,9 @@ ghost use Rattle.fixed_digits.specs.inside.Digits.{eight_digits, four_digits, pa
 static PAIRS: [u8; 200] =
     *b"00010203040506070809101112131415161718192021222324252627282930313233343536373839404142434445464748495051525354555657585960616263646566676869707172737475767778798081828384858687888990919293949596979899";
 
+/// A millionth in units of `2^-57`, rounded up.
+const MILLIONTH: u64 = 144_115_188_076;
+
 /// Writes the two digits of a number below 100 at a place.
 #[inline(always)]
 fn put_pair(pair: u32, buffer: &mut [u8], at: usize)
@@ -32,15 +35,22 @@ fn put_four(four: u32, buffer: &mut [u8], at: usize)
     put_pair(four / 100, buffer, at);
 }
 
-/// Writes the eight digits of a number below 100,000,000 at a place.
+/// Writes the eight digits of a number below 100,000,000 at a place. `first` is its millionth in units of `2^-32`, and each
+/// step takes what is below 1 of it a hundred times.
 #[inline(always)]
 fn put_eight(eight: u32, buffer: &mut [u8], at: usize)
     requires eight { eight < 100000000 }
     requires room { at + 8 ≤ length buffer.old }
     ensures { drop at buffer.new ≡ eight_digits eight ++ drop (at + 8) buffer.old }
 {
-    put_four(eight % 10_000, buffer, at + 4);
-    put_four(eight / 10_000, buffer, at);
+    let first = (u64::from(eight) * MILLIONTH >> 25) + 1;
+    let second = first % (1 << 32) * 100;
+    let third = second % (1 << 32) * 100;
+    let fourth = third % (1 << 32) * 100;
+    put_pair((fourth >> 32) as u32, buffer, at + 6);
+    put_pair((third >> 32) as u32, buffer, at + 4);
+    put_pair((second >> 32) as u32, buffer, at + 2);
+    put_pair((first >> 32) as u32, buffer, at);
 }
 
 /// Writes the decimal of a number below 100 so that it ends before `end`, and returns where it begins.
