@@ -11,3 +11,4 @@ pub mod Lacks
 pub mod QuickText
 pub mod Lent
 pub mod Moves
+pub mod Fractions

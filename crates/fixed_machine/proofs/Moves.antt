@@ -43,5 +43,6 @@ moved_on word lines from first at number end start old new before moved =
       count = omega (arith, moved.some, before.count);
       run = run_past word lines at end number old new moved ∙ before.run;
       its_word = moved.its_word;
+      same_fractions = moved.same_fractions ∙ before.same_fractions;
       space = space_past word lines at end number old new moved;
     }

@@ -1,5 +1,5 @@
 -- The text of a line that is read quickly, part by part.
-use Rattle.std.proofs.Common.{◌≡◌, ◌+◌, ◌-◌, ◌*◌, ◌%◌, ◌^◌, ◌<◌, ◌≤◌, ℕ, min, zero, suc, true, false, List, [], ◌∷◌, ◌++◌, length, take, drop, get_or, length-append, append_assoc, Option, Some, None, refl, sym, ap, subst, ◌∙◌, arith, codes}
+use Rattle.std.proofs.Common.{◌≡◌, ◌+◌, ◌-◌, ◌*◌, ◌/◌, ◌%◌, ◌^◌, ◌<◌, ◌≤◌, ℕ, min, zero, suc, true, false, List, [], ◌∷◌, ◌++◌, length, take, drop, get_or, length-append, append_assoc, Option, Some, None, refl, sym, ap, subst, ◌∙◌, arith, codes}
 use Rattle.std.specs.Char.{is_ascii_digit}
 use Rattle.std.specs.List.{list_all, join_with_byte}
 use Rattle.std.specs.Int.{Width, from_le_bytes, to_le_bytes}
@@ -81,9 +81,30 @@ text_stands bytes text at long k from n is parts within first last =
 next_is : (bytes : List ℕ) (i j b : ℕ) → i < length bytes → j ≡ i + 1 → get_or bytes i 0 ≡ b → drop i bytes ≡ b ∷ drop j bytes
 next_is bytes i j b lt next is = drop_more bytes i 0 lt ∙ ap (λ n. get_or bytes i 0 ∷ drop n bytes) (sym next) ∙ ap (λ c. c ∷ drop j bytes) is
 
--- a byte less 48, without a borrow where that is a digit
-pub digit_shown : (c n most count : ℕ) → c < 256 → n ≡ (c + 208) % 256 → (c + 208) % 256 < most → most ≡ min count 10 → (c ≡ 48 + n) × (n < 10) × (n < count)
-digit_shown c n most count byte is few least = (omega (arith, byte, is, few, least), omega (arith, is, few, least), omega (arith, is, few, least))
+-- a byte of a copy of four, from a place on
+pub copied_byte : (bytes copy : List ℕ) (at i : ℕ) → copy ≡ take (at + 4 - at) (drop at bytes) → i < 4 → get_or copy i 0 ≡ get_or bytes (at + i) 0
+copied_byte bytes copy at i is small =
+    let four : at + 4 - at ≡ 4 = omega arith in
+    ap (λ (ys : List ℕ). get_or ys i 0) (is ∙ ap (λ k. take k (drop at bytes)) four) ∙ get_or-take 4 (drop at bytes) i 0 small ∙ get_or-drop at bytes i 0
+
+-- four bytes as a number, less `r0` and a separator as one: where three bytes of it are a digit and no more, they are a register
+pub record Shows (b c d s n count : ℕ) : Type 0 where
+  pub letter : b ≡ 114
+  pub digit : c ≡ 48 + n
+  pub separator : d ≡ s
+  pub small : n < 10
+  pub few : n < count
+
+pub register_shown : (b c d e s v least above most count : ℕ) → b < 256 → c < 256 → d < 256 → e < 256 → s < 256 → v ≡ b + (c + (d + e * 256) * 256) * 256 → least ≡ 114 + (48 + s * 256) * 256
+    → above ≡ (v + (4294967296 - least)) % 4294967296 % 16777216 → above % 256 ≡ 0 → above / 256 < most → most ≡ min count 10 → Shows b c d s (above / 256) count
+register_shown b c d e s v least above most count first second third fourth byte v_is least_is above_is whole few most_is =
+    record {
+      letter = omega arith;
+      digit = omega arith;
+      separator = omega arith;
+      small = omega arith;
+      few = omega arith;
+    }
 
 pub register_one : (bytes : List ℕ) (at n s : ℕ) → at + 4 ≤ length bytes → get_or bytes at 0 ≡ 114 → get_or bytes (at + 1) 0 ≡ 48 + n → n < 10 → get_or bytes (at + 2) 0 ≡ s → Stands bytes at (register_text n) s 4 (at + 3)
 register_one bytes at n s room letter shown small separator =

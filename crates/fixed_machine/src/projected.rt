@@ -13,7 +13,7 @@ ghost use Rattle.fixed_machine.specs.inside.Stepping.{IsAnswerOfRow, in_whole, n
 use crate::answer::SignedAnswer;
 use crate::cause::Cause;
 use crate::register::{OperandRegisters, Register, Signed};
-use crate::rows::{Operand, outcome_by};
+use crate::rows::{Operand, outcome_by, word_held};
 use fixed_script::{Op, Policy};
 use fixed_text::WordName;
 use fixed_word::{
@@ -30,15 +30,6 @@ fn number_of<T: RawWord>(word: T) -> Signed
         below_zero: word.is_below_zero(),
         magnitude: word.magnitude(),
     }
-}
-
-/// Returns the word of a register.
-#[inline(always)]
-fn word_held<T: Word>(register: Register) -> T
-    requires { IsTrue (fits T.SIGNED T.BITS (cell_of register).bits) }
-    ensures { T.value result ≡ (cell_of register).bits }
-{
-    T::residue(register.below_zero, register.magnitude as u128)
 }
 
 /// Returns the operand that a register holds.
@@ -118,8 +109,7 @@ pub(crate) fn answer_as<T: Word>(
 {
     let a = operand_of::<T>(taken.a);
     let b = operand_of::<T>(taken.b);
-    let c = operand_of::<T>(taken.c);
-    match outcome_by(rounding, op, a, b, c) {
+    match outcome_by(rounding, op, a, b, taken.c) {
         None => unanswered(policy, op, number),
         Some(outcome) => answered(policy, outcome, number),
     }

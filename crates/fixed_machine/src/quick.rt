@@ -69,14 +69,15 @@ fn register_before(bytes: &[u8], at: usize, separator: u8, count: u8) -> Option<
     ensures { IfSome result (λ found. (found.0 < count)
         × Stands bytes.now at (register_text found.0) separator 4 found.1) }
 {
-    if bytes[at + 2] != separator {
-        return long_register_before(bytes, at, separator, count);
-    }
-    let number = bytes[at + 1].wrapping_sub(b'0');
-    if bytes[at] == b'r' && number < count.min(10) {
-        Some((usize::from(number), at + 3))
+    let mut found = [0; 4];
+    found.copy_from_slice(&bytes[at..at + 4]);
+    let least = u32::from_le_bytes([b'r', b'0', separator, 0]);
+    let above = u32::from_le_bytes(found).wrapping_sub(least) % (1 << 24);
+    let number = above / 256;
+    if above % 256 == 0 && number < u32::from(count.min(10)) {
+        Some((number as usize, at + 3))
     } else {
-        None
+        long_register_before(bytes, at, separator, count)
     }
 }
 

@@ -11,7 +11,7 @@ ghost use Rattle.fixed_text.specs.Words.{is_signed as signed, width as width_in}
 ghost use Rattle.fixed_machine.specs.Machine.{cell_at as cell_in, is_mismatched as mismatched};
 ghost use Rattle.fixed_machine.specs.Step.{IsCell, IsStepOfLine, cell_of, cells_of, state_in};
 ghost use Rattle.fixed_machine.specs.inside.Quick.{quick_number, quick_operands, script_line_of_quick};
-ghost use Rattle.fixed_machine.specs.inside.QuickSteps.{IsSecond};
+ghost use Rattle.fixed_machine.specs.inside.QuickSteps.{AreEqual, IsSecond, fractions_in};
 ghost use Rattle.fixed_machine.specs.inside.Stepping.{IsAnswerOfLine, whole_answer};
 
 use crate::answer::SignedAnswer;
@@ -31,10 +31,12 @@ fn is_number<T: Word>(line: QuickLine) -> bool
     outcome_of::<T>(line.below_zero, u128::from(line.magnitude)).side == Side::Fits
 }
 
-/// Returns whether the operands have the numbers of fraction bits that the operation requires.
+/// Returns whether the operands have the numbers of fraction bits that the operation requires. If all registers have one
+/// number of fraction bits, as `one_fraction` says, they have.
 #[inline(always)]
 #[tactic(auto, unfolding(crate::specs::Machine::is_mismatched))]
-fn is_matched(registers: &[Register], line: QuickLine, applied: Applied) -> bool
+fn is_matched(registers: &[Register], one_fraction: bool, line: QuickLine, applied: Applied) -> bool
+    requires one_fraction { one_fraction ≡ true → AreEqual (fractions_in (cells_of registers.now)) }
     requires dest { line.dest < length registers.now }
     requires a { line.a < length registers.now }
     requires b { line.b < length registers.now }
@@ -42,6 +44,9 @@ fn is_matched(registers: &[Register], line: QuickLine, applied: Applied) -> bool
     ensures { result ≡ true → (word : WordName) → mismatched (state_in word (cells_of registers.now))
         (Apply line.dest applied.policy applied.op (quick_operands (arity applied.op) line) None) ≡ false }
 {
+    if one_fraction {
+        return true;
+    }
     let fraction = registers[line.dest].fraction;
     registers[line.a].fraction == fraction
         && match applied.op {
@@ -79,6 +84,7 @@ fn second_of<T: Word>(registers: &[Register], line: QuickLine, op: Op) -> Option
 fn answer_of_applied<T: Word>(
     word: WordName,
     registers: &[Register],
+    one_fraction: bool,
     line: QuickLine,
     applied: Applied,
     number: u64,
@@ -86,6 +92,7 @@ fn answer_of_applied<T: Word>(
     requires signed { T.SIGNED ≡ signed word }
     requires bits { T.BITS ≡ width_in word }
     requires cells { All (IsCell word) (cells_of registers.now) }
+    requires one_fraction { one_fraction ≡ true → AreEqual (fractions_in (cells_of registers.now)) }
     requires dest { line.dest < length registers.now }
     requires a { line.a < length registers.now }
     requires b { line.b < length registers.now }
@@ -100,7 +107,7 @@ fn answer_of_applied<T: Word>(
         Some(second) => second,
         None => return None,
     };
-    if !is_matched(registers, line, applied) {
+    if !is_matched(registers, one_fraction, line, applied) {
         return None;
     }
     let taken = OperandRegisters {
@@ -119,12 +126,14 @@ fn answer_of_applied<T: Word>(
 fn quick_answer<T: Word>(
     word: WordName,
     registers: &[Register],
+    one_fraction: bool,
     line: QuickLine,
     number: u64,
 ) -> Option<SignedAnswer>
     requires signed { T.SIGNED ≡ signed word }
     requires bits { T.BITS ≡ width_in word }
     requires cells { All (IsCell word) (cells_of registers.now) }
+    requires one_fraction { one_fraction ≡ true → AreEqual (fractions_in (cells_of registers.now)) }
     requires dest { line.dest < length registers.now }
     requires a { line.a < length registers.now }
     requires b { line.b < length registers.now }
@@ -143,22 +152,32 @@ fn quick_answer<T: Word>(
                 None
             }
         }
-        Some(applied) => answer_of_applied::<T>(word, registers, line, applied, number),
+        Some(applied) => answer_of_applied::<T>(
+            word,
+            registers,
+            one_fraction,
+            line,
+            applied,
+            number,
+        ),
     }
 }
 
 /// Runs one line on the registers and returns its answer. If it returns `None`, the line may have a cause, and the
-/// registers have not changed. The word is given by its name and by its type.
+/// registers have not changed. The word is given by its name and by its type. If `one_fraction`, all registers have one
+/// number of fraction bits.
 #[inline(always)]
 pub(crate) fn quick_step<T: Word>(
     word: WordName,
     registers: &mut [Register],
+    one_fraction: bool,
     line: QuickLine,
     number: u64,
 ) -> Option<SignedAnswer>
     requires signed { T.SIGNED ≡ signed word }
     requires bits { T.BITS ≡ width_in word }
     requires cells { All (IsCell word) (cells_of registers.old) }
+    requires one_fraction { one_fraction ≡ true → AreEqual (fractions_in (cells_of registers.old)) }
     requires dest { line.dest < length registers.old }
     requires a { line.a < length registers.old }
     requires b { line.b < length registers.old }
@@ -168,7 +187,7 @@ pub(crate) fn quick_step<T: Word>(
     ensures none { result ≡ None → cells_of registers.new ≡ cells_of registers.old }
     ensures kept { All (IsCell word) (cells_of registers.new) }
 {
-    let answer = match quick_answer::<T>(word, registers, line, number) {
+    let answer = match quick_answer::<T>(word, registers, one_fraction, line, number) {
         Some(answer) => answer,
         None => return None,
     };

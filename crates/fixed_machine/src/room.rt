@@ -1,6 +1,7 @@
 //! The registers and the answers of a script, with room that is allocated once.
 
-ghost use Rattle.std.specs.Prelude.{◌≡◌, ◌≤◌, ◌<◌, ◌*◌, ◌+◌, ◌++◌, [], length, vec_len, vec_capacity, IfOk, IfErr, OnOk, IsSome, IfSome, IsTrue, ◌↔◌, Some, None, Ok, true, false};
+ghost use Rattle.std.specs.Prelude.{◌≡◌, ◌≤◌, ◌<◌, ◌==◌, ◌*◌, ◌+◌, ◌++◌, [], length, vec_len, vec_capacity, IfOk, IfErr, OnOk, IsSome, IfSome, IsTrue, ◌↔◌, Some, None, Ok, true, false};
+ghost use Rattle.std.specs.List.{list_all};
 ghost use Rattle.fixed_machine.specs.Answers.{answer_text};
 ghost use Rattle.fixed_text.specs.Words.{is_signed as signed, width as width_in};
 ghost use Rattle.fixed_machine.specs.inside.Quick.{script_line_of_quick};
@@ -9,6 +10,7 @@ ghost use Rattle.fixed_machine.specs.Meaning.{has_wide as is_wide, zeros};
 ghost use Rattle.fixed_script.specs.Capped.{checked_script_line};
 ghost use Rattle.fixed_machine.specs.Rooms.{KeepsTheRest, spaces, spaces_in};
 ghost use Rattle.fixed_machine.specs.Step.{IsStepOfLine, cell_of, cells_of, state_in};
+ghost use Rattle.fixed_machine.specs.inside.QuickSteps.{AreEqual, fractions_in};
 
 use crate::answer::{Answer, SignedAnswer};
 use crate::buffer::Buffer;
@@ -23,6 +25,15 @@ use fixed_text::{WordName, piece_end};
 use fixed_word::Word;
 use std::alloc::{AllocError, Global};
 use std::marker::Model;
+
+/// Returns whether each register has that number of fraction bits.
+fn have_fraction(registers: &[Register], fraction: u32) -> bool
+    ensures { result ≡ list_all (λ register. register.fraction == fraction) registers.now }
+{
+    registers
+        .iter()
+        .all(|register| register.fraction == fraction)
+}
 
 /// Adds a register with bits 0 for each number of fraction bits, and returns whether none exceeds the width. Stops at
 /// the first that does.
@@ -197,17 +208,20 @@ impl Room {
     }
 
     /// Runs a line that the fast path read and returns its answer. If it returns `None`, the line may have a cause, and
-    /// the registers have not changed. The word is given by its name and by its type.
+    /// the registers have not changed. The word is given by its name and by its type. If `one_fraction`, all registers
+    /// have one number of fraction bits.
     #[inline(always)]
     pub(crate) fn step_quick_line<T: Word>(
         &mut self,
         word: WordName,
+        one_fraction: bool,
         line: QuickLine,
         number: u64,
     ) -> Option<SignedAnswer>
         requires signed { T.SIGNED ≡ signed word }
         requires bits { T.BITS ≡ width_in word }
         requires word { self.old.word ≡ Some word }
+        requires one_fraction { one_fraction ≡ true → AreEqual (fractions_in self.old.registers) }
         requires dest { line.dest < length self.old.registers }
         requires a { line.a < length self.old.registers }
         requires b { line.b < length self.old.registers }
@@ -218,7 +232,7 @@ impl Room {
         ensures count { length self.new.registers ≡ length self.old.registers }
         ensures kept { KeepsTheRest self.old self.new }
     {
-        quick_step::<T>(word, &mut self.registers, line, number)
+        quick_step::<T>(word, &mut self.registers, one_fraction, line, number)
     }
 
     /// Adds the text of an answer whose number is a sign and a magnitude. Precondition: there is room for it.
@@ -265,6 +279,16 @@ impl Room {
             left -= 1;
         }
         true
+    }
+
+    /// Returns whether all registers have one number of fraction bits.
+    pub(crate) fn has_one_fraction(&self) -> bool
+        ensures { result ≡ true → AreEqual (fractions_in self.now.registers) }
+    {
+        match self.registers.first() {
+            Some(first) => have_fraction(&self.registers, first.fraction),
+            None => true,
+        }
     }
 
     /// Returns the number of registers.

@@ -1,6 +1,6 @@
 //! Running a whole script in a room.
 
-ghost use Rattle.std.specs.Prelude.{◌≡◌, ◌≤◌, ◌<◌, ◌*◌, ◌+◌, drop, length, Some, None, Err, IfOk, IfErr, IfSome, IfNone};
+ghost use Rattle.std.specs.Prelude.{◌≡◌, ◌≤◌, ◌<◌, ◌*◌, ◌+◌, drop, length, true, Some, None, Err, IfOk, IfErr, IfSome, IfNone};
 ghost use Rattle.fixed_text.specs.declared.names.WordName.{WordName};
 ghost use Rattle.fixed_text.specs.Words.{is_signed, width};
 ghost use Rattle.fixed_word.specs.Pieces.{pieces};
@@ -9,6 +9,7 @@ ghost use Rattle.fixed_machine.specs.Meaning.{meaning, script_run};
 ghost use Rattle.fixed_machine.specs.inside.Lines.{run_lines};
 ghost use Rattle.fixed_machine.specs.inside.Moves.{HasMoved, HaveMoved};
 ghost use Rattle.fixed_machine.specs.inside.Opened.{IsOpened};
+ghost use Rattle.fixed_machine.specs.inside.QuickSteps.{AreEqual, fractions_in};
 ghost use Rattle.fixed_machine.specs.Rooms.{KeepsRoom, IsAnswerOfMeaning, IsAnswerOfRun, Suffices, spaces};
 ghost use Rattle.fixed_machine.specs.Step.{state_in};
 
@@ -43,13 +44,14 @@ fn answer_line(rest: &[u8], number: u64, room: &mut Room) -> Result<usize, Cause
 }
 
 /// Runs the first line of the rest, if the fast path reads it and it has no cause, and returns where it ends. If it
-/// returns `None`, nothing has changed. Preconditions: as many bytes remain as such a line may have, and there are
-/// `count` registers or more.
+/// returns `None`, nothing has changed. Preconditions: as many bytes remain as such a line may have, there are `count`
+/// registers or more, and if `one_fraction`, all registers have one number of fraction bits.
 #[inline(always)]
 fn answer_quick_line<T: Word>(
     word: WordName,
     rest: &[u8],
     count: u8,
+    one_fraction: bool,
     number: u64,
     room: &mut Room,
 ) -> Option<usize>
@@ -59,6 +61,7 @@ fn answer_quick_line<T: Word>(
     requires few { count ≤ 100 }
     requires count { count ≤ length room.old.registers }
     requires word { room.old.word ≡ Some word }
+    requires one_fraction { one_fraction ≡ true → AreEqual (fractions_in room.old.registers) }
     requires space { length room.old.answers + 2 * length rest.now ≤ room.old.answer_room }
     ensures some { IfSome result (λ end. HasMoved word number rest.now end room.old room.new) }
     ensures none { result ≡ None → room.new ≡ room.old }
@@ -69,7 +72,7 @@ fn answer_quick_line<T: Word>(
         Some(found) => found,
         None => return None,
     };
-    match room.step_quick_line::<T>(word, line, number) {
+    match room.step_quick_line::<T>(word, one_fraction, line, number) {
         Some(answer) => {
             room.push_signed(answer);
             Some(end)
@@ -79,11 +82,12 @@ fn answer_quick_line<T: Word>(
 }
 
 /// Runs the lines from a place on, as long as the fast path reads them and they have no cause. Returns where the next
-/// line begins, and its number.
+/// line begins, and its number. If `one_fraction`, all registers have one number of fraction bits.
 #[inline(always)]
 fn answer_quick_lines<T: Word>(
     word: WordName,
     lines: &[u8],
+    one_fraction: bool,
     from: usize,
     first: u64,
     room: &mut Room,
@@ -93,6 +97,7 @@ fn answer_quick_lines<T: Word>(
     requires within { from ≤ length lines.now }
     requires number { first ≤ from + 2 }
     requires word { room.old.word ≡ Some word }
+    requires one_fraction { one_fraction ≡ true → AreEqual (fractions_in room.old.registers) }
     requires space { length room.old.answers + 2 * length (drop from lines.now) ≤ room.old.answer_room }
     ensures moved { HaveMoved word lines.now from first result.0 result.1 room.old room.new }
     ensures kept { KeepsRoom room.old room.new }
@@ -101,7 +106,7 @@ fn answer_quick_lines<T: Word>(
     let mut at = from;
     let mut number = first;
     while lines.len() - at >= LONGEST {
-        match answer_quick_line::<T>(word, &lines[at..], count, number, room) {
+        match answer_quick_line::<T>(word, &lines[at..], count, one_fraction, number, room) {
             Some(end) => at += end,
             None => return (at, number),
         }
@@ -120,10 +125,11 @@ fn answer_lines_as<T: Word>(word: WordName, lines: &[u8], room: &mut Room) -> Re
         (run_lines (state_in word room.old.registers) 2 (pieces lines.now))) result room.new }
     ensures kept { KeepsRoom room.old room.new }
 {
+    let one_fraction = room.has_one_fraction();
     let mut at = 0;
     let mut number = 2;
     while at < lines.len() {
-        (at, number) = answer_quick_lines::<T>(word, lines, at, number, room);
+        (at, number) = answer_quick_lines::<T>(word, lines, one_fraction, at, number, room);
         if at < lines.len() {
             match answer_line(&lines[at..], number, room) {
                 Ok(end) => at += end,

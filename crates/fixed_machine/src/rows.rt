@@ -1,6 +1,7 @@
 //! The row of an operation on one word.
 
-ghost use Rattle.std.specs.Prelude.{◌≡◌, ◌≢◌, ◌≤◌, None, ℕ, ℤ, pos, true};
+ghost use Rattle.std.specs.Prelude.{◌≡◌, ◌≢◌, ◌≤◌, IsTrue, None, ℕ, ℤ, pos, true};
+ghost use Rattle.fixed_word.specs.Format.{fits};
 ghost use Rattle.fixed_word.specs.Standing.{IsOutcomeOfRow};
 ghost use Rattle.fixed_kernel.specs.Rounded.{rounded};
 ghost use Rattle.fixed_machine.specs.Rows.{exact as exact_row, rounding_of};
@@ -9,8 +10,10 @@ ghost use Rattle.fixed_kernel.specs.RoundedRows.{rounded_div, rounded_recip};
 ghost use Rattle.fixed_script.specs.Text.{takes_rounding as rounds};
 ghost use Rattle.fixed_script.specs.Offered.{is_offered};
 ghost use Rattle.fixed_script.specs.declared.names.Policy.{Policy};
+ghost use Rattle.fixed_machine.specs.Step.{FitsFormat, cell_of};
 ghost use Rattle.fixed_machine.specs.inside.Groups.{group, OfOne, SumOrProduct, ByDivisor};
 
+use crate::register::Register;
 use fixed_kernel::{
     abs_of, add_of, add_prod_of, add_prod_round_of, dist_of, div_euclid_int_of, div_euclid_of,
     div_int_of, div_int_round_of, div_of, div_round_of, mul_add_of, mul_add_round_of, mul_int_of,
@@ -26,6 +29,15 @@ use fixed_word::{Outcome, Rounding, Word};
 pub(crate) struct Operand<T> {
     pub bits: T,
     pub fraction: u32,
+}
+
+/// Returns the word of a register.
+#[inline(always)]
+pub(crate) fn word_held<T: Word>(register: Register) -> T
+    requires { IsTrue (fits T.SIGNED T.BITS (cell_of register).bits) }
+    ensures { T.value result ≡ (cell_of register).bits }
+{
+    T::residue(register.below_zero, register.magnitude as u128)
 }
 
 /// The operands that decide whether the row of an operation is defined.
@@ -94,21 +106,21 @@ fn outcome_of_one<T: Word>(op: Op, x: T, frac: u32) -> Option<Outcome<T>>
     }
 }
 
-/// Returns the outcome of a sum, a difference or a product.
+/// Returns the outcome of a sum, a difference or a product. The third operand is read only where it is taken.
 #[inline(always)]
 #[tactic(auto, unfolding(crate::specs::Rows::exact))]
 fn outcome_of_sum_or_product<T: Word>(
     op: Op,
     a: Operand<T>,
     b: Operand<T>,
-    c: Operand<T>,
+    c: Register,
 ) -> Option<Outcome<T>>
     requires group { group op ≡ SumOrProduct }
     requires a { a.fraction ≤ T.BITS }
     requires b { b.fraction ≤ T.BITS }
-    requires c { c.fraction ≤ T.BITS }
+    requires c { FitsFormat T.SIGNED T.BITS (cell_of c) }
     ensures { IsOutcomeOfRow T.value T.SIGNED T.BITS
-        (exact_row op (rounding_of op None) (T.value a.bits) (T.value b.bits) (T.value c.bits)
+        (exact_row op (rounding_of op None) (T.value a.bits) (T.value b.bits) (cell_of c).bits
         a.fraction b.fraction c.fraction) result }
 {
     match op {
@@ -117,9 +129,14 @@ fn outcome_of_sum_or_product<T: Word>(
         Op::Dist => Some(dist_of(a.bits, b.bits)),
         Op::Mul => Some(mul_of(a.bits, b.bits, a.fraction)),
         Op::MulInt => Some(mul_int_of(a.bits, b.bits)),
-        Op::MulAdd => Some(mul_add_of(a.bits, b.bits, c.bits, b.fraction)),
+        Op::MulAdd => Some(mul_add_of(a.bits, b.bits, word_held(c), b.fraction)),
         Op::AddProd => Some(add_prod_of(
-            a.bits, b.bits, c.bits, a.fraction, b.fraction, c.fraction,
+            a.bits,
+            b.bits,
+            word_held(c),
+            a.fraction,
+            b.fraction,
+            c.fraction,
         )),
         _ => None,
     }
@@ -165,13 +182,13 @@ fn outcome_by_divisor<T: Word>(op: Op, x: T, y: T, frac: u32) -> Option<Outcome<
 /// Returns the outcome of the operation's row, or `None` if the row is undefined.
 #[inline(always)]
 #[tactic(auto)]
-fn outcome_as<T: Word>(op: Op, a: Operand<T>, b: Operand<T>, c: Operand<T>) -> Option<Outcome<T>>
+fn outcome_as<T: Word>(op: Op, a: Operand<T>, b: Operand<T>, c: Register) -> Option<Outcome<T>>
     requires offered { (policy : Policy) × (is_offered T.SIGNED policy op ≡ true) }
     requires a { a.fraction ≤ T.BITS }
     requires b { b.fraction ≤ T.BITS }
-    requires c { c.fraction ≤ T.BITS }
+    requires c { FitsFormat T.SIGNED T.BITS (cell_of c) }
     ensures { IsOutcomeOfRow T.value T.SIGNED T.BITS
-        (exact_row op (rounding_of op None) (T.value a.bits) (T.value b.bits) (T.value c.bits)
+        (exact_row op (rounding_of op None) (T.value a.bits) (T.value b.bits) (cell_of c).bits
         a.fraction b.fraction c.fraction) result }
 {
     match group_of(op) {
@@ -224,21 +241,27 @@ fn rounded_outcome_as<T: Word>(
     op: Op,
     a: Operand<T>,
     b: Operand<T>,
-    c: Operand<T>,
+    c: Register,
 ) -> Option<Outcome<T>>
     requires rounds { rounds op ≡ true }
     requires a { a.fraction ≤ T.BITS }
     requires b { b.fraction ≤ T.BITS }
-    requires c { c.fraction ≤ T.BITS }
+    requires c { FitsFormat T.SIGNED T.BITS (cell_of c) }
     ensures { IsOutcomeOfRow T.value T.SIGNED T.BITS
-        (exact_row op rounding (T.value a.bits) (T.value b.bits) (T.value c.bits)
+        (exact_row op rounding (T.value a.bits) (T.value b.bits) (cell_of c).bits
         a.fraction b.fraction c.fraction) result }
 {
     match op {
         Op::Mul => Some(mul_round_of(a.bits, b.bits, a.fraction, rounding)),
-        Op::MulAdd => Some(mul_add_round_of(a.bits, b.bits, c.bits, b.fraction, rounding)),
+        Op::MulAdd => Some(mul_add_round_of(a.bits, b.bits, word_held(c), b.fraction, rounding)),
         Op::AddProd => Some(add_prod_round_of(
-            a.bits, b.bits, c.bits, a.fraction, b.fraction, c.fraction, rounding,
+            a.bits,
+            b.bits,
+            word_held(c),
+            a.fraction,
+            b.fraction,
+            c.fraction,
+            rounding,
         )),
         Op::Div => rounded_quotient(a, b.bits, rounding),
         Op::DivInt => rounded_quotient_by(a.bits, b.bits, rounding),
@@ -255,14 +278,14 @@ pub(crate) fn outcome_by<T: Word>(
     op: Op,
     a: Operand<T>,
     b: Operand<T>,
-    c: Operand<T>,
+    c: Register,
 ) -> Option<Outcome<T>>
     requires offered { (policy : Policy) × (is_offered T.SIGNED policy op ≡ true) }
     requires a { a.fraction ≤ T.BITS }
     requires b { b.fraction ≤ T.BITS }
-    requires c { c.fraction ≤ T.BITS }
+    requires c { FitsFormat T.SIGNED T.BITS (cell_of c) }
     ensures { IsOutcomeOfRow T.value T.SIGNED T.BITS
-        (exact_row op (rounding_of op rounding) (T.value a.bits) (T.value b.bits) (T.value c.bits)
+        (exact_row op (rounding_of op rounding) (T.value a.bits) (T.value b.bits) (cell_of c).bits
         a.fraction b.fraction c.fraction) result }
 {
     match rounding {

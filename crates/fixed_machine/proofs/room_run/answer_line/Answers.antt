@@ -1,10 +1,13 @@
 use Rattle.std.proofs.Common.{◌≡◌, ◌+◌, ◌∙◌, ◌++◌, List, ℕ, ap, sym, arith, take, drop, length}
 use Rattle.std.proofs.lemmas.List.{length-drop, length-append, length-take}
+use Rattle.fixed_script.specs.Lines.{line_of_piece}
 use Rattle.fixed_machine.specs.Answers.{answer_text}
 use Rattle.fixed_word.specs.Pieces.{pieces}
 use Rattle.fixed_text.specs.inside.Ends.{after}
 use Rattle.fixed_machine.specs.inside.Lines.{run_lines}
 use Rattle.fixed_machine.specs.Step.{state_in}
+use Rattle.fixed_machine.specs.inside.QuickSteps.{fractions_in}
+use Rattle.fixed_machine.proofs.Fractions.{step_fractions}
 use Rattle.fixed_machine.proofs.Runs.{run_fault, run_moves, told_fault, move_short}
 use Rattle.fixed_machine.proofs.room_run.answer_line.Goals as goal
 
@@ -31,6 +34,7 @@ returns-in-Ok-clause-ok c = λ word is.
       within = c.piece_end-end.ensures.within;
       run = sym (moves ∙ (λ i. after (sym answers i) (run_lines (state_in word (sym c.push.ensures.registers i)) (c.args.number + 1) (pieces (drop end rest)))));
       its_word = c.push.ensures.word ∙ c.in-Ok.ensures.kept.same_word ∙ is;
+      same_fractions = ap fractions_in c.push.ensures.registers ∙ step_fractions s (line_of_piece (take end rest)) c.args.number c.in-Ok.answer c.step_piece.new.self.registers tells;
       space = omega (arith, ap length answers, length-append room.answers text, short, length-take end rest, length-drop end rest, c.push.ensures.kept.same_answer_room, c.in-Ok.ensures.kept.same_answer_room, c.requires.space);
     }
 

@@ -1,16 +1,17 @@
-use Rattle.std.proofs.Common.{◌∙◌, List, ℕ, ap, sym, arith, refl, drop}
+use Rattle.std.proofs.Common.{◌∙◌, List, ℕ, ap, sym, subst, arith, refl, drop}
 use Rattle.std.proofs.lemmas.List.{drop_all, length-drop, take_rest}
 use Rattle.fixed_word.specs.Pieces.{pieces}
 use Rattle.fixed_text.specs.inside.Ends.{after}
 use Rattle.fixed_machine.specs.inside.Lines.{run_lines}
 use Rattle.fixed_machine.specs.inside.Moves.{HasMoved}
+use Rattle.fixed_machine.specs.inside.QuickSteps.{AreEqual}
 use Rattle.fixed_machine.proofs.Moves.{kept_twice, run_past, space_past}
 use Rattle.fixed_machine.specs.Step.{state_in}
 use Rattle.fixed_machine.proofs.Runs.{run_ends, told_end}
 use Rattle.fixed_machine.proofs.room_run.answer_lines_as.Goals as goal
 
 pub loop-at-init : goal.loop-at-init
-loop-at-init g c = record { within = omega arith; word = c.requires.word; run = refl; space = c.requires.space; kept = record { same_register_room = refl; same_answer_room = refl }; count = omega arith }
+loop-at-init g c = record { within = omega arith; word = c.requires.word; run = refl; space = c.requires.space; kept = record { same_register_room = refl; same_answer_room = refl }; count = omega arith; same_fractions = refl }
 
 pub answer_quick_lines-requires-clause-signed : goal.answer_quick_lines-requires-clause-signed
 answer_quick_lines-requires-clause-signed g c = c.requires.signed
@@ -26,6 +27,9 @@ answer_quick_lines-requires-clause-number g c = c.loop-at.invariant.count
 
 pub answer_quick_lines-requires-clause-word : goal.answer_quick_lines-requires-clause-word
 answer_quick_lines-requires-clause-word g c = c.loop-at.invariant.word
+
+pub answer_quick_lines-requires-clause-one_fraction : goal.answer_quick_lines-requires-clause-one_fraction
+answer_quick_lines-requires-clause-one_fraction g c = λ one. subst AreEqual (sym c.loop-at.invariant.same_fractions) (c.has_one_fraction-one_fraction.ensures one)
 
 pub answer_quick_lines-requires-clause-space : goal.answer_quick_lines-requires-clause-space
 answer_quick_lines-requires-clause-space g c = c.loop-at.invariant.space
@@ -64,6 +68,7 @@ loop-at-preserved-then-at-lines g c =
       space = space_past c.args.word lines at c.in-Ok.end number quick new moved;
       kept = kept_twice _ _ _ c.loop-at.invariant.kept (kept_twice _ _ _ c.answer_quick_lines.ensures.kept c.in-Ok.ensures.kept);
       count = omega (arith, moved.some, before.count, c.loop-at.invariant.count);
+      same_fractions = moved.same_fractions ∙ before.same_fractions ∙ c.loop-at.invariant.same_fractions;
     }
 
 pub loop-at-preserved : goal.loop-at-preserved
@@ -76,4 +81,5 @@ loop-at-preserved g c =
       space = moved.space;
       kept = kept_twice _ _ _ c.loop-at.invariant.kept c.answer_quick_lines.ensures.kept;
       count = omega (arith, moved.count, c.loop-at.invariant.count);
+      same_fractions = moved.same_fractions ∙ c.loop-at.invariant.same_fractions;
     }

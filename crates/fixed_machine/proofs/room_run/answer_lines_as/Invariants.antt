@@ -2,6 +2,7 @@ use Rattle.std.proofs.Common.{◌≡◌, ◌≤◌, ◌+◌, ◌*◌, ◌-◌, l
 use Rattle.fixed_word.specs.Pieces.{pieces}
 use Rattle.fixed_text.specs.inside.Ends.{after}
 use Rattle.fixed_machine.specs.inside.Lines.{run_lines}
+use Rattle.fixed_machine.specs.inside.QuickSteps.{fractions_in}
 use Rattle.fixed_machine.specs.Step.{state_in}
 use Rattle.fixed_machine.specs.Rooms.{KeepsRoom}
 use Rattle.fixed_machine.proofs.room_run.answer_lines_as.Given as goal
@@ -16,6 +17,7 @@ invariant-loop-at g l =
       space : length l.room.answers + 2 * length (drop l.at l.lines) ≤ l.room.answer_room;
       kept : KeepsRoom l.fn.room l.room;
       count : l.number ≤ l.at + 2;
+      same_fractions : fractions_in l.room.registers ≡ fractions_in l.fn.room.registers;
     }
 
 abbrev pub decreases-loop-at : goal.decreases-loop-at

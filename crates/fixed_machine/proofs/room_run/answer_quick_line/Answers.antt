@@ -1,5 +1,6 @@
 use Rattle.std.proofs.Common.{◌≡◌, ◌+◌, ◌∙◌, ◌++◌, List, ℕ, Option, Ok, subst, ap, sym, arith, take, drop, length}
 use Rattle.std.proofs.lemmas.List.{length-drop, length-append, length-take}
+use Rattle.fixed_script.specs.Lines.{line_of_piece}
 use Rattle.fixed_script.specs.Text.{ScriptLine}
 use Rattle.fixed_machine.specs.Answers.{answer_text}
 use Rattle.fixed_word.specs.Pieces.{pieces}
@@ -7,6 +8,8 @@ use Rattle.fixed_text.specs.inside.Ends.{after}
 use Rattle.fixed_machine.specs.inside.Lines.{run_lines}
 use Rattle.fixed_machine.specs.inside.Stepping.{whole_answer}
 use Rattle.fixed_machine.specs.Step.{IsStepOfLine, state_in}
+use Rattle.fixed_machine.specs.inside.QuickSteps.{fractions_in}
+use Rattle.fixed_machine.proofs.Fractions.{step_fractions}
 use Rattle.fixed_machine.proofs.Runs.{run_moves, move_short}
 use Rattle.fixed_machine.proofs.room_run.answer_quick_line.Goals as goal
 
@@ -40,5 +43,6 @@ returns-in-Some-step_quick_line-clause-some g c =
       within = c.in-Some.ensures.within;
       run = sym (moves ∙ (λ i. after (sym answers i) (run_lines (state_in c.args.word (sym c.push_signed.ensures.registers i)) (c.args.number + 1) (pieces (drop end rest)))));
       its_word = c.push_signed.ensures.word ∙ kept.same_word ∙ c.requires.word;
+      same_fractions = ap fractions_in c.push_signed.ensures.registers ∙ step_fractions s (line_of_piece (take end rest)) c.args.number answer new tells;
       space = omega (arith, ap length answers, length-append room.answers text, short, length-take end rest, length-drop end rest, c.push_signed.ensures.kept.same_answer_room, kept.same_answer_room, c.requires.space, c.in-Some.ensures.within);
     }

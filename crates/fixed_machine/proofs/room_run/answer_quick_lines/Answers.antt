@@ -2,6 +2,7 @@ use Rattle.std.proofs.Common.{sym, subst, refl, drop, arith}
 use Rattle.std.proofs.lemmas.List.{take_rest}
 use Rattle.fixed_machine.specs.Rooms.{Space}
 use Rattle.fixed_machine.specs.inside.Moves.{HasMoved, HaveMoved}
+use Rattle.fixed_machine.specs.inside.QuickSteps.{AreEqual}
 use Rattle.fixed_machine.proofs.Moves.{kept_twice, moved_on}
 use Rattle.fixed_machine.proofs.room_run.answer_quick_lines.Goals as goal
 
@@ -19,6 +20,9 @@ answer_quick_line-requires-clause-count g c = c.loop-at.invariant.count
 
 pub answer_quick_line-requires-clause-word : goal.answer_quick_line-requires-clause-word
 answer_quick_line-requires-clause-word g c = c.loop-at.invariant.moved.its_word
+
+pub answer_quick_line-requires-clause-one_fraction : goal.answer_quick_line-requires-clause-one_fraction
+answer_quick_line-requires-clause-one_fraction g c = λ one. subst AreEqual (sym c.loop-at.invariant.moved.same_fractions) (c.requires.one_fraction one)
 
 pub answer_quick_line-requires-clause-space : goal.answer_quick_line-requires-clause-space
 answer_quick_line-requires-clause-space g c = simp take_rest c.loop-at.invariant.moved.space

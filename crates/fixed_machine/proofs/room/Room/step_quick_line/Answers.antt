@@ -4,6 +4,7 @@ use Rattle.std.proofs.lemmas.List.{length-map}
 use Rattle.fixed_text.specs.declared.names.WordName.{WordName}
 use Rattle.fixed_machine.specs.declared.register.Register.{Register}
 use Rattle.fixed_machine.specs.inside.Quick.{script_line_of_quick}
+use Rattle.fixed_machine.specs.inside.QuickSteps.{AreEqual, fractions_in}
 use Rattle.fixed_machine.specs.inside.Stepping.{whole_answer}
 use Rattle.fixed_machine.specs.Machine.{Cell}
 use Rattle.fixed_machine.specs.Rooms.{IsRoom, Space}
@@ -21,6 +22,11 @@ pub quick_step-requires-clause-cells : goal.quick_step-requires-clause-cells
 quick_step-requires-clause-cells g c =
     let word = ap (λ (s : Space). s.word) c.self.view_is ∙ c.requires.word in
     subst (λ (rs : List Register). All (IsCell c.args.word) (cells_of rs)) (sym c.deref_mut.ensures.value) (subst (λ (o : Option WordName). IsRoom o (cells_of c.self.inside.registers.items)) word c.self.invariant.0)
+
+pub quick_step-requires-clause-one_fraction : goal.quick_step-requires-clause-one_fraction
+quick_step-requires-clause-one_fraction g c = λ one.
+    let lent : cells_of c.deref_mut.result.now ≡ c.args.self.now.registers = ap cells_of c.deref_mut.ensures.value ∙ ap (λ (s : Space). s.registers) c.self.view_is in
+    subst (λ (cells : List Cell). AreEqual (fractions_in cells)) (sym lent) (c.requires.one_fraction one)
 
 pub quick_step-requires-clause-dest : goal.quick_step-requires-clause-dest
 quick_step-requires-clause-dest g c = in_lent c.args.line.dest _ _ (ap cells_of c.deref_mut.ensures.value ∙ ap (λ (s : Space). s.registers) c.self.view_is) c.requires.dest

@@ -2,7 +2,7 @@ use Rattle.std.proofs.Common.{◌∙◌}
 use Rattle.fixed_word.proofs.Wraps.{wrap_same, width_pos}
 use Rattle.fixed_machine.proofs.Fits.{in_range}
 use Rattle.fixed_machine.specs.Step.{cell_of}
-use Rattle.fixed_machine.proofs.projected.word_held.Goals as goal
+use Rattle.fixed_machine.proofs.rows.word_held.Goals as goal
 
 pub returns : goal.returns
 returns g c =
