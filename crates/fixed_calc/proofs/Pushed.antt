@@ -22,7 +22,7 @@ spaced t (u ∷ ts) = ap (λ us. t ++ (32 ∷ us)) (spaced u ts)
 abbrev operands_text : List ℕ → List ℕ
 operands_text registers = flat_map (λ register. 32 ∷ register_text register) registers
 
--- a text, and the line behind it
+-- a text, and the line behind it, before its newline
 applied_line : (old : List ℕ) (d : ℕ) (policy : Policy) (op : Op) (xs : Operands) (registers names : List ℕ) → operand_tokens xs ≡ map register_text registers → names ≡ (32 ∷ policy_name policy) ++ (32 ∷ op_name op)
     → old ++ register_text d ++ names ++ operands_text registers ≡ old ++ line_text (Apply d policy op xs None)
 applied_line old d policy op xs registers names tokens is =
@@ -42,15 +42,19 @@ drawn_at t o is =
     λ i. get_or (choices t (lowest i) (t / 8 % 8) (t / 64 % 8)) (is i) (SetTo (lowest i) (pos t))
 
 -- such a line was added
-pub adds_set : {T E : Type 0} (r : Result T E) (old new : List ℕ) (t : ℕ) → t / 512 % 8 ≡ 0 → OnOk r (new ≡ old ++ line_text (SetTo (t % 8) (pos t))) → OnOk r (new ≡ old ++ line_text (drawn_line t))
-adds_set r old new t is h = subst (λ (l : ScriptLine). OnOk r (new ≡ old ++ line_text l)) (sym (drawn_at t 0 is)) h
+pub adds_set : {T E : Type 0} (r : Result T E) (old new : List ℕ) (t : ℕ) → t / 512 % 8 ≡ 0 → OnOk r (new ≡ old ++ ended (line_text (SetTo (t % 8) (pos t)))) → OnOk r (new ≡ old ++ ended (line_text (drawn_line t)))
+adds_set r old new t is h = subst (λ (l : ScriptLine). OnOk r (new ≡ old ++ ended (line_text l))) (sym (drawn_at t 0 is)) h
 
 pub adds_applied : {T E : Type 0} (r : Result T E) (old new : List ℕ) (t o : ℕ) (policy : Policy) (op : Op) (xs : Operands) (registers names : List ℕ) → t / 512 % 8 ≡ o
     → get_or (choices t (t % 8) (t / 8 % 8) (t / 64 % 8)) o (SetTo (t % 8) (pos t)) ≡ Apply (t % 8) policy op xs None → operand_tokens xs ≡ map register_text registers → names ≡ (32 ∷ policy_name policy) ++ (32 ∷ op_name op)
-    → OnOk r (new ≡ old ++ register_text (t % 8) ++ names ++ operands_text registers) → OnOk r (new ≡ old ++ line_text (drawn_line t))
+    → OnOk r (new ≡ old ++ register_text (t % 8) ++ names ++ ended (operands_text registers)) → OnOk r (new ≡ old ++ ended (line_text (drawn_line t)))
 adds_applied r old new t o policy op xs registers names is line tokens names_are h =
-    subst (λ (l : ScriptLine). OnOk r (new ≡ old ++ line_text l)) (sym (drawn_at t o is ∙ line))
-    (subst (λ (text : List ℕ). OnOk r (new ≡ text)) (applied_line old (t % 8) policy op xs registers names tokens names_are) h)
+    let front = old ++ register_text (t % 8) ++ names in
+    let line_is = applied_line old (t % 8) policy op xs registers names tokens names_are in
+    let text : front ++ ended (operands_text registers) ≡ old ++ ended (line_text (Apply (t % 8) policy op xs None)) =
+    sym (append_assoc front (operands_text registers) (10 ∷ [])) ∙ ap ended line_is ∙ append_assoc old (line_text (Apply (t % 8) policy op xs None)) (10 ∷ []) in
+    subst (λ (l : ScriptLine). OnOk r (new ≡ old ++ ended (line_text l))) (sym (drawn_at t o is ∙ line))
+    (subst (λ (text : List ℕ). OnOk r (new ≡ text)) text h)
 
 -- ---- the script so far
 pub state_zero : state_at 0 ≡ 1
@@ -77,7 +81,5 @@ demo_text_next i =
     ap (λ us. header ++ us) (flat_map-append text (demo_lines i) (l ∷ []) ∙ ap (λ us. flat_map text (demo_lines i) ++ us) (append-nil (text l)))
     ∙ sym (append_assoc header (flat_map text (demo_lines i)) (text l))
 
-pub demo_text_more : (i : ℕ) → demo_text (i + 1) ≡ (demo_text i ++ line_text (drawn_line (draw (state_at (i + 1))))) ++ (10 ∷ [])
-demo_text_more i =
-    let l = line_text (drawn_line (draw (state_at (i + 1)))) in
-    ap demo_text (add-one i) ∙ demo_text_next i ∙ ap (λ k. demo_text i ++ ended (line_text (drawn_line (draw (state_at k))))) (sym (add-one i)) ∙ sym (append_assoc (demo_text i) l (10 ∷ []))
+pub demo_text_more : (i : ℕ) → demo_text (i + 1) ≡ demo_text i ++ ended (line_text (drawn_line (draw (state_at (i + 1)))))
+demo_text_more i = ap demo_text (add-one i) ∙ demo_text_next i ∙ ap (λ k. demo_text i ++ ended (line_text (drawn_line (draw (state_at k))))) (sym (add-one i))

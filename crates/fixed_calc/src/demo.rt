@@ -3,6 +3,7 @@
 ghost use Rattle.std.specs.Prelude.{◌≡◌, ◌<◌, ◌≤◌, ◌∷◌, ◌++◌, [], flat_map, pos, IfOk, OnOk};
 ghost use Rattle.fixed_word.specs.Decimal.{natural_text};
 ghost use Rattle.fixed_script.specs.Text.{SetTo, line_text, register_text};
+ghost use Rattle.fixed_machine.specs.Answers.{ended};
 ghost use Rattle.fixed_calc.specs.Demo.{demo_text, drawn_line};
 ghost use Rattle.fixed_calc.specs.inside.Draws.{next_state};
 ghost use Rattle.fixed_calc.specs.CommandLine.{most_lines};
@@ -75,15 +76,16 @@ fn push_register(script: &mut Vec<u8>, register: u64) -> Result<(), AllocError>
     script.extend_from_slice(&[b'r', b'0' + register as u8])
 }
 
-/// Adds a line that sets a register of one digit. Fails if memory runs out.
+/// Adds a line that sets a register of one digit, and its newline. Fails if memory runs out.
 fn push_set(script: &mut Vec<u8>, dest: u64, number: u64) -> Result<(), AllocError>
     requires { dest < 10 }
     ensures { OnOk result (script.new.items
-        ≡ script.old.items ++ line_text (SetTo dest (pos number))) }
+        ≡ script.old.items ++ ended (line_text (SetTo dest (pos number)))) }
 {
     push_register(script, dest)?;
     script.extend_from_slice(b" set ")?;
-    push_number(script, number)
+    push_number(script, number)?;
+    script.extend_from_slice(b"\n")
 }
 
 /// Adds the start of a line: its destination, and the names of its policy and operation, each after a space. The
@@ -96,16 +98,16 @@ fn push_names(script: &mut Vec<u8>, dest: u64, names: &[u8]) -> Result<(), Alloc
     script.extend_from_slice(names)
 }
 
-/// Adds a line that applies an operation to one register. Fails if memory runs out.
+/// Adds a line that applies an operation to one register, and its newline. Fails if memory runs out.
 #[tactic(auto, using(fixed_digits::proofs::Shown::one_digit))]
 fn push_unary(script: &mut Vec<u8>, dest: u64, names: &[u8], a: u64) -> Result<(), AllocError>
     requires dest { dest < 10 }
     requires a { a < 10 }
     ensures { OnOk result (script.new.items ≡ script.old.items
-        ++ register_text dest ++ names.now ++ flat_map (λ operand. 32 ∷ register_text operand) (a ∷ [])) }
+        ++ register_text dest ++ names.now ++ ended (flat_map (λ operand. 32 ∷ register_text operand) (a ∷ []))) }
 {
     push_names(script, dest, names)?;
-    script.extend_from_slice(&[b' ', b'r', b'0' + a as u8])
+    script.extend_from_slice(&[b' ', b'r', b'0' + a as u8, b'\n'])
 }
 
 /// Does the same for two registers.
@@ -121,10 +123,11 @@ fn push_binary(
     requires a { a < 10 }
     requires b { b < 10 }
     ensures { OnOk result (script.new.items ≡ script.old.items
-        ++ register_text dest ++ names.now ++ flat_map (λ operand. 32 ∷ register_text operand) (a ∷ b ∷ [])) }
+        ++ register_text dest ++ names.now ++ ended (flat_map (λ operand. 32 ∷ register_text operand) (a ∷ b ∷ []))) }
 {
     push_names(script, dest, names)?;
-    script.extend_from_slice(&[b' ', b'r', b'0' + a as u8, b' ', b'r', b'0' + b as u8])
+    let (a, b) = (b'0' + a as u8, b'0' + b as u8);
+    script.extend_from_slice(&[b' ', b'r', a, b' ', b'r', b, b'\n'])
 }
 
 /// Does the same for three registers.
@@ -142,16 +145,16 @@ fn push_ternary(
     requires b { b < 10 }
     requires c { c < 10 }
     ensures { OnOk result (script.new.items ≡ script.old.items
-        ++ register_text dest ++ names.now ++ flat_map (λ operand. 32 ∷ register_text operand) (a ∷ b ∷ c ∷ [])) }
+        ++ register_text dest ++ names.now ++ ended (flat_map (λ operand. 32 ∷ register_text operand) (a ∷ b ∷ c ∷ []))) }
 {
     push_names(script, dest, names)?;
     let (a, b, c) = (b'0' + a as u8, b'0' + b as u8, b'0' + c as u8);
-    script.extend_from_slice(&[b' ', b'r', a, b' ', b'r', b, b' ', b'r', c])
+    script.extend_from_slice(&[b' ', b'r', a, b' ', b'r', b, b' ', b'r', c, b'\n'])
 }
 
-/// Adds the line of a draw. Fails if memory runs out.
+/// Adds the line of a draw, and its newline. Fails if memory runs out.
 fn push_line(script: &mut Vec<u8>, draw: u64) -> Result<(), AllocError>
-    ensures { OnOk result (script.new.items ≡ script.old.items ++ line_text (drawn_line draw)) }
+    ensures { OnOk result (script.new.items ≡ script.old.items ++ ended (line_text (drawn_line draw))) }
 {
     let dest = draw % 8;
     let a = draw / 8 % 8;
@@ -181,7 +184,6 @@ pub fn demo_script(alloc: Global, lines: u32) -> Result<Script, AllocError>
     for _i in 0..lines {
         state = next(state);
         push_line(&mut bytes, state >> 33)?;
-        bytes.extend_from_slice(b"\n")?;
     }
     Ok(Script { bytes })
 }

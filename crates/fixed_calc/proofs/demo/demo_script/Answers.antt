@@ -1,5 +1,6 @@
-use Rattle.std.proofs.Common.{◌≡◌, ◌+◌, ◌++◌, ◌∷◌, [], List, ℕ, ◌∙◌, ap, sym, codes}
+use Rattle.std.proofs.Common.{◌≡◌, ◌+◌, ◌++◌, List, ℕ, ◌∙◌, ap, sym, codes}
 use Rattle.fixed_script.specs.Text.{line_text}
+use Rattle.fixed_machine.specs.Answers.{ended}
 use Rattle.fixed_calc.specs.Demo.{state_at, drawn_line, demo_text}
 use Rattle.fixed_calc.specs.inside.Draws.{next_state, draw}
 use Rattle.fixed_calc.proofs.Pushed.{state_zero, state_more, demo_text_zero, demo_text_more}
@@ -15,10 +16,11 @@ pub loop-i-preserved : goal.loop-i-preserved
 loop-i-preserved c =
     let i = c.loop-i._i in
     let state : c.next-state.result ≡ state_at (i + 1) = c.next-state.ensures ∙ ap next_state c.loop-i.invariant.state ∙ sym (state_more i) in
-    let line : List ℕ = line_text (drawn_line (draw c.next-state.result)) in
+    let line : List ℕ = ended (line_text (drawn_line (draw c.next-state.result))) in
     record {
       state = state;
-      text = c.in_ok-extend_from_slice-2.ensures.items
-          ∙ ap (λ (bytes : List ℕ). bytes ++ (10 ∷ [])) (c.in_ok-push_line.ensures ∙ ap (λ (bytes : List ℕ). bytes ++ line) c.loop-i.invariant.text ∙ ap (λ (x : ℕ). demo_text i ++ line_text (drawn_line (draw x))) state)
+      text = c.in_ok-push_line.ensures
+          ∙ ap (λ (bytes : List ℕ). bytes ++ line) c.loop-i.invariant.text
+          ∙ ap (λ (x : ℕ). demo_text i ++ ended (line_text (drawn_line (draw x)))) state
           ∙ sym (demo_text_more i);
     }
