@@ -3,7 +3,7 @@
 ghost use Rattle.std.specs.Prelude.{◌≤◌};
 
 use crate::fitting::log2_with_16;
-use crate::found::{Found, bits_of, check, check_fit};
+use crate::found::{Found, bits_of, check, check_fit, short_bits};
 use fixed_elementary::{exp2_of, hypot_of, log2_of, recip_sqrt_of};
 use fixed_math::{CheckedMath, OverflowingMath, SaturatingMath, WrappingMath};
 use fixed_num::{FixedI8, FixedI32};
@@ -150,36 +150,28 @@ fn powers(rt: HostRuntime) {
 }
 
 /// The calls of each policy at one number: the length of the pair of it twice, and the power of 2.
-fn calls<N: CheckedMath + OverflowingMath + SaturatingMath + WrappingMath>(
-    number: N,
-) -> (Option<N>, (N, bool), N, N, N)
-    requires { N.FRACTION ≤ N.BITS }
-{
+fn calls(number: FixedI8<4>) -> (Option<FixedI8<4>>, (FixedI8<4>, bool), [FixedI8<4>; 3]) {
     (
         number.checked_hypot(number),
         number.overflowing_hypot(number),
-        number.saturating_hypot(number),
-        number.wrapping_hypot(number),
-        number.saturating_exp2(),
+        [
+            number.saturating_hypot(number),
+            number.wrapping_hypot(number),
+            number.saturating_exp2(),
+        ],
     )
 }
 
 /// What those calls leave of a number of 8 bits: whether checked is none, overflowing, then saturating, wrapping and the
 /// power.
-fn left_by_calls<const F: u32>(bits: i8) -> (bool, (i8, bool), [i8; 3])
-    requires { F ≤ 8 }
-{
-    let (checked, (left, past), saturated, wrapped, power) = calls(FixedI8::<F> { bits });
-    (
-        checked.is_none(),
-        (left.bits, past),
-        [saturated.bits, wrapped.bits, power.bits],
-    )
+fn left_by_calls(bits: i8) -> (bool, (i8, bool), [i8; 3]) {
+    let (checked, (left, past), others) = calls(FixedI8::<4> { bits });
+    (checked.is_none(), (left.bits, past), short_bits(others))
 }
 
 #[test]
 fn typed_calls(rt: HostRuntime) {
-    assert!(rt; left_by_calls::<4>(96) == (true, (-121, true), [127, -121, 127]));
+    assert!(rt; left_by_calls(96) == (true, (-121, true), [127, -121, 127]));
 }
 
 #[test]

@@ -186,11 +186,15 @@ fn powers_of_numbers(rt: HostRuntime) {
 }
 
 /// The calls of each policy at one number above 0: the logarithms, the power of e and the number to its own power.
-fn calls<N: CheckedNatural + OverflowingNatural + SaturatingNatural + WrappingNatural>(
-    number: N,
-) -> ([Option<N>; 3], (N, bool), [N; 3], N)
-    requires fraction { N.FRACTION ≤ N.BITS }
-    requires positive { pos 0 <ℤ N.number number }
+fn calls(
+    number: FixedI8<4>,
+) -> (
+    [Option<FixedI8<4>>; 3],
+    (FixedI8<4>, bool),
+    [FixedI8<4>; 3],
+    FixedI8<4>,
+)
+    requires { pos 0 <ℤ number.bits }
 {
     (
         [
@@ -209,11 +213,10 @@ fn calls<N: CheckedNatural + OverflowingNatural + SaturatingNatural + WrappingNa
 }
 
 /// What those calls leave of a number of 8 bits above 0, by its bits.
-fn left_by_calls<const F: u32>(bits: i8) -> ([Option<i8>; 3], (i8, bool), [i8; 3], i8)
-    requires fraction { F ≤ 8 }
-    requires positive { pos 0 <ℤ bits }
+fn left_by_calls(bits: i8) -> ([Option<i8>; 3], (i8, bool), [i8; 3], i8)
+    requires { pos 0 <ℤ bits }
 {
-    let (checked, (left, past), saturating, wrapped) = calls(FixedI8::<F> { bits });
+    let (checked, (left, past), saturating, wrapped) = calls(FixedI8::<4> { bits });
     (
         checked_bits(checked),
         (left.bits, past),
@@ -224,10 +227,10 @@ fn left_by_calls<const F: u32>(bits: i8) -> ([Option<i8>; 3], (i8, bool), [i8; 3
 
 #[test]
 fn natural_calls(rt: HostRuntime) {
-    let (checked, overflowing, saturating, wrapped) = left_by_calls::<4>(1);
+    let (checked, overflowing, saturating, wrapped) = left_by_calls(1);
     assert!(rt; checked == [Some(-45), Some(17), Some(13)]);
     assert!(rt; overflowing == (-20, false) && saturating == [-45, 17, 13] && wrapped == -45);
-    let (checked, overflowing, saturating, wrapped) = left_by_calls::<4>(127);
+    let (checked, overflowing, saturating, wrapped) = left_by_calls(127);
     assert!(rt; checked == [Some(33), None, None]);
     assert!(rt; overflowing == (14, false) && saturating == [33, 127, 127] && wrapped == 33);
 }

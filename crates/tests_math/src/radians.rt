@@ -184,11 +184,12 @@ fn unsigned_sines_and_cosines_of_radians(rt: HostRuntime) {
     }
 }
 
+/// The sine and the cosine by each policy: checked, overflowing, saturating, wrapping.
+type CallsOfBoth<N> = (Option<(N, N)>, ((N, bool), (N, bool)), (N, N), (N, N));
+
 /// The calls of both at one number.
-fn calls_of_both<N: CheckedRadians + OverflowingRadians + SaturatingRadians + WrappingRadians>(
-    number: N,
-) -> (Option<(N, N)>, ((N, bool), (N, bool)), (N, N), (N, N))
-    requires { N.FRACTION ≤ N.BITS }
+fn calls_of_both<const F: u32>(number: FixedI8<F>) -> CallsOfBoth<FixedI8<F>>
+    requires { F ≤ 8 }
 {
     (
         number.checked_sin_cos(),
@@ -200,15 +201,20 @@ fn calls_of_both<N: CheckedRadians + OverflowingRadians + SaturatingRadians + Wr
 
 /// The calls of each policy at one point: the sine and the cosine of y radians, the angle of the point, and at last
 /// the calls of both.
-fn calls<N: CheckedRadians + OverflowingRadians + SaturatingRadians + WrappingRadians>(
-    y: N,
-    x: N,
+fn calls<const F: u32>(
+    y: FixedI8<F>,
+    x: FixedI8<F>,
 ) -> (
-    ([Option<N>; 3], [(N, bool); 3], [N; 3], [N; 3]),
-    (Option<(N, N)>, ((N, bool), (N, bool)), (N, N), (N, N)),
+    (
+        [Option<FixedI8<F>>; 3],
+        [(FixedI8<F>, bool); 3],
+        [FixedI8<F>; 3],
+        [FixedI8<F>; 3],
+    ),
+    CallsOfBoth<FixedI8<F>>,
 )
-    requires fraction { N.FRACTION ≤ N.BITS }
-    requires some { N.number x ≡ pos 0 → N.number y ≢ pos 0 }
+    requires fraction { F ≤ 8 }
+    requires some { x.bits ≡ pos 0 → y.bits ≢ pos 0 }
 {
     let each = (
         [y.checked_sin(), y.checked_cos(), y.checked_atan2(x)],
@@ -230,12 +236,7 @@ fn calls<N: CheckedRadians + OverflowingRadians + SaturatingRadians + WrappingRa
 /// What the calls of both leave: whether checked is none, overflowing with the verdict on the cosine, saturating,
 /// wrapping.
 fn bits_of_both<const F: u32>(
-    both: (
-        Option<(FixedI8<F>, FixedI8<F>)>,
-        ((FixedI8<F>, bool), (FixedI8<F>, bool)),
-        (FixedI8<F>, FixedI8<F>),
-        (FixedI8<F>, FixedI8<F>),
-    ),
+    both: CallsOfBoth<FixedI8<F>>,
 ) -> (bool, (i8, i8, bool), (i8, i8), (i8, i8)) {
     let (checked, (sine, (cosine, past)), saturating, wrapping) = both;
     (

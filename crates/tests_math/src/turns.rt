@@ -109,12 +109,17 @@ fn sines_of_other_words(rt: HostRuntime) {
 }
 
 /// The calls of each policy at one point: the sine and the cosine of y turns, and the angle of the point.
-fn calls<N: CheckedTurns + OverflowingTurns + SaturatingTurns + WrappingTurns>(
-    y: N,
-    x: N,
-) -> ([Option<N>; 3], [(N, bool); 3], [N; 3], [N; 3])
-    requires fraction { N.FRACTION ≤ N.BITS }
-    requires some { N.number x ≡ pos 0 → N.number y ≢ pos 0 }
+fn calls<const F: u32>(
+    y: FixedI8<F>,
+    x: FixedI8<F>,
+) -> (
+    [Option<FixedI8<F>>; 3],
+    [(FixedI8<F>, bool); 3],
+    [FixedI8<F>; 3],
+    [FixedI8<F>; 3],
+)
+    requires fraction { F ≤ 8 }
+    requires some { x.bits ≡ pos 0 → y.bits ≢ pos 0 }
 {
     (
         [
