@@ -15,3 +15,4 @@ mod Reduced
 mod Rests
 mod Closing
 mod Nears
+pub mod Above
