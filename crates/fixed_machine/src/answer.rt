@@ -9,7 +9,7 @@ ghost use Rattle.fixed_machine.specs.inside.Stepping.{number_in, whole_answer};
 
 use crate::register::{Signed, with_sign};
 use fixed_digits::decimal_before;
-use fixed_text::{push_all, push_whole};
+use fixed_text::push_all;
 
 /// The answer of a line: no value, the destination's bits, or its bits and the verdict of the overflowing policy, which
 /// is true if the exact result does not fit.
@@ -48,18 +48,6 @@ pub(crate) const SPARE: usize = 32;
 
 /// Where the digits of a number end in its text.
 const DIGITS_END: usize = 24;
-
-/// Returns the sign and the magnitude of a number.
-#[inline(always)]
-fn sign_and_magnitude(n: i128) -> (bool, u128)
-    ensures { whole_text n ≡ signed_text result.0 result.1 }
-{
-    if n < 0 {
-        (true, n.unsigned_abs())
-    } else {
-        (false, n as u128)
-    }
-}
 
 /// Writes a number before what follows it, and returns where it begins.
 #[inline(always)]
@@ -143,28 +131,9 @@ fn push_number(
     push_before(out, text, below_zero, magnitude, count);
 }
 
-/// Adds a number and the first `count` bytes of `tail`.
+/// Does the same. Zero has no minus.
 #[inline(always)]
-fn push_with(out: &mut Vec<u8>, text: &mut [u8; 56], n: i128, tail: &[u8; 8], count: usize)
-    requires count { count ≤ 8 }
-    requires room { vec_len out.old + (length (whole_text n) + count) ≤ vec_capacity out.old }
-    requires spare { vec_len out.old + 32 ≤ vec_capacity out.old }
-    ensures items { out.new.items ≡ out.old.items ++ (whole_text n ++ take count tail.now) }
-    ensures len { vec_len out.new ≡ vec_len out.old + (length (whole_text n) + count) }
-    ensures capacity { vec_capacity out.old ≤ vec_capacity out.new }
-{
-    let (below_zero, magnitude) = sign_and_magnitude(n);
-    if magnitude < 1 << 64 {
-        push_number(out, text, below_zero, magnitude as u64, tail, count);
-    } else {
-        push_whole(out, n);
-        push_all(out, &tail[..count]);
-    }
-}
-
-/// Does the same for a number as sign and magnitude. Zero has no minus.
-#[inline(always)]
-fn push_signed_with(out: &mut Vec<u8>, text: &mut [u8; 56], n: Signed, tail: &[u8; 8], count: usize)
+fn push_with(out: &mut Vec<u8>, text: &mut [u8; 56], n: Signed, tail: &[u8; 8], count: usize)
     requires count { count ≤ 8 }
     requires room { vec_len out.old + 32 ≤ vec_capacity out.old }
     ensures items { out.new.items ≡ out.old.items ++ (whole_text (number_in n) ++ take count tail.now) }
@@ -181,9 +150,9 @@ fn push_signed_with(out: &mut Vec<u8>, text: &mut [u8; 56], n: Signed, tail: &[u
     );
 }
 
-/// Adds the text of an answer whose number is a sign and a magnitude. `text` is scratch space for its number.
+/// Adds the text of an answer. `text` is scratch space for its number.
 #[inline(always)]
-pub(crate) fn push_signed_answer(out: &mut Vec<u8>, text: &mut [u8; 56], answer: SignedAnswer)
+pub(crate) fn push_answer(out: &mut Vec<u8>, text: &mut [u8; 56], answer: SignedAnswer)
     requires { vec_len out.old + length (answer_text (whole_answer answer)) + 32 ≤ vec_capacity out.old }
     ensures items { out.new.items ≡ out.old.items ++ answer_text (whole_answer answer) }
     ensures len { vec_len out.new ≡ vec_len out.old + length (answer_text (whole_answer answer)) }
@@ -191,29 +160,8 @@ pub(crate) fn push_signed_answer(out: &mut Vec<u8>, text: &mut [u8; 56], answer:
 {
     match answer {
         SignedAnswer::Absent => push_all(out, b"none\n"),
-        SignedAnswer::Bits(n) => push_signed_with(out, text, n, b"\n.......", 1),
+        SignedAnswer::Bits(n) => push_with(out, text, n, b"\n.......", 1),
         SignedAnswer::Flagged(n, verdict) => {
-            if verdict {
-                push_signed_with(out, text, n, b" true\n..", 6);
-            } else {
-                push_signed_with(out, text, n, b" false\n.", 7);
-            }
-        }
-    }
-}
-
-/// Adds the text of an answer. `text` is scratch space for its number.
-#[inline(always)]
-pub(crate) fn push_answer(out: &mut Vec<u8>, text: &mut [u8; 56], answer: Answer)
-    requires { vec_len out.old + length (answer_text answer) + 32 ≤ vec_capacity out.old }
-    ensures items { out.new.items ≡ out.old.items ++ answer_text answer }
-    ensures len { vec_len out.new ≡ vec_len out.old + length (answer_text answer) }
-    ensures capacity { vec_capacity out.old ≤ vec_capacity out.new }
-{
-    match answer {
-        Answer::Absent => push_all(out, b"none\n"),
-        Answer::Bits(n) => push_with(out, text, n, b"\n.......", 1),
-        Answer::Flagged(n, verdict) => {
             if verdict {
                 push_with(out, text, n, b" true\n..", 6);
             } else {

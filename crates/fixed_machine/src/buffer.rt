@@ -5,7 +5,7 @@ ghost use Rattle.fixed_machine.specs.inside.Buffers.{Buffered};
 ghost use Rattle.fixed_machine.specs.Answers.{answer_text};
 ghost use Rattle.fixed_machine.specs.inside.Stepping.{whole_answer};
 
-use crate::answer::{Answer, SPARE, SignedAnswer, push_answer, push_signed_answer};
+use crate::answer::{SPARE, SignedAnswer, push_answer};
 use std::alloc::{AllocError, Global};
 use std::marker::Model;
 
@@ -72,24 +72,14 @@ impl Buffer {
         self.held.clear();
     }
 
-    /// Adds the text of an answer whose number is a sign and a magnitude. Precondition: there is room for it.
+    /// Adds the text of an answer. Precondition: there is room for it.
     #[inline(always)]
-    pub(crate) fn push_signed_text(&mut self, answer: SignedAnswer)
+    pub(crate) fn push_text(&mut self, answer: SignedAnswer)
         requires { length self.old.bytes + length (answer_text (whole_answer answer)) ≤ self.old.room }
         ensures { self.new ≡ record {
           bytes = self.old.bytes ++ answer_text (whole_answer answer);
           room = self.old.room;
         } }
-    {
-        push_signed_answer(&mut self.held, &mut self.text, answer);
-    }
-
-    /// Adds the text of an answer. Precondition: there is room for it.
-    #[inline(always)]
-    pub(crate) fn push_text(&mut self, answer: Answer)
-        requires { length self.old.bytes + length (answer_text answer) ≤ self.old.room }
-        ensures { self.new
-            ≡ record { bytes = self.old.bytes ++ answer_text answer; room = self.old.room } }
     {
         push_answer(&mut self.held, &mut self.text, answer);
     }

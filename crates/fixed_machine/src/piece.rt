@@ -3,9 +3,10 @@
 ghost use Rattle.std.specs.Prelude.{◌≡◌, None};
 ghost use Rattle.std.specs.List.{All};
 ghost use Rattle.fixed_script.specs.Lines.{line_of_piece};
+ghost use Rattle.fixed_machine.specs.inside.Stepping.{in_whole};
 ghost use Rattle.fixed_machine.specs.Step.{IsCell, IsStepOfLine, cells_of, state_in};
 
-use crate::answer::Answer;
+use crate::answer::SignedAnswer;
 use crate::cause::Cause;
 use crate::register::Register;
 use crate::stepping::step_registers;
@@ -18,10 +19,10 @@ pub(crate) fn read_and_step(
     registers: &mut [Register],
     piece: &[u8],
     number: u64,
-) -> Result<Answer, Cause>
+) -> Result<SignedAnswer, Cause>
     requires { All (IsCell word) (cells_of registers.old) }
     ensures tells { IsStepOfLine (state_in word (cells_of registers.old))
-        (line_of_piece piece.now) number result (cells_of registers.new) }
+        (line_of_piece piece.now) number (in_whole result) (cells_of registers.new) }
     ensures kept { All (IsCell word) (cells_of registers.new) }
 {
     match line_of_piece(piece) {

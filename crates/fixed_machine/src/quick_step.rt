@@ -18,7 +18,7 @@ use crate::answer::SignedAnswer;
 use crate::projected::answer_as;
 use crate::quick::{Applied, QuickLine};
 use crate::register::{OperandRegisters, Register, Signed};
-use crate::stepping::{is_offered, store_signed};
+use crate::stepping::{is_offered, store};
 use fixed_script::{Arity, Op, arity_of};
 use fixed_text::WordName;
 use fixed_word::{Side, Word, outcome_of};
@@ -194,11 +194,11 @@ pub(crate) fn quick_step<T: Word>(
     match answer {
         SignedAnswer::Absent => Some(answer),
         SignedAnswer::Bits(bits) => {
-            store_signed(registers, line.dest, bits);
+            store(registers, line.dest, bits);
             Some(answer)
         }
         SignedAnswer::Flagged(bits, _) => {
-            store_signed(registers, line.dest, bits);
+            store(registers, line.dest, bits);
             Some(answer)
         }
     }

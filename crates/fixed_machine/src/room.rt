@@ -5,7 +5,7 @@ ghost use Rattle.std.specs.List.{list_all};
 ghost use Rattle.fixed_machine.specs.Answers.{answer_text};
 ghost use Rattle.fixed_text.specs.Words.{is_signed as signed, width as width_in};
 ghost use Rattle.fixed_machine.specs.inside.Quick.{script_line_of_quick};
-ghost use Rattle.fixed_machine.specs.inside.Stepping.{whole_answer};
+ghost use Rattle.fixed_machine.specs.inside.Stepping.{in_whole, whole_answer};
 ghost use Rattle.fixed_machine.specs.Meaning.{has_wide as is_wide, zeros};
 ghost use Rattle.fixed_script.specs.Capped.{checked_script_line};
 ghost use Rattle.fixed_machine.specs.Rooms.{KeepsTheRest, spaces, spaces_in};
@@ -193,14 +193,17 @@ impl Room {
         ensures kept { KeepsTheRest self.old self.new }
     {
         let word = self.word.unwrap();
-        step_registers(word, &mut self.registers, line, number)
+        match step_registers(word, &mut self.registers, line, number) {
+            Ok(answer) => Ok(answer.into_answer()),
+            Err(cause) => Err(cause),
+        }
     }
 
     /// Runs one piece.
-    pub(crate) fn step_piece(&mut self, piece: &[u8], number: u64) -> Result<Answer, Cause>
+    pub(crate) fn step_piece(&mut self, piece: &[u8], number: u64) -> Result<SignedAnswer, Cause>
         requires { IsSome self.old.word }
         ensures tells { IfSome self.old.word (λ word. IsStepOfLine (state_in word self.old.registers)
-            (line_of_piece piece.now) number result self.new.registers) }
+            (line_of_piece piece.now) number (in_whole result) self.new.registers) }
         ensures kept { KeepsTheRest self.old self.new }
     {
         let word = self.word.unwrap();
@@ -235,23 +238,11 @@ impl Room {
         quick_step::<T>(word, &mut self.registers, one_fraction, line, number)
     }
 
-    /// Adds the text of an answer whose number is a sign and a magnitude. Precondition: there is room for it.
-    #[inline(always)]
-    pub(crate) fn push_signed(&mut self, answer: SignedAnswer)
-        requires { length self.old.answers + length (answer_text (whole_answer answer)) ≤ self.old.answer_room }
-        ensures answers { self.new.answers ≡ self.old.answers ++ answer_text (whole_answer answer) }
-        ensures word { self.new.word ≡ self.old.word }
-        ensures registers { self.new.registers ≡ self.old.registers }
-        ensures kept { KeepsRoom self.old self.new }
-    {
-        self.answers.push_signed_text(answer);
-    }
-
     /// Adds the text of an answer. Precondition: there is room for it.
     #[inline(always)]
-    pub(crate) fn push(&mut self, answer: Answer)
-        requires { length self.old.answers + length (answer_text answer) ≤ self.old.answer_room }
-        ensures answers { self.new.answers ≡ self.old.answers ++ answer_text answer }
+    pub(crate) fn push(&mut self, answer: SignedAnswer)
+        requires { length self.old.answers + length (answer_text (whole_answer answer)) ≤ self.old.answer_room }
+        ensures answers { self.new.answers ≡ self.old.answers ++ answer_text (whole_answer answer) }
         ensures word { self.new.word ≡ self.old.word }
         ensures registers { self.new.registers ≡ self.old.registers }
         ensures kept { KeepsRoom self.old self.new }

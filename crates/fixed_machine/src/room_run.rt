@@ -74,7 +74,7 @@ fn answer_quick_line<T: Word>(
     };
     match room.step_quick_line::<T>(word, one_fraction, line, number) {
         Some(answer) => {
-            room.push_signed(answer);
+            room.push(answer);
             Some(end)
         }
         None => None,

@@ -9,13 +9,13 @@ ghost use Rattle.fixed_script.specs.Offered.{is_offered as offered};
 ghost use Rattle.fixed_machine.specs.Machine.{cell_at as cell_in, destination as destination_of, is_unoffered as unoffered, is_out_of_range as out_of_range, is_mismatched as mismatched, stored, integer};
 ghost use Rattle.fixed_text.specs.declared.names.WordName.{WordName};
 ghost use Rattle.fixed_text.specs.Words.{is_signed as signed, width};
-ghost use Rattle.fixed_machine.specs.inside.Stepping.{IsAnswerOfLine, IsApplied, HoldsOperands, script_line_of, values_of, is_value, number_in};
+ghost use Rattle.fixed_machine.specs.inside.Stepping.{IsAnswerOfLine, IsApplied, HoldsOperands, in_whole, script_line_of, values_of, is_value, number_in};
 ghost use Rattle.fixed_machine.specs.Step.{IsCell, IsStepOfLine, cell_of, cells_of, state_in};
 
-use crate::answer::Answer;
+use crate::answer::SignedAnswer;
 use crate::cause::Cause;
 use crate::projected::answer_in_word;
-use crate::register::{OperandRegisters, Register, Signed, with_sign};
+use crate::register::{OperandRegisters, Register, Signed};
 use fixed_script::{Arity, Line, Literal, Op, Policy, arity_of, takes_rounding};
 use fixed_text::WordName;
 use fixed_word::Rounding;
@@ -238,11 +238,14 @@ fn taken_by(registers: &[Register], line: &Line) -> OperandRegisters
 }
 
 /// Returns the number of a literal.
-fn whole_of(literal: Literal) -> i128
+fn number_of(literal: Literal) -> Signed
     requires { literal.magnitude < 2 ^ 64 }
-    ensures { result ≡ literal_value literal }
+    ensures { number_in result ≡ literal_value literal }
 {
-    with_sign(literal.below_zero, literal.magnitude as u64)
+    Signed {
+        below_zero: literal.below_zero,
+        magnitude: literal.magnitude as u64,
+    }
 }
 
 /// Returns the answer of a line with an operation, or its cause, if the first three tests found none.
@@ -255,7 +258,7 @@ fn answer_of_operation(
     op: Op,
     rounding: Option<Rounding>,
     number: u64,
-) -> Result<Answer, Cause>
+) -> Result<SignedAnswer, Cause>
     requires is { IsApplied (script_line_of line.now) policy op rounding }
     requires offered { unoffered word (script_line_of line.now) ≡ false }
     requires in_range { out_of_range
@@ -263,13 +266,10 @@ fn answer_of_operation(
     requires one_fraction { mismatched
         (state_in word (cells_of registers.now)) (script_line_of line.now) ≡ false }
     requires cells { All (IsCell word) (cells_of registers.now) }
-    ensures { IsAnswerOfLine (state_in word (cells_of registers.now)) (script_line_of line.now) number result }
+    ensures { IsAnswerOfLine (state_in word (cells_of registers.now)) (script_line_of line.now) number (in_whole result) }
 {
     let taken = taken_by(registers, line);
-    match answer_in_word(word, policy, op, rounding, &taken, number) {
-        Ok(answer) => Ok(answer.into_answer()),
-        Err(cause) => Err(cause),
-    }
+    answer_in_word(word, policy, op, rounding, &taken, number)
 }
 
 /// Returns the answer of a line, or its cause, if the first three tests found none.
@@ -278,17 +278,17 @@ fn answer_past_tests(
     registers: &[Register],
     line: &Line,
     number: u64,
-) -> Result<Answer, Cause>
+) -> Result<SignedAnswer, Cause>
     requires offered { unoffered word (script_line_of line.now) ≡ false }
     requires in_range { out_of_range
         (state_in word (cells_of registers.now)) (script_line_of line.now) ≡ false }
     requires one_fraction { mismatched
         (state_in word (cells_of registers.now)) (script_line_of line.now) ≡ false }
     requires cells { All (IsCell word) (cells_of registers.now) }
-    ensures { IsAnswerOfLine (state_in word (cells_of registers.now)) (script_line_of line.now) number result }
+    ensures { IsAnswerOfLine (state_in word (cells_of registers.now)) (script_line_of line.now) number (in_whole result) }
 {
     match line {
-        Line::Set { literal, .. } => Ok(Answer::Bits(whole_of(*literal))),
+        Line::Set { literal, .. } => Ok(SignedAnswer::Bits(number_of(*literal))),
         Line::One {
             policy,
             op,
@@ -322,9 +322,9 @@ fn answer_or_cause(
     registers: &[Register],
     line: &Line,
     number: u64,
-) -> Result<Answer, Cause>
+) -> Result<SignedAnswer, Cause>
     requires { All (IsCell word) (cells_of registers.now) }
-    ensures { IsAnswerOfLine (state_in word (cells_of registers.now)) (script_line_of line.now) number result }
+    ensures { IsAnswerOfLine (state_in word (cells_of registers.now)) (script_line_of line.now) number (in_whole result) }
 {
     if is_unoffered(word, line) {
         return Err(Cause::Syntax(number));
@@ -352,20 +352,7 @@ fn destination(line: &Line) -> u128
 
 /// Stores a number in a register.
 #[inline(always)]
-pub(crate) fn store(registers: &mut [Register], dest: u128, x: i128)
-    requires there { dest < length registers.old }
-    requires size { unsigned_abs x < 2 ^ 64 }
-    ensures { cells_of registers.new ≡ set (cells_of registers.old) dest
-        (record { bits = x; fraction = (cell_in (cells_of registers.old) dest).fraction }) }
-{
-    let register = &mut registers[dest as usize];
-    register.below_zero = x < 0;
-    register.magnitude = x.unsigned_abs() as u64;
-}
-
-/// Stores a sign and a magnitude in a register.
-#[inline(always)]
-pub(crate) fn store_signed(registers: &mut [Register], dest: usize, number: Signed)
+pub(crate) fn store(registers: &mut [Register], dest: usize, number: Signed)
     requires { dest < length registers.old }
     ensures { cells_of registers.new ≡ set (cells_of registers.old) dest
         (record { bits = number_in number; fraction = (cell_in (cells_of registers.old) dest).fraction }) }
@@ -381,10 +368,10 @@ pub(crate) fn step_registers(
     registers: &mut [Register],
     line: &Line,
     number: u64,
-) -> Result<Answer, Cause>
+) -> Result<SignedAnswer, Cause>
     requires { All (IsCell word) (cells_of registers.old) }
     ensures tells { IsStepOfLine (state_in word (cells_of registers.old))
-        (checked_script_line line.now) number result (cells_of registers.new) }
+        (checked_script_line line.now) number (in_whole result) (cells_of registers.new) }
     ensures kept { All (IsCell word) (cells_of registers.new) }
 {
     if !is_shaped(line) {
@@ -395,13 +382,13 @@ pub(crate) fn step_registers(
         Err(cause) => return Err(cause),
     };
     match answer {
-        Answer::Absent => Ok(answer),
-        Answer::Bits(x) => {
-            store(registers, destination(line), x);
+        SignedAnswer::Absent => Ok(answer),
+        SignedAnswer::Bits(bits) => {
+            store(registers, destination(line) as usize, bits);
             Ok(answer)
         }
-        Answer::Flagged(x, _) => {
-            store(registers, destination(line), x);
+        SignedAnswer::Flagged(bits, _) => {
+            store(registers, destination(line) as usize, bits);
             Ok(answer)
         }
     }

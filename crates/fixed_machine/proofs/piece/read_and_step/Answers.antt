@@ -2,6 +2,7 @@ use Rattle.std.proofs.Common.{◌≤◌, ◌^◌, length, arith, sym, subst, Opt
 use Rattle.std.proofs.lemmas.List.{length-map}
 use Rattle.fixed_script.specs.Text.{ScriptLine}
 use Rattle.fixed_machine.specs.Step.{IsStepOfLine, cell_of, cells_of, state_in}
+use Rattle.fixed_machine.specs.inside.Stepping.{in_whole}
 use Rattle.fixed_machine.proofs.Caps.{step_capped}
 use Rattle.fixed_machine.proofs.piece.read_and_step.Goals as goal
 
@@ -12,4 +13,4 @@ returns-in-Some-clause-tells c =
     let all : length (cells_of c.args.registers.now) ≤ 2 ^ 64 = omega (arith, length-map c.args.registers.now cell_of) in
     let l = c.in-Some.ensures in
     let after = cells_of c.step_registers.new.registers in
-    subst (λ (o : Option ScriptLine). IsStepOfLine s o c.args.number c.step_registers.result after) (sym l.1) (step_capped s l.0 c.args.number c.step_registers.result after _ all l.2 c.step_registers.ensures.tells)
+    subst (λ (o : Option ScriptLine). IsStepOfLine s o c.args.number (in_whole c.step_registers.result) after) (sym l.1) (step_capped s l.0 c.args.number (in_whole c.step_registers.result) after _ all l.2 c.step_registers.ensures.tells)

@@ -13,7 +13,7 @@ returns-in-Bits-clause-kept g c =
     let answer = whole_answer c.in-Some.answer in
     let s = stores (state_in c.args.word (cells_of c.args.registers.now)) (script_line_of_quick c.args.line) c.args.number answer c.in-Some.ensures in
     let there : c.args.line.dest < length (cells_of c.args.registers.now) = omega (arith, length-map c.args.registers.now cell_of, c.requires.dest) in
-    subst (All (IsCell c.args.word)) (sym c.store_signed.ensures) (cells_stay c.args.word (cells_of c.args.registers.now) c.args.line.dest x there c.requires.cells (valued_bits c.args.word answer x (ap whole_answer c.in-Bits.is) s.valued))
+    subst (All (IsCell c.args.word)) (sym c.store.ensures) (cells_stay c.args.word (cells_of c.args.registers.now) c.args.line.dest x there c.requires.cells (valued_bits c.args.word answer x (ap whole_answer c.in-Bits.is) s.valued))
 
 pub returns-in-Flagged-clause-kept : goal.returns-in-Flagged-clause-kept
 returns-in-Flagged-clause-kept g c =
@@ -21,4 +21,4 @@ returns-in-Flagged-clause-kept g c =
     let answer = whole_answer c.in-Some.answer in
     let s = stores (state_in c.args.word (cells_of c.args.registers.now)) (script_line_of_quick c.args.line) c.args.number answer c.in-Some.ensures in
     let there : c.args.line.dest < length (cells_of c.args.registers.now) = omega (arith, length-map c.args.registers.now cell_of, c.requires.dest) in
-    subst (All (IsCell c.args.word)) (sym c.store_signed-in-Flagged.ensures) (cells_stay c.args.word (cells_of c.args.registers.now) c.args.line.dest x there c.requires.cells (valued_flagged c.args.word answer x c.in-Flagged.field-1 (ap whole_answer c.in-Flagged.is) s.valued))
+    subst (All (IsCell c.args.word)) (sym c.store-in-Flagged.ensures) (cells_stay c.args.word (cells_of c.args.registers.now) c.args.line.dest x there c.requires.cells (valued_flagged c.args.word answer x c.in-Flagged.field-1 (ap whole_answer c.in-Flagged.is) s.valued))

@@ -13,8 +13,8 @@ use Rattle.fixed_machine.proofs.Fractions.{step_fractions}
 use Rattle.fixed_machine.proofs.Runs.{run_moves, move_short}
 use Rattle.fixed_machine.proofs.room_run.answer_quick_line.Goals as goal
 
-pub push_signed-requires : goal.push_signed-requires
-push_signed-requires g c =
+pub push-requires : goal.push-requires
+push-requires g c =
     let s = state_in c.args.word c.args.room.now.registers in
     let end = c.in-Some.found.1 in
     let rest = c.args.rest.now in
@@ -37,12 +37,12 @@ returns-in-Some-step_quick_line-clause-some g c =
     let short = move_short s c.args.number (take end rest) answer new tells in
     let moves = run_moves room.answers c.args.word room.registers new c.args.number rest (take end rest) (drop end rest) answer c.in-Some.ensures.cut tells in
     let kept = c.in-Some-step_quick_line.ensures.kept in
-    let answers : c.push_signed.new.self.answers ≡ room.answers ++ text = c.push_signed.ensures.answers ∙ ap (λ (a : List ℕ). a ++ text) kept.same_answers in
+    let answers : c.push.new.self.answers ≡ room.answers ++ text = c.push.ensures.answers ∙ ap (λ (a : List ℕ). a ++ text) kept.same_answers in
     record {
       some = c.in-Some.ensures.some;
       within = c.in-Some.ensures.within;
-      run = sym (moves ∙ (λ i. after (sym answers i) (run_lines (state_in c.args.word (sym c.push_signed.ensures.registers i)) (c.args.number + 1) (pieces (drop end rest)))));
-      its_word = c.push_signed.ensures.word ∙ kept.same_word ∙ c.requires.word;
-      same_fractions = ap fractions_in c.push_signed.ensures.registers ∙ step_fractions s (line_of_piece (take end rest)) c.args.number answer new tells;
-      space = omega (arith, ap length answers, length-append room.answers text, short, length-take end rest, length-drop end rest, c.push_signed.ensures.kept.same_answer_room, kept.same_answer_room, c.requires.space, c.in-Some.ensures.within);
+      run = sym (moves ∙ (λ i. after (sym answers i) (run_lines (state_in c.args.word (sym c.push.ensures.registers i)) (c.args.number + 1) (pieces (drop end rest)))));
+      its_word = c.push.ensures.word ∙ kept.same_word ∙ c.requires.word;
+      same_fractions = ap fractions_in c.push.ensures.registers ∙ step_fractions s (line_of_piece (take end rest)) c.args.number answer new tells;
+      space = omega (arith, ap length answers, length-append room.answers text, short, length-take end rest, length-drop end rest, c.push.ensures.kept.same_answer_room, kept.same_answer_room, c.requires.space, c.in-Some.ensures.within);
     }

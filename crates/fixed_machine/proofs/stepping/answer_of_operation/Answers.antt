@@ -1,9 +1,5 @@
-use Rattle.std.proofs.Common.{Ok, Result, sym, subst}
-use Rattle.fixed_machine.specs.declared.answer.Answer.{Answer}
-use Rattle.fixed_machine.specs.declared.answer.SignedAnswer.{SignedAnswer}
-use Rattle.fixed_machine.specs.declared.cause.Cause.{Cause}
 use Rattle.fixed_machine.specs.Step.{cells_of, state_in}
-use Rattle.fixed_machine.specs.inside.Stepping.{IsAnswerOfLine, in_whole, script_line_of}
+use Rattle.fixed_machine.specs.inside.Stepping.{in_whole, script_line_of}
 use Rattle.fixed_machine.proofs.Causes.{PassesTests, ready, applied_tells}
 use Rattle.fixed_machine.proofs.stepping.answer_of_operation.Goals as goal
 
@@ -17,18 +13,9 @@ answer_in_word-requires c =
 pub taken_by-taken-requires : goal.taken_by-taken-requires
 taken_by-taken-requires c = (c.args.word, c.requires.in_range)
 
-pub returns-in-Ok : goal.returns-in-Ok
-returns-in-Ok c =
+pub returns : goal.returns
+returns c =
     let s = state_in c.args.word (cells_of c.args.registers.now) in
     let line = script_line_of c.args.line.now in
     let t : PassesTests s line = record { offered = c.requires.offered; in_range = c.requires.in_range; one_fraction = c.requires.one_fraction } in
-    let told = applied_tells s line c.args.policy c.args.op c.args.rounding c.taken_by-taken.result c.args.number (in_whole c.answer_in_word.result) c.requires.is t c.taken_by-taken.ensures c.answer_in_word.ensures in
-    subst (λ (a : Answer). IsAnswerOfLine s line c.args.number (Ok a)) (sym c.into_answer.ensures) (subst (λ (r : Result SignedAnswer Cause). IsAnswerOfLine s line c.args.number (in_whole r)) c.in-Ok.is told)
-
-pub returns-in-Err : goal.returns-in-Err
-returns-in-Err c =
-    let s = state_in c.args.word (cells_of c.args.registers.now) in
-    let line = script_line_of c.args.line.now in
-    let t : PassesTests s line = record { offered = c.requires.offered; in_range = c.requires.in_range; one_fraction = c.requires.one_fraction } in
-    let told = applied_tells s line c.args.policy c.args.op c.args.rounding c.taken_by-taken.result c.args.number (in_whole c.answer_in_word.result) c.requires.is t c.taken_by-taken.ensures c.answer_in_word.ensures in
-    subst (λ (r : Result SignedAnswer Cause). IsAnswerOfLine s line c.args.number (in_whole r)) c.in-Err.is told
+    applied_tells s line c.args.policy c.args.op c.args.rounding c.taken_by-taken.result c.args.number (in_whole c.answer_in_word.result) c.requires.is t c.taken_by-taken.ensures c.answer_in_word.ensures
