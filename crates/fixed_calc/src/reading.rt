@@ -10,6 +10,9 @@ use std::alloc::Global;
 /// A script has at most this many bytes.
 const LIMIT: usize = 67_108_864;
 
+/// A script has room for this many bytes before it grows. So much memory is mapped alone, and grows without a copy.
+const FIRST_ROOM: usize = 1_048_576;
+
 /// Why reading stops before the end.
 #[derive(Clone, Copy, Debug, PartialEq, Eq)]
 pub(crate) enum Stop {
@@ -27,7 +30,10 @@ pub(crate) fn read_all<S: Source>(alloc: Global, source: &mut S) -> Result<Vec<u
     ensures faults { RoseIfFailed (S.state source.old).faults (S.state source.new).faults result }
     ensures reads { ReadsAs S.read_gives source.old source.new result }
 {
-    let mut script = Vec::new(alloc);
+    let mut script = match Vec::with_capacity(alloc, FIRST_ROOM) {
+        Ok(script) => script,
+        Err(_) => return Err(Stop::Memory),
+    };
     let mut buffer = [0; 4096];
     'reading: loop {
         let count = match source.read(&mut buffer) {

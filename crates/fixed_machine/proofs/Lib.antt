@@ -12,3 +12,4 @@ pub mod QuickText
 pub mod Lent
 pub mod Moves
 pub mod Fractions
+pub mod Minus

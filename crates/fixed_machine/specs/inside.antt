@@ -7,4 +7,3 @@ pub mod Quick
 pub mod QuickSteps
 pub mod Stepping
 pub mod Groups
-pub mod Signed

@@ -2,9 +2,8 @@
 
 ghost use Rattle.std.specs.Prelude.{◌≡◌, ◌+◌, ◌++◌, ◌≤◌, pos, drop, length, take, vec_len};
 ghost use Rattle.std.specs.Vec.{vec_capacity};
-ghost use Rattle.fixed_word.specs.Decimal.{natural_text, whole_text};
+ghost use Rattle.fixed_word.specs.Decimal.{whole_text};
 ghost use Rattle.fixed_machine.specs.Answers.{answer_text};
-ghost use Rattle.fixed_machine.specs.inside.Signed.{signed_text};
 ghost use Rattle.fixed_machine.specs.inside.Stepping.{number_in, whole_answer};
 
 use crate::register::{Signed, with_sign};
@@ -51,13 +50,14 @@ const DIGITS_END: usize = 24;
 
 /// Writes a number before what follows it, and returns where it begins.
 #[inline(always)]
-fn put_signed(below_zero: bool, magnitude: u64, text: &mut [u8; 56]) -> usize
-    ensures start { result + length (signed_text below_zero magnitude) ≡ 24 }
-    ensures length { length (signed_text below_zero magnitude) ≤ 21 }
-    ensures text { drop result text.new ≡ signed_text below_zero magnitude ++ drop 24 text.old }
+fn put_signed(n: Signed, text: &mut [u8; 56]) -> usize
+    ensures start { result + length (whole_text (number_in n)) ≡ 24 }
+    ensures length { length (whole_text (number_in n)) ≤ 21 }
+    ensures text { drop result text.new ≡ whole_text (number_in n) ++ drop 24 text.old }
 {
-    let start = decimal_before(magnitude, text, DIGITS_END);
-    if below_zero {
+    let start = decimal_before(n.magnitude, text, DIGITS_END);
+    // No number but 0 begins with a 0, and 0 has no minus.
+    if n.below_zero && text[start] != b'0' {
         let at = start - 1;
         text[at] = b'-';
         at
@@ -88,66 +88,31 @@ fn put_tail(tail: &[u8; 8], text: &mut [u8; 56])
     text[DIGITS_END..DIGITS_END + 8].copy_from_slice(tail);
 }
 
-/// Adds a number of 64 bits and a sign, and `count` bytes of what follows it in the text.
+/// Adds a number, and `count` bytes of what follows it in the text.
 #[inline(always)]
-fn push_before(
-    out: &mut Vec<u8>,
-    text: &mut [u8; 56],
-    below_zero: bool,
-    magnitude: u64,
-    count: usize,
-)
+fn push_before(out: &mut Vec<u8>, text: &mut [u8; 56], n: Signed, count: usize)
     requires count { count ≤ 8 }
     requires room { vec_len out.old + 32 ≤ vec_capacity out.old }
     ensures items { out.new.items ≡ out.old.items
-        ++ (signed_text below_zero magnitude ++ take count (drop 24 text.old)) }
-    ensures len { vec_len out.new
-        ≡ vec_len out.old + (length (signed_text below_zero magnitude) + count) }
+        ++ (whole_text (number_in n) ++ take count (drop 24 text.old)) }
+    ensures len { vec_len out.new ≡ vec_len out.old + (length (whole_text (number_in n)) + count) }
     ensures capacity { vec_capacity out.old ≤ vec_capacity out.new }
 {
-    let start = put_signed(below_zero, magnitude, text);
+    let start = put_signed(n, text);
     push_front(out, &text[start..start + SPARE], DIGITS_END - start + count);
 }
 
-/// Adds a number of 64 bits and a sign, and the first `count` bytes of `tail`.
+/// Adds a number and the first `count` bytes of `tail`.
 #[inline(always)]
-fn push_number(
-    out: &mut Vec<u8>,
-    text: &mut [u8; 56],
-    below_zero: bool,
-    magnitude: u64,
-    tail: &[u8; 8],
-    count: usize,
-)
-    requires count { count ≤ 8 }
-    requires room { vec_len out.old + 32 ≤ vec_capacity out.old }
-    ensures items { out.new.items ≡ out.old.items
-        ++ (signed_text below_zero magnitude ++ take count tail.now) }
-    ensures len { vec_len out.new
-        ≡ vec_len out.old + (length (signed_text below_zero magnitude) + count) }
-    ensures capacity { vec_capacity out.old ≤ vec_capacity out.new }
-{
-    put_tail(tail, text);
-    push_before(out, text, below_zero, magnitude, count);
-}
-
-/// Does the same. Zero has no minus.
-#[inline(always)]
-fn push_with(out: &mut Vec<u8>, text: &mut [u8; 56], n: Signed, tail: &[u8; 8], count: usize)
+fn push_number(out: &mut Vec<u8>, text: &mut [u8; 56], n: Signed, tail: &[u8; 8], count: usize)
     requires count { count ≤ 8 }
     requires room { vec_len out.old + 32 ≤ vec_capacity out.old }
     ensures items { out.new.items ≡ out.old.items ++ (whole_text (number_in n) ++ take count tail.now) }
     ensures len { vec_len out.new ≡ vec_len out.old + (length (whole_text (number_in n)) + count) }
     ensures capacity { vec_capacity out.old ≤ vec_capacity out.new }
 {
-    push_number(
-        out,
-        text,
-        n.below_zero && n.magnitude > 0,
-        n.magnitude,
-        tail,
-        count,
-    );
+    put_tail(tail, text);
+    push_before(out, text, n, count);
 }
 
 /// Adds the text of an answer. `text` is scratch space for its number.
@@ -160,12 +125,12 @@ pub(crate) fn push_answer(out: &mut Vec<u8>, text: &mut [u8; 56], answer: Signed
 {
     match answer {
         SignedAnswer::Absent => push_all(out, b"none\n"),
-        SignedAnswer::Bits(n) => push_with(out, text, n, b"\n.......", 1),
+        SignedAnswer::Bits(n) => push_number(out, text, n, b"\n.......", 1),
         SignedAnswer::Flagged(n, verdict) => {
             if verdict {
-                push_with(out, text, n, b" true\n..", 6);
+                push_number(out, text, n, b" true\n..", 6);
             } else {
-                push_with(out, text, n, b" false\n.", 7);
+                push_number(out, text, n, b" false\n.", 7);
             }
         }
     }
