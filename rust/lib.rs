@@ -102,6 +102,7 @@
     clippy::module_inception,
     clippy::needless_range_loop,
     clippy::new_without_default,
+    clippy::precedence,
     clippy::question_mark,
     clippy::while_let_on_iterator
 )]
