@@ -604,10 +604,10 @@ static void compare_near(const char *call, int32_t want, long double exact, long
       NEAR(name, exp2, FIXED_OK, exp2l(of_a) / unit, exp2l(of_a) / unit, a, f)                                     \
       NEAR(name, exp, FIXED_OK, expl(of_a) / unit, expl(of_a) / unit, a, f)                                        \
       NEAR(name, pow, above, power, power, a, b, f)                                                                \
-      NEAR(name, sin, FIXED_OK, sinl(of_a) / unit + 0.5L, 1 / unit, a, f)                                          \
-      NEAR(name, cos, FIXED_OK, cosl(of_a) / unit + 0.5L, 1 / unit, a, f)                                          \
-      NEAR(name, sin_turns, FIXED_OK, sinl(angle) / unit + 0.5L, 1 / unit, a, f)                                   \
-      NEAR(name, cos_turns, FIXED_OK, cosl(angle) / unit + 0.5L, 1 / unit, a, f)                                   \
+      NEAR(name, sin, FIXED_OK, sinl(of_a) / unit + 0.5L, (bits < 64 ? 8192 : 1) / unit, a, f)                     \
+      NEAR(name, cos, FIXED_OK, cosl(of_a) / unit + 0.5L, (bits < 64 ? 8192 : 1) / unit, a, f)                     \
+      NEAR(name, sin_turns, FIXED_OK, sinl(angle) / unit + 0.5L, (bits < 64 ? 8192 : 1) / unit, a, f)              \
+      NEAR(name, cos_turns, FIXED_OK, cosl(angle) / unit + 0.5L, (bits < 64 ? 8192 : 1) / unit, a, f)              \
       NEAR(name, atan2, no_angle, atan2l(of_a, of_b) / unit + 0.5L, (bits < 64 ? 16384 : 1) / unit, a, b, f)       \
       NEAR(name, atan2_turns, no_angle,                                                                            \
            atan2l(of_a, of_b) / (2 * acosl(-1)) / unit + 0.5L, (bits < 64 ? 4096 : 1) / unit, a, b, f)             \
