@@ -43,7 +43,7 @@
 //!
 //! # What is trusted
 //!
-//! The proofs are those of the Rattle toolchain `rattle-kit-13f logic dac8208d650f15bf`, for its language. That rustc's
+//! The proofs are those of the Rattle toolchain `rattle-kit-13b logic dac8208d650f15bf`, for its language. That rustc's
 //! code does the same rests on:
 //!
 //! - rustc, and the build script, which leaves contracts out and writes assertions and messages of errors in.
@@ -102,7 +102,6 @@
     clippy::module_inception,
     clippy::needless_range_loop,
     clippy::new_without_default,
-    clippy::precedence,
     clippy::question_mark,
     clippy::while_let_on_iterator
 )]

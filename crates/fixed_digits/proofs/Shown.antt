@@ -13,9 +13,6 @@ more_digits n le =
     let e : n / 10 * 10 + n % 10 ≡ n = omega arith in
     ap natural_text (sym e) ∙ natural_text_step (n / 10) (n % 10) (omega arith) (omega arith)
 
-pub length_more : (n : ℕ) → 10 ≤ n → length (natural_text n) ≡ length (natural_text (n / 10)) + 1
-length_more n le = ap length (more_digits n le) ∙ length-append (natural_text (n / 10)) ((48 + n % 10) ∷ [])
-
 -- two digits, and two more
 pub two_digits : (n : ℕ) → 10 ≤ n → n < 100 → natural_text n ≡ (48 + n / 10) ∷ (48 + n % 10) ∷ []
 two_digits n le lt = more_digits n le ∙ ap (λ t. t ++ ((48 + n % 10) ∷ [])) (one_digit (n / 10) (omega arith))

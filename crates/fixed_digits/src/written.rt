@@ -43,7 +43,7 @@ fn put_eight(eight: u32, buffer: &mut [u8], at: usize)
     requires room { at + 8 ≤ length buffer.old }
     ensures { drop at buffer.new ≡ eight_digits eight ++ drop (at + 8) buffer.old }
 {
-    let first = (u64::from(eight) * MILLIONTH >> 25) + 1;
+    let first = ((u64::from(eight) * MILLIONTH) >> 25) + 1;
     let second = first % (1 << 32) * 100;
     let third = second % (1 << 32) * 100;
     let fourth = third % (1 << 32) * 100;

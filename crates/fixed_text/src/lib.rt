@@ -16,7 +16,7 @@ mod pieces;
 mod run;
 mod tokens;
 
-pub use added::{push_all, push_natural, push_whole};
+pub use added::push_all;
 pub use decimal::{Decimal, read_decimal, value_in};
 pub use fault::{LineFault, RunFault};
 pub use names::{WordName, word_of};
