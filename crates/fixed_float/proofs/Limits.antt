@@ -1,14 +1,16 @@
 -- A float limited to a range, and what its units are.
-use Rattle.std.proofs.Common.{◌≡◌, ◌+◌, ◌-◌, ◌*◌, ◌^◌, ◌<◌, ◌≤◌, ◌<ℤ◌, ◌≤ℤ◌, ◌-ℤ◌, ℕ, ℤ, zero, suc, Bool, true, false, pos, negsuc, neg_ℤ, unsigned_abs, refl, ap, sym, ◌∙◌, subst, subst₂, arith, inl, inr, T}
+use Rattle.std.proofs.Common.{◌≡◌, ◌+◌, ◌-◌, ◌*◌, ◌^◌, ◌<◌, ◌≤◌, ◌<ℤ◌, ◌≤ℤ◌, ◌-ℤ◌, ℕ, ℤ, zero, suc, Bool, true, false, ◌&&◌, pos, negsuc, neg_ℤ, unsigned_abs, refl, ap, sym, ◌∙◌, subst, subst₂, arith, inl, inr, T}
 use mathlib.Core.Bool.{true≢false}
 use native.Mathlib.Nat.{add-mul, mul_assoc, mul-le-mul_right, mul-pos}
 use Rattle.std.proofs.lemmas.Bool.{cases_lt, le-ltb, lt-ltb}
 use Rattle.std.proofs.lemmas.Int.{ints}
 use lib.Dec.{ltb}
 use lib.Pow.{pow-add, pow_mono, pow_pos}
+use Rattle.std.proofs.lemmas.Float.{le_right, lt_irrefl, lt_of_le_of_lt}
+use Rattle.std.specs.Bool.{passes}
 use Rattle.std.specs.Prelude.{Some, int_lt, if◌then◌else◌}
 use Rattle.std.specs.Float.{Float, NotNan, binary64, nan, inf, fin, float_is_finite}
-use lib.Ieee.{below, down, fits, is_nan, lt, round, up}
+use lib.Ieee.{below, down, fits, is_nan, le, lt, round, up}
 use lib.Ieee.Exact.{HasValue}
 use lib.Ieee.Fits.{down_pos}
 use Rattle.fixed_word.specs.Format.{Congruent, InRange, clamp, highest, lowest, with_sign, wrap}
@@ -25,6 +27,7 @@ use Rattle.fixed_float.specs.Rows.{nearest_float, saturated_float, units_of_floa
 use Rattle.fixed_float.specs.inside.Small.{IsSmall}
 use Rattle.fixed_float.proofs.Halves.{exact_at, rescaled, same_le}
 use Rattle.fixed_float.proofs.Ends.{held_row}
+use Rattle.fixed_float.proofs.Quick.{both_true}
 use Rattle.fixed_float.proofs.Roundings.{rounded_whole}
 use Rattle.fixed_float.proofs.Rows.{parts_exist, row_of_value, row_of_whole}
 use Rattle.fixed_float.proofs.Sums.{left_over, right_over, same_order}
@@ -80,6 +83,22 @@ least_from x y e = elim (cases_int x y) [
   | inl l ↦ absurd (true≢false (sym (lt_yes x y l) ∙ e))
   | inr l ↦ l
 ]
+
+-- a float from lo to hi
+not_below : (x y : Float) → T (le x y) → lt y x ≡ false
+not_below x y h = go (lt y x) refl
+  where
+    go : (b : Bool) → lt y x ≡ b → b ≡ false
+    go false e = refl
+    go true e = absurd (lt_irrefl x (lt_of_le_of_lt x y x h (passes _ e)))
+
+-- the limits one after the other
+pub two_steps : (x lo hi : Float) → lt hi lo ≡ false → (if lt hi (if lt x lo then lo else x) then hi else (if lt x lo then lo else x)) ≡ (if lt x lo then lo else (if lt hi x then hi else x))
+two_steps x lo hi h = go (lt x lo)
+  where
+    go : (b : Bool) → (if lt hi (if b then lo else x) then hi else (if b then lo else x)) ≡ (if b then lo else (if lt hi x then hi else x))
+    go true = ap (λ (c : Bool). if c then hi else lo) h
+    go false = refl
 
 -- ---- what lies at an end or past it
 ends : (s : Bool) (n : ℕ) → lowest s n ≤ℤ highest s n
@@ -258,6 +277,11 @@ module _ (s : Bool) (n : ℕ) (N : 0 < n) (narrow : n ≤ 32) (x : Float) (num :
   low : (b : Bool) × HasValue lo b m (2 ^ g) × (with_sign b m ≡ neg_ℤ (pos m))
   low = subst (λ (z : Float). (b : Bool) × HasValue z b m (2 ^ g) × (with_sign b m ≡ neg_ℤ (pos m))) (sym L) (least_at m g few G)
 
+  pub ends_apart : lt hi lo ≡ false
+  ends_apart =
+      lt_is hi lo false low.0 M m (2 ^ g) (pow_pos g) (subst (λ (z : Float). HasValue z false M (2 ^ g)) (sym H) (most_at M g some G)) low.1
+      ∙ lt_no (pos M) (with_sign low.0 m) (omega (arith, ints, low.2))
+
   pub held_by_sum : IsSmall y g × ((w : ℤ) → units_of_float y g Even ≡ Some w → saturated_float s n x g Even ≡ Some w)
   held_by_sum =
       subst (λ (z : Float). IsSmall z g × ((w : ℤ) → units_of_float z g Even ≡ Some w → saturated_float s n x g Even ≡ Some w)) (sym Y)
@@ -270,3 +294,20 @@ module _ (s : Bool) (n : ℕ) (N : 0 < n) (narrow : n ≤ 32) (x : Float) (num :
       let r = held_by_sum.1 w e in
       let alike : Congruent (2 ^ 32) (pos bits) w = (pos 1127743488, omega (arith, ints)) in
       ap Some (wrap_alike s n (pos bits) w N (narrower n 32 (pos bits) w narrow alike) ∙ wrap_same s n w N (saturated_in s n x g w r)) ∙ sym r
+
+-- ---- a float from the least number of the word to the greatest one
+module _ (s : Bool) (n : ℕ) (N : 0 < n) (narrow : n ≤ 32) (x : Float) (fit : T (fits binary64 x)) (g : ℕ) (G : g ≤ 64) (m M : ℕ) (p : m ≡ unsigned_abs (lowest s n)) (q : M ≡ unsigned_abs (highest s n)) (lo hi : Float)
+    (L : lo ≡ nearest_float binary64 (pos 0 -ℤ pos m) g) (H : hi ≡ nearest_float binary64 (pos M -ℤ pos 0) g) (between : (le lo x && le x hi) ≡ true) where
+  lower : T (le lo x)
+  lower = passes _ (both_true (le lo x) (le x hi) between).0
+
+  upper : T (le x hi)
+  upper = passes _ (both_true (le lo x) (le x hi) between).1
+
+  same : x ≡ (if lt x lo then lo else (if lt hi x then hi else x))
+  same = sym (λ i. if not_below lo x lower i then lo else (if not_below x hi upper i then hi else x))
+
+  pub near_between : IsSmall x g × ((w : ℤ) → units_of_float x g Even ≡ Some w → InRange s n w)
+  near_between =
+      let r = held_by_sum s n N narrow x (le_right lo x lower) fit g G m M p q lo hi x L H same in
+      (r.0, λ w e. saturated_in s n x g w (r.1 w e))

@@ -68,7 +68,7 @@ beside_is true n h =
       bits_at binary64 r e.2 hi qlo qhi ∙ ap (λ (z : ℕ). 1074 * 2 ^ 52 + z) q ∙ omega (arith, c),
     )
 
-both_true : (a b : Bool) → (a && b) ≡ true → (a ≡ true) × (b ≡ true)
+pub both_true : (a b : Bool) → (a && b) ≡ true → (a ≡ true) × (b ≡ true)
 both_true true b h = (refl, h)
 both_true false b h = absurd (true≢false (sym h))
 

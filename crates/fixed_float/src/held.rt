@@ -1,6 +1,6 @@
 //! Conversions of floats to the nearest word.
 
-ghost use Rattle.std.specs.Prelude.{◌≡◌, ◌≤◌, Bool, Some, if◌then◌else◌};
+ghost use Rattle.std.specs.Prelude.{◌≡◌, ◌≤◌, Bool, Some, false, if◌then◌else◌};
 ghost use Rattle.std.specs.Float.{NotNan, inf};
 ghost use Rattle.std.specs.Float.Ieee.{lt};
 ghost use Rattle.fixed_word.specs.Format.{clamp, highest, lowest, with_sign};
@@ -10,7 +10,7 @@ ghost use Rattle.fixed_float.specs.Rows.{saturated_float};
 
 use crate::binary::Binary;
 use crate::incoming::magnitude_of_parts;
-use crate::near::{bits_of_sum, whole_near};
+use crate::near::{bits_of_sum, larger, whole_near};
 use crate::nearest::held_f64;
 use crate::parts::parts_of;
 use fixed_word::{RawWord, Rounding};
@@ -46,18 +46,21 @@ fn even_held<T: RawWord>(x: f64, frac: u32) -> T
     T::residue(false, bits_of_sum(held, frac) as u128)
 }
 
-/// Returns the number nearest to `x` from `least` to `most`.
+/// Returns the number nearest to `x` from `least` to `most`. Precondition: `most` is not below `least`.
 #[inline]
 fn clamped(x: f64, least: f64, most: f64) -> f64
+    requires { lt most least ≡ false }
     ensures { result ≡ (if lt x least then least else (if lt most x then most else x)) }
 {
-    if x < least {
-        least
-    } else if most < x {
-        most
-    } else {
-        x
-    }
+    smaller(larger(x, least), most)
+}
+
+/// Returns the smaller float.
+#[inline]
+fn smaller(x: f64, y: f64) -> f64
+    ensures { result ≡ (if lt y x then y else x) }
+{
+    if y < x { y } else { x }
 }
 
 /// Does the same for every `f64`, of every word. Precondition: it is not a NaN.

@@ -38,7 +38,7 @@ pub fn from_float_round_of<X: Binary, T: RawWord>(
 {
     let wide = x.widened();
     match whole_near::<T>(wide, frac, rounding) {
-        Some(whole) if is_held::<T>(whole) => Some(outcome_of_held(whole)),
+        Some(whole) if T::BITS <= 32 || is_held::<T>(whole) => Some(outcome_of_held(whole)),
         _ => outcome_by_parts(wide, frac, rounding),
     }
 }
