@@ -1,13 +1,15 @@
 //! Floats near 0, rounded to whole numbers by one sum.
 
-ghost use Rattle.std.specs.Prelude.{◌≡◌, ◌-ℤ◌, ◌<◌, ◌≤◌, ◌^◌, ℤ, IsTrue, Some, pos, if◌then◌else◌};
+ghost use Rattle.std.specs.Prelude.{◌≡◌, ◌+◌, ◌-◌, ◌*◌, ◌%◌, ◌-ℤ◌, ◌<◌, ◌≤◌, ◌^◌, ℤ, IsTrue, Some, false, pos, suc, unsigned_abs, if◌then◌else◌};
 ghost use Rattle.std.specs.Float.Ieee.{lt};
-ghost use Rattle.fixed_word.specs.Format.{InRange};
+ghost use Rattle.std.specs.Float.Ieee.Exact.{HasValue};
+ghost use Rattle.fixed_word.specs.Format.{InRange, highest, lowest};
 ghost use Rattle.fixed_word.specs.declared.rounding.Rounding.TheVariants.{Even};
 ghost use Rattle.fixed_float.specs.Rows.{units_of_float};
-ghost use Rattle.fixed_float.specs.inside.Small.{IsSmall};
+ghost use Rattle.fixed_float.specs.inside.Small.{HasBits, IsMedium, IsSmall};
 
 use crate::nearest::held_f64;
+use crate::packed::packed_f64;
 use fixed_word::{RawWord, Rounding};
 
 /// Returns the float in units of `2^-frac`, rounded to the nearest, ties to even. `None` decides nothing: the rounding
@@ -94,4 +96,69 @@ pub(crate) fn bits_of_sum(x: f64, frac: u32) -> u64
     let units = x * f64::from_bits((1023 + frac as u64) << 52);
     let sum = units + CENTRE;
     sum.to_bits()
+}
+
+/// `2^32` times `CENTRE`.
+const UPPER_CENTRE: f64 = 29014219670751100192948224.0;
+
+/// Returns the lowest 64 bits of the float in units of `2^-frac`, rounded to the nearest, ties to even. One sum rounds
+/// to units of `2^32`, and another one rounds the rest, which is exact. Precondition: there are at most `2^64` units.
+#[inline]
+pub(crate) fn bits_of_sums(x: f64, frac: u32) -> u64
+    requires frac { frac ≤ 64 }
+    requires medium { IsMedium x frac }
+    ensures { HasBits x frac result }
+{
+    let units = x * f64::from_bits((1023 + frac as u64) << 52);
+    let upper = units + UPPER_CENTRE;
+    let rest = units - (upper - UPPER_CENTRE);
+    let lower = rest + CENTRE;
+    joined(upper.to_bits(), lower.to_bits())
+}
+
+/// Returns `upper * 2^32`, and by how much `lower` exceeds the bits of `CENTRE`, wrapped.
+#[inline]
+fn joined(upper: u64, lower: u64) -> u64
+    ensures { result ≡ (upper * 2 ^ 32 + lower + (2 ^ 64 - 0x4338_0000_0000_0000)) % 2 ^ 64 }
+{
+    (upper << 32)
+        .wrapping_add(lower)
+        .wrapping_sub(0x4338_0000_0000_0000)
+}
+
+/// Returns whether a word of 64 bits holds the number of units.
+#[inline]
+pub(crate) fn is_within<T: RawWord>(x: f64, frac: u32) -> bool
+    requires long { 32 < T.BITS }
+    requires frac { frac ≤ 64 }
+    ensures medium { IsTrue result → IsMedium x frac }
+    ensures held { (whole : ℤ) → IsTrue result → units_of_float x frac Even ≡ Some whole
+        → InRange T.SIGNED T.BITS whole }
+{
+    let (least, beyond) = (least_of::<T>(frac), beyond_of::<T>(frac));
+    (least <= x) & (x < beyond)
+}
+
+/// Returns the least number of a word of 64 bits over `2^frac`.
+#[inline]
+pub(crate) fn least_of<T: RawWord>(frac: u32) -> f64
+    requires long { 32 < T.BITS }
+    requires frac { frac ≤ 64 }
+    ensures { HasValue result T.SIGNED (unsigned_abs (lowest T.SIGNED T.BITS)) (2 ^ frac) }
+{
+    if T::SIGNED {
+        -packed_f64(0, 11, frac)
+    } else {
+        0.0
+    }
+}
+
+/// Returns the number beyond the greatest one of a word of 64 bits, over `2^frac`.
+#[inline]
+pub(crate) fn beyond_of<T: RawWord>(frac: u32) -> f64
+    requires long { 32 < T.BITS }
+    requires frac { frac ≤ 64 }
+    ensures { HasValue result false (suc (unsigned_abs (highest T.SIGNED T.BITS))) (2 ^ frac) }
+{
+    packed_f64(0, if T::SIGNED { 11 } else { 12 }, frac)
 }
