@@ -1,7 +1,7 @@
 -- A float of at most 2 ^ 64 units, rounded by two sums: one to units of 2 ^ 32, and one of the exact rest.
-use Rattle.std.proofs.Common.{◌≡◌, ◌+◌, ◌-◌, ◌*◌, ◌%◌, ◌^◌, ◌<◌, ◌≤◌, ◌+ℤ◌, ◌-ℤ◌, ℕ, ℤ, suc, Bool, true, false, pos, negsuc, neg_ℤ, unsigned_abs, T, not, true≢false, refl, ap, sym, ◌∙◌, subst, subst₂, arith, inl, inr, lit<, lit≤, if◌then◌else◌}
+use Rattle.std.proofs.Common.{◌≡◌, ◌+◌, ◌-◌, ◌*◌, ◌%◌, ◌^◌, ◌<◌, ◌≤◌, ◌+ℤ◌, ◌-ℤ◌, ℕ, ℤ, suc, Bool, true, false, pos, negsuc, neg_ℤ, unsigned_abs, T, not, true≢false, refl, ap, sym, ◌∙◌, subst, arith, inl, inr, lit<, lit≤}
 use Rattle.std.specs.Prelude.{Some}
-use native.Mathlib.Nat.{add-mul, eq_of_mul-eq-mul_right, lt_of_le_of_lt, lt_of_lt_of_le, lt_of_mul-lt-mul_right, le_trans, mul_assoc, mul-le-mul_right, mul-lt-mul_of_pos_right, mul-pos}
+use native.Mathlib.Nat.{add-mul, eq_of_mul-eq-mul_right, lt_of_le_of_lt, lt_of_lt_of_le, lt_of_mul-lt-mul_right, mul_assoc, mul-le-mul_right, mul-pos}
 use Rattle.std.proofs.lemmas.Bool.{cases_lt}
 use Rattle.std.proofs.lemmas.Int.{ints}
 use lib.Pow.{pow-add, pow_mono, pow_pos, shl_lt}

@@ -1,5 +1,5 @@
 -- A float limited to the least number of a word of 64 bits and the one beyond its greatest.
-use Rattle.std.proofs.Common.{◌≡◌, ◌⊎◌, ◌+◌, ◌-◌, ◌*◌, ◌^◌, ◌<◌, ◌≤◌, ◌<ℤ◌, ◌≤ℤ◌, ◌+ℤ◌, ℕ, ℤ, suc, Bool, true, false, ◌&&◌, pos, neg_ℤ, unsigned_abs, refl, ap, sym, ◌∙◌, subst, subst₂, arith, inl, inr, T, true≢false}
+use Rattle.std.proofs.Common.{◌≡◌, ◌+◌, ◌-◌, ◌*◌, ◌^◌, ◌<◌, ◌≤◌, ◌<ℤ◌, ◌≤ℤ◌, ◌+ℤ◌, ℕ, ℤ, suc, Bool, true, false, ◌&&◌, pos, unsigned_abs, refl, ap, sym, ◌∙◌, subst, subst₂, arith, inl, inr, T, true≢false}
 use native.Mathlib.Nat.{add-mul, lt_of_lt_of_le, lt_of_mul-lt-mul_right, mul_assoc, mul-le-mul_right, mul-lt-mul_of_pos_right}
 use Rattle.std.proofs.lemmas.Bool.{cases_lt}
 use Rattle.std.proofs.lemmas.Int.{ints}
@@ -11,7 +11,7 @@ use Rattle.std.proofs.lemmas.Float.{le_right}
 use lib.Ieee.{fits, is_nan, le, lt}
 use lib.Ieee.Exact.{HasValue}
 use lib.Ieee.Nearest.{closest}
-use Rattle.fixed_word.specs.Format.{Congruent, InRange, IsWidth, highest, lowest, with_sign, wrap}
+use Rattle.fixed_word.specs.Format.{InRange, IsWidth, highest, lowest, with_sign, wrap}
 use Rattle.fixed_word.specs.declared.rounding.Rounding.TheVariants.{Even}
 use Rattle.fixed_word.proofs.Sides.{lt_no}
 use Rattle.fixed_word.proofs.Standings.{clamp_same}
@@ -22,7 +22,7 @@ use Rattle.fixed_float.specs.inside.Parts.{AreParts}
 use Rattle.fixed_float.specs.inside.Small.{HasBits, IsMedium}
 use Rattle.fixed_float.specs.declared.parts.Parts.{Parts}
 use Rattle.fixed_float.proofs.Ends.{held_row}
-use Rattle.fixed_float.proofs.Limits.{at_least, before_high, clamp_high, clamp_low, end_value, ends, k, least_from, less_from, lt_is, not_below, q, risen, row, saturated_in, scaled_above, scaled_below, at_most, size_within}
+use Rattle.fixed_float.proofs.Limits.{at_least, before_high, clamp_high, clamp_low, end_value, k, least_from, less_from, lt_is, not_below, q, risen, row, saturated_in, scaled_above, scaled_below, at_most, size_within}
 use Rattle.fixed_float.proofs.Quick.{both_true}
 use Rattle.fixed_float.proofs.Roundings.{closest_stepped}
 use Rattle.fixed_float.proofs.Rows.{parts_exist, row_of_whole}

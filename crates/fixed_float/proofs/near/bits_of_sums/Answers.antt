@@ -1,14 +1,14 @@
-use Rattle.std.proofs.Common.{◌≡◌, ◌+◌, ◌-◌, ◌*◌, ◌/◌, ◌%◌, ◌^◌, ◌<◌, ◌≤◌, ◌+ℤ◌, ◌-ℤ◌, ◌*ℤ◌, ℕ, ℤ, suc, Bool, true, false, pos, T, not, ap, sym, ◌∙◌, subst, arith, if◌then◌else◌}
+use Rattle.std.proofs.Common.{◌≡◌, ◌+◌, ◌-◌, ◌*◌, ◌/◌, ◌%◌, ◌^◌, ◌≤◌, ◌+ℤ◌, ◌-ℤ◌, ◌*ℤ◌, ℕ, suc, Bool, true, false, pos, T, not, ap, sym, ◌∙◌, subst, arith}
 use Rattle.std.specs.Prelude.{Some}
 use Rattle.std.specs.Bool.{passes}
 use Rattle.std.specs.Float.{Float, binary64}
 use Rattle.std.proofs.lemmas.Int.{ints}
-use lib.Ieee.{fits, mul, nan_bits, of_bits, to_bits}
+use lib.Ieee.{fits, mul, nan_bits, of_bits}
 use Rattle.fixed_word.specs.Format.{Congruent, with_sign}
-use Rattle.fixed_float.specs.inside.Small.{HasBits, IsMedium}
+use Rattle.fixed_float.specs.inside.Small.{IsMedium}
 use Rattle.fixed_float.proofs.Fields.{packed_not_nan}
-use Rattle.fixed_float.proofs.Quick.{moved_from, power}
-use Rattle.fixed_float.proofs.TwoSums.{lower_of, split_by_sums, upper_of, AreSums, IsSplit}
+use Rattle.fixed_float.proofs.Quick.{moved_from}
+use Rattle.fixed_float.proofs.TwoSums.{split_by_sums, IsSplit}
 use Rattle.fixed_float.proofs.near.bits_of_sums.Goals as goal
 
 power_is : (g : ℕ) → g ≤ 64 → (1023 + g) * 4503599627370496 % 18446744073709551616 ≡ suc (1022 + g) * 2 ^ 52 + 0

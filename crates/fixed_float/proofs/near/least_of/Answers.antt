@@ -1,4 +1,4 @@
-use Rattle.std.proofs.Common.{◌≡◌, ◌+◌, ◌*◌, ◌^◌, ℕ, Bool, true, false, unsigned_abs, refl, ap, sym, ◌∙◌, subst₂}
+use Rattle.std.proofs.Common.{◌≡◌, ◌+◌, ◌*◌, ◌^◌, ℕ, Bool, true, false, unsigned_abs, ap, sym, ◌∙◌, subst₂}
 use lib.Ieee.{neg}
 use lib.Ieee.Exact.{HasValue}
 use Rattle.fixed_word.specs.Format.{lowest}
