@@ -10,7 +10,7 @@ use lib.Pow.{pow-add, pow_mono, pow_pos}
 use Rattle.std.specs.Float.{Float, Format, nan, inf, fin, float_is_finite, float_with_sign}
 use lib.Ieee.{add, down, emax, eq, hid, is_nan, le, low, lt, neg, prec, round, size, sum, to_bits, units, up}
 use lib.Ieee.Exact.{HasValue, units_val}
-use lib.Ieee.Fits.{down_pos, reach, round_is}
+use lib.Ieee.Fits.{down_pos, round_is}
 use lib.Ieee.Nearest.{closest, closest_same}
 use Rattle.fixed_float.proofs.Formats.{bits_of_value, closest_eq, closest_gt, closest_lt, digits_in}
 use Rattle.fixed_float.proofs.Packing.{size_is}
@@ -208,17 +208,14 @@ module _ (m n u : ℕ) (M : m % 2 ≡ 0) (U : 0 < u) where
       | inr g ↦ whole (omega arith)
     ]
 
--- ---- a number whose last bit counts 1
+-- ---- a number whose last bit counts 2 ^ l of the least floats
 pub is_number : (x : Float) (s : Bool) (a c : ℕ) → HasValue x s a c → T (not (is_nan x))
 unfolding is_nan
 is_number nan s a c v = absurd v
 is_number (inf t) s a c v = absurd v
 is_number (fin t m e) s a c v = tt
 
-module _ (f : Format) (r : ℕ) (lo : hid f * 2 ^ low f ≤ r) (hi : r < 2 ^ prec f * 2 ^ low f) (qlo : hid f ≤ closest r (2 ^ low f)) (qhi : closest r (2 ^ low f) < 2 ^ prec f) where
-  abbrev l : ℕ
-  l = low f
-
+module _ (f : Format) (l : ℕ) (least : low f ≤ l) (most : prec f + l ≤ low f + suc (emax f)) (r : ℕ) (lo : hid f * 2 ^ l ≤ r) (hi : r < 2 ^ prec f * 2 ^ l) (qlo : hid f ≤ closest r (2 ^ l)) (qhi : closest r (2 ^ l) < 2 ^ prec f) where
   abbrev near : ℕ
   near = closest r (2 ^ l)
 
@@ -230,24 +227,24 @@ module _ (f : Format) (r : ℕ) (lo : hid f * 2 ^ low f ≤ r) (hi : r < 2 ^ pre
       size_is n j (subst (λ (z : ℕ). z ≤ n) (sym (pow-add 2 (prec f - 1) l)) a) (subst (λ (z : ℕ). n < z) (sym (pow-add 2 (prec f) l) ∙ ap (λ (z : ℕ). 2 ^ z) (sym top)) b) in
       ap (λ (z : ℕ). z - prec f) is ∙ omega (arith, digits_in f)
 
-  rounds : round f false r (2 ^ l) ≡ units f false near l
+  rounds : round f false r (2 ^ low f) ≡ units f false near l
   rounds =
-      let L = pow_pos l in
-      let k : size (r * 2 ^ l / 2 ^ l) - prec f ≡ l = ap (λ (z : ℕ). size z - prec f) (mul-div_cancel r L) ∙ sized r lo hi in
-      round_is f false r (2 ^ l)
-      ∙ ap (λ (z : ℕ). units f false (closest (r * 2 ^ l) (2 ^ l * 2 ^ z)) z) k
-      ∙ ap (λ (z : ℕ). units f false z l) (closest_same (r * 2 ^ l) (2 ^ l * 2 ^ l) r (2 ^ l) (mul-pos L L) L (mul_assoc r (2 ^ l) (2 ^ l)))
+      let L = pow_pos (low f) in
+      let k : size (r * 2 ^ low f / 2 ^ low f) - prec f ≡ l = ap (λ (z : ℕ). size z - prec f) (mul-div_cancel r L) ∙ sized r lo hi in
+      round_is f false r (2 ^ low f)
+      ∙ ap (λ (z : ℕ). units f false (closest (r * 2 ^ low f) (2 ^ low f * 2 ^ z)) z) k
+      ∙ ap (λ (z : ℕ). units f false z l) (closest_same (r * 2 ^ low f) (2 ^ low f * 2 ^ l) r (2 ^ l) (mul-pos L (pow_pos l)) (pow_pos l) (mul_assoc r (2 ^ low f) (2 ^ l)))
 
-  fine : near * 2 ^ l < 2 ^ (l + suc (emax f))
-  fine = lt_of_lt_of_le (mul-lt-mul_of_pos_right qhi (pow_pos l)) (subst (λ (z : ℕ). z ≤ 2 ^ (l + suc (emax f))) (pow-add 2 (prec f) l) (pow_mono {i = prec f + l} {j = l + suc (emax f)} (omega (arith, reach f))))
+  fine : near * 2 ^ l < 2 ^ (low f + suc (emax f))
+  fine = lt_of_lt_of_le (mul-lt-mul_of_pos_right qhi (pow_pos l)) (subst (λ (z : ℕ). z ≤ 2 ^ (low f + suc (emax f))) (pow-add 2 (prec f) l) (pow_mono {i = prec f + l} {j = low f + suc (emax f)} most))
 
-  pub value_at : HasValue (round f false r (2 ^ low f)) false (closest r (2 ^ low f) * 2 ^ low f) (2 ^ low f)
-  value_at = subst (λ (y : Float). HasValue y false (near * 2 ^ l) (2 ^ l)) (sym rounds) (units_val f false near l fine)
+  pub value_at : HasValue (round f false r (2 ^ low f)) false (closest r (2 ^ l) * 2 ^ l) (2 ^ low f)
+  value_at = subst (λ (y : Float). HasValue y false (near * 2 ^ l) (2 ^ low f)) (sym rounds) (units_val f false near l fine)
 
-  pub bits_at : to_bits f (round f false r (2 ^ low f)) ≡ low f * hid f + closest r (2 ^ low f)
+  pub bits_at : to_bits f (round f false r (2 ^ low f)) ≡ l * hid f + closest r (2 ^ l)
   bits_at =
       let n = sized (near * 2 ^ l) (mul-le-mul_right (2 ^ l) qlo) (mul-lt-mul_of_pos_right qhi (pow_pos l)) in
-      bits_of_value f (round f false r (2 ^ l)) false (near * 2 ^ l) value_at
+      bits_of_value f (round f false r (2 ^ low f)) false (near * 2 ^ l) value_at
       ∙ ap (λ (z : ℕ). 0 + z * hid f + near * 2 ^ l / 2 ^ z) n
       ∙ ap (λ (z : ℕ). 0 + l * hid f + z) (mul-div_cancel near (pow_pos l))
       ∙ omega arith

@@ -149,7 +149,7 @@ exact_at f s q h g Q H G =
     (lt_of_lt_of_le room (pow_mono {i = prec f + (low f + h - g)} {j = low f + suc (emax f)} (omega (arith, digits_in f, least_in f, reach_in f)))) (moved f q h g G)
 
 -- z over 2 ^ g is a float, with its sign
-record IsHeld (x : Float) (z : ℤ) (g : ℕ) : Type 0 where
+pub record IsHeld (x : Float) (z : ℤ) (g : ℕ) : Type 0 where
   pub sign : Bool
   pub size : ℕ
   pub value : HasValue x sign size (2 ^ g)

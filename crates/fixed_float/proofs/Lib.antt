@@ -15,3 +15,5 @@ pub mod Quick
 pub mod Halves
 pub mod Wide
 pub mod Limits
+mod TwoSums
+mod WideLimits

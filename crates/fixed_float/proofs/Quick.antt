@@ -24,51 +24,62 @@ use Rattle.fixed_convert.proofs.Factors.{rounded_magnitude}
 use Rattle.fixed_float.proofs.Rows.{parts_exist, row_of_parts}
 
 -- ---- a number of at most 2 ^ 50 units, beside the centre
-low_enough : (n u : ℕ) → 0 < u → n ≤ 2 ^ 50 * u → (n < (2 ^ 50 + 1) * u) × (n < (2 ^ 52 + 2 ^ 51) * u) × (2 ^ 52 * u ≤ (2 ^ 52 + 2 ^ 51) * u - n) × (n + (2 ^ 52 + 2 ^ 51) * u < 2 ^ 53 * u)
+pub low_enough : (n u : ℕ) → 0 < u → n ≤ 2 ^ 50 * u → (n < (2 ^ 50 + 1) * u) × (n < (2 ^ 52 + 2 ^ 51) * u) × (2 ^ 52 * u ≤ (2 ^ 52 + 2 ^ 51) * u - n) × (n + (2 ^ 52 + 2 ^ 51) * u < 2 ^ 53 * u)
 low_enough n u U h = (omega arith, omega arith, omega arith, omega arith)
 
-closest_small : (n u : ℕ) → 0 < u → n ≤ 2 ^ 50 * u → closest n u ≤ 2 ^ 50 + 1
+pub closest_small : (n u : ℕ) → 0 < u → n ≤ 2 ^ 50 * u → closest n u ≤ 2 ^ 50 + 1
 closest_small n u U h =
     let q : n / u < 2 ^ 50 + 1 = (div-lt_iff_lt-mul U).1 (low_enough n u U h).0 in
     le_trans (nearest-le (n / u) (compare (n % u * 2) u)) q
 
-abbrev beside : Bool → ℕ → ℕ → ℕ
+abbrev pub beside : Bool → ℕ → ℕ → ℕ
 beside s n u = if s then (2 ^ 52 + 2 ^ 51) * u - n else n + (2 ^ 52 + 2 ^ 51) * u
 
-Beside : Bool → ℕ → Type 0
-Beside s n =
-    let y = round binary64 false (beside s n (2 ^ 1074)) (2 ^ 1074) in
-    let c = closest n (2 ^ 1074) in
-    T (not (is_nan y)) × (to_bits binary64 y ≡ (if s then 4843621399236968448 - c else 4843621399236968448 + c))
+abbrev pub moved_from : Bool → ℕ → ℕ
+moved_from s c = if s then 2 ^ 52 + 2 ^ 51 - c else 2 ^ 52 + 2 ^ 51 + c
 
-beside_is : (s : Bool) (n : ℕ) → n ≤ 2 ^ 50 * 2 ^ 1074 → Beside s n
+-- the number and the bits of a sum whose last bit counts 2 ^ l of the least floats
+unfoldable pub Beside : ℕ → Bool → ℕ → Type 0
+Beside l s n =
+    let y = round binary64 false (beside s n (2 ^ l)) (2 ^ 1074) in
+    let c = closest n (2 ^ l) in
+    HasValue y false (moved_from s c * 2 ^ l) (2 ^ 1074) × (to_bits binary64 y ≡ l * 2 ^ 52 + moved_from s c)
+
+pub beside_is : (l : ℕ) → 1074 ≤ l → l ≤ 1200 → (s : Bool) (n : ℕ) → n ≤ 2 ^ 50 * 2 ^ l → Beside l s n
 unfolding Beside
-beside_is false n h =
-    let U = pow_pos 1074 in
-    let e = low_enough n (2 ^ 1074) U h in
-    let c = closest_small n (2 ^ 1074) U h in
-    let r = n + (2 ^ 52 + 2 ^ 51) * 2 ^ 1074 in
-    let q = closest_plus (2 ^ 52 + 2 ^ 51) n (2 ^ 1074) refl U in
-    let lo : 2 ^ 52 * 2 ^ 1074 ≤ r = le_trans e.2 (omega arith) in
-    let qlo : 2 ^ 52 ≤ closest r (2 ^ 1074) = omega (arith, q) in
-    let qhi : closest r (2 ^ 1074) < 2 ^ 53 = omega (arith, q, c) in (
-      is_number (round binary64 false r (2 ^ 1074)) false (closest r (2 ^ 1074) * 2 ^ 1074) (2 ^ 1074) (value_at binary64 r lo e.3 qlo qhi),
-      bits_at binary64 r lo e.3 qlo qhi ∙ ap (λ (z : ℕ). 1074 * 2 ^ 52 + z) q ∙ omega arith,
+beside_is l least most false n h =
+    let U = pow_pos l in
+    let e = low_enough n (2 ^ l) U h in
+    let c = closest_small n (2 ^ l) U h in
+    let r = n + (2 ^ 52 + 2 ^ 51) * 2 ^ l in
+    let q = closest_plus (2 ^ 52 + 2 ^ 51) n (2 ^ l) refl U in
+    let lo : 2 ^ 52 * 2 ^ l ≤ r = le_trans e.2 (omega arith) in
+    let qlo : 2 ^ 52 ≤ closest r (2 ^ l) = omega (arith, q) in
+    let qhi : closest r (2 ^ l) < 2 ^ 53 = omega (arith, q, c) in
+    let room : 53 + l ≤ 1074 + suc 1023 = omega (arith, most) in (
+      subst (λ (z : ℕ). HasValue (round binary64 false r (2 ^ 1074)) false (z * 2 ^ l) (2 ^ 1074)) q (value_at binary64 l least room r lo e.3 qlo qhi),
+      bits_at binary64 l least room r lo e.3 qlo qhi ∙ ap (λ (z : ℕ). l * 2 ^ 52 + z) q,
     )
-beside_is true n h =
-    let U = pow_pos 1074 in
-    let e = low_enough n (2 ^ 1074) U h in
-    let c = closest_small n (2 ^ 1074) U h in
-    let r = (2 ^ 52 + 2 ^ 51) * 2 ^ 1074 - n in
-    let q = closest_minus (2 ^ 52 + 2 ^ 51) n (2 ^ 1074) refl U e.1 in
-    let hi : r < 2 ^ 53 * 2 ^ 1074 = omega (arith, e.3) in
-    let qlo : 2 ^ 52 ≤ closest r (2 ^ 1074) = omega (arith, q, c) in
-    let qhi : closest r (2 ^ 1074) < 2 ^ 53 = omega (arith, q) in (
-      is_number (round binary64 false r (2 ^ 1074)) false (closest r (2 ^ 1074) * 2 ^ 1074) (2 ^ 1074) (value_at binary64 r e.2 hi qlo qhi),
-      bits_at binary64 r e.2 hi qlo qhi ∙ ap (λ (z : ℕ). 1074 * 2 ^ 52 + z) q ∙ omega (arith, c),
+beside_is l least most true n h =
+    let U = pow_pos l in
+    let e = low_enough n (2 ^ l) U h in
+    let c = closest_small n (2 ^ l) U h in
+    let r = (2 ^ 52 + 2 ^ 51) * 2 ^ l - n in
+    let q = closest_minus (2 ^ 52 + 2 ^ 51) n (2 ^ l) refl U e.1 in
+    let hi : r < 2 ^ 53 * 2 ^ l = omega (arith, e.3) in
+    let qlo : 2 ^ 52 ≤ closest r (2 ^ l) = omega (arith, q, c) in
+    let qhi : closest r (2 ^ l) < 2 ^ 53 = omega (arith, q) in
+    let room : 53 + l ≤ 1074 + suc 1023 = omega (arith, most) in (
+      subst (λ (z : ℕ). HasValue (round binary64 false r (2 ^ 1074)) false (z * 2 ^ l) (2 ^ 1074)) q (value_at binary64 l least room r e.2 hi qlo qhi),
+      bits_at binary64 l least room r e.2 hi qlo qhi ∙ ap (λ (z : ℕ). l * 2 ^ 52 + z) q,
     )
 
-both_true : (a b : Bool) → (a && b) ≡ true → (a ≡ true) × (b ≡ true)
+-- the bits of the sum at 2 ^ 1074
+bits_beside : (s : Bool) (c : ℕ) → c ≤ 2 ^ 50 + 1 → 1074 * 2 ^ 52 + moved_from s c ≡ (if s then 4843621399236968448 - c else 4843621399236968448 + c)
+bits_beside true c h = omega arith
+bits_beside false c h = omega arith
+
+pub both_true : (a b : Bool) → (a && b) ≡ true → (a ≡ true) × (b ≡ true)
 both_true true b h = (refl, h)
 both_true false b h = absurd (true≢false (sym h))
 
@@ -146,11 +157,12 @@ module _ (x : Float) (fit : T (fits binary64 x)) (g : ℕ) (G : g ≤ 64) where
       pub rounded_by_sum : IsMoved x g (add binary64 (mul binary64 x power) centre)
       unfolding Beside
       rounded_by_sum =
-          let b = beside_is p.below_zero n few in record {
+          let b = beside_is 1074 (lit≤ tt) (lit≤ tt) p.below_zero n few in
+          let c = closest n (2 ^ 1074) in record {
             below = p.below_zero;
             size = closest n (2 ^ 1074);
-            number = subst (λ (y : Float). T (not (is_nan y))) (sym sum_is) b.0;
-            bits = ap (to_bits binary64) sum_is ∙ b.1;
+            number = subst (λ (y : Float). T (not (is_nan y))) (sym sum_is) (is_number _ false (moved_from p.below_zero c * 2 ^ 1074) (2 ^ 1074) b.0);
+            bits = ap (to_bits binary64) sum_is ∙ b.1 ∙ bits_beside p.below_zero c (closest_small n (2 ^ 1074) (pow_pos 1074) few);
             small = le_trans (closest_small n (2 ^ 1074) (pow_pos 1074) few) (lit≤ tt);
             row = row_of_parts x p g Even are ∙ ap Some (rounded_magnitude Even p.below_zero n (2 ^ 1074) (pow_pos 1074) ∙ ap (with_sign p.below_zero) (sym (closest_stepped n (2 ^ 1074) p.below_zero)));
           }

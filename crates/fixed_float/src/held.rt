@@ -1,6 +1,6 @@
 //! Conversions of floats to the nearest word.
 
-ghost use Rattle.std.specs.Prelude.{◌≡◌, ◌≤◌, Bool, Some, if◌then◌else◌};
+ghost use Rattle.std.specs.Prelude.{◌≡◌, ◌<◌, ◌≤◌, Bool, Some, false, if◌then◌else◌};
 ghost use Rattle.std.specs.Float.{NotNan, inf};
 ghost use Rattle.std.specs.Float.Ieee.{lt};
 ghost use Rattle.fixed_word.specs.Format.{clamp, highest, lowest, with_sign};
@@ -10,7 +10,7 @@ ghost use Rattle.fixed_float.specs.Rows.{saturated_float};
 
 use crate::binary::Binary;
 use crate::incoming::magnitude_of_parts;
-use crate::near::{bits_of_sum, whole_near};
+use crate::near::{beyond_of, bits_of_sum, bits_of_sums, larger, least_of};
 use crate::nearest::held_f64;
 use crate::parts::parts_of;
 use fixed_word::{RawWord, Rounding};
@@ -26,7 +26,8 @@ pub fn saturating_float_of<X: Binary, T: RawWord>(x: X, frac: u32, rounding: Rou
     let wide = x.widened();
     match rounding {
         Rounding::Even if frac <= 64 && T::BITS <= 32 => even_held(wide, frac),
-        _ => wide_held(wide, frac, rounding),
+        Rounding::Even if frac <= 64 => long_held(wide, frac),
+        _ => held_by_parts(wide, frac, rounding),
     }
 }
 
@@ -46,30 +47,36 @@ fn even_held<T: RawWord>(x: f64, frac: u32) -> T
     T::residue(false, bits_of_sum(held, frac) as u128)
 }
 
-/// Returns the number nearest to `x` from `least` to `most`.
+/// Returns the number nearest to `x` from `least` to `most`. Precondition: `most` is not below `least`.
 #[inline]
 fn clamped(x: f64, least: f64, most: f64) -> f64
+    requires { lt most least ≡ false }
     ensures { result ≡ (if lt x least then least else (if lt most x then most else x)) }
 {
-    if x < least {
-        least
-    } else if most < x {
-        most
-    } else {
-        x
-    }
+    smaller(larger(x, least), most)
 }
 
-/// Does the same for every `f64`, of every word. Precondition: it is not a NaN.
+/// Returns the smaller float.
 #[inline]
-fn wide_held<T: RawWord>(x: f64, frac: u32, rounding: Rounding) -> T
-    requires { NotNan x }
-    ensures { Some (T.value result) ≡ saturated_float T.SIGNED T.BITS x frac rounding }
+fn smaller(x: f64, y: f64) -> f64
+    ensures { result ≡ (if lt y x then y else x) }
 {
-    match whole_near::<T>(x, frac, rounding) {
-        Some(whole) => whole_held(whole),
-        None => held_by_parts(x, frac, rounding),
-    }
+    if y < x { y } else { x }
+}
+
+/// Does the same for every `f64`, of words of 64 bits, by two sums. Loops do this without a branch. Preconditions: it is
+/// not a NaN, and `frac` is at most 64.
+#[inline]
+fn long_held<T: RawWord>(x: f64, frac: u32) -> T
+    requires number { NotNan x }
+    requires long { 32 < T.BITS }
+    requires frac { frac ≤ 64 }
+    ensures { Some (T.value result) ≡ saturated_float T.SIGNED T.BITS x frac Even }
+{
+    let (least, beyond) = (least_of::<T>(frac), beyond_of::<T>(frac));
+    let bits = bits_of_sums(clamped(x, least, beyond), frac);
+    let held = T::residue(false, bits as u128);
+    T::MAX.unless(x < beyond, held)
 }
 
 /// Does the same for every `f64`, by its bits. Precondition: it is not a NaN.
@@ -81,19 +88,6 @@ fn held_by_parts<T: RawWord>(x: f64, frac: u32, rounding: Rounding) -> T
     match parts_of(x) {
         Some(parts) => magnitude_held(parts.below_zero, magnitude_of_parts(parts, frac, rounding)),
         None => end_beside(x),
-    }
-}
-
-/// Returns the word nearest to the whole number. In a signed word of 64 bits it fits, which rustc does not see.
-#[inline]
-fn whole_held<T: RawWord>(whole: i64) -> T
-    ensures { Some (T.value result) ≡ saturating T.SIGNED T.BITS (Some whole) }
-{
-    let magnitude = whole.unsigned_abs() as u128;
-    if T::SIGNED && T::BITS == 64 {
-        T::residue(whole < 0, magnitude)
-    } else {
-        magnitude_held(whole < 0, magnitude)
     }
 }
 

@@ -1,6 +1,6 @@
 //! Conversions of floats to words.
 
-ghost use Rattle.std.specs.Prelude.{◌≡◌, ◌↔◌, ◌+◌, ◌*◌, ◌<◌, ◌≤◌, ◌^◌, IsTrue, pos, if◌then◌else◌};
+ghost use Rattle.std.specs.Prelude.{◌≡◌, ◌↔◌, ◌+◌, ◌*◌, ◌<◌, ◌≤◌, ◌^◌, ℤ, IsTrue, Some, pos, if◌then◌else◌};
 ghost use Rattle.fixed_word.specs.Format.{InRange, with_sign};
 ghost use Rattle.fixed_word.specs.Standing.{IsOutcomeOfRow, StandsFor};
 ghost use Rattle.fixed_word.specs.declared.outcome.Side.TheVariants.{Above, Below, Fits};
@@ -8,11 +8,12 @@ ghost use Rattle.fixed_word.specs.declared.rounding.Rounding.TheVariants.{Even};
 ghost use Rattle.fixed_kernel.specs.Rounded.{rounded};
 ghost use Rattle.fixed_kernel.specs.inside.Alike.{Alike};
 ghost use Rattle.fixed_float.specs.Rows.{units_of_float};
+ghost use Rattle.fixed_float.specs.inside.Small.{IsMedium};
 
 use crate::binary::Binary;
 use crate::held::end_on;
 use crate::lowered::lowered;
-use crate::near::whole_near;
+use crate::near::{bits_of_sums, is_within, whole_near};
 use crate::parts::{LEAST, Parts, parts_of};
 use fixed_word::{Outcome, RawWord, Rounding, Side};
 
@@ -38,8 +39,35 @@ pub fn from_float_round_of<X: Binary, T: RawWord>(
 {
     let wide = x.widened();
     match whole_near::<T>(wide, frac, rounding) {
-        Some(whole) if is_held::<T>(whole) => Some(outcome_of_held(whole)),
-        _ => outcome_by_parts(wide, frac, rounding),
+        Some(whole) if T::BITS <= 32 || is_held::<T>(whole) => Some(outcome_of_held(whole)),
+        _ => outcome_beside(wide, frac, rounding),
+    }
+}
+
+/// Does the same for every `f64`: of words of 64 bits by two sums, if they hold it.
+#[inline]
+fn outcome_beside<T: RawWord>(x: f64, frac: u32, rounding: Rounding) -> Option<Outcome<T>>
+    ensures { IsOutcomeOfRow T.value T.SIGNED T.BITS (units_of_float x frac rounding) result }
+{
+    match rounding {
+        Rounding::Even if frac <= 64 && T::BITS > 32 && is_within::<T>(x, frac) => {
+            Some(outcome_of_bits(x, frac))
+        }
+        _ => outcome_by_parts(x, frac, rounding),
+    }
+}
+
+/// Returns the outcome of a float that the word holds, by two sums.
+#[inline]
+fn outcome_of_bits<T: RawWord>(x: f64, frac: u32) -> Outcome<T>
+    requires frac { frac ≤ 64 }
+    requires medium { IsMedium x frac }
+    requires held { (whole : ℤ) → units_of_float x frac Even ≡ Some whole → InRange T.SIGNED T.BITS whole }
+    ensures { IsOutcomeOfRow T.value T.SIGNED T.BITS (units_of_float x frac Even) (Some result) }
+{
+    Outcome {
+        wrapped: T::residue(false, bits_of_sums(x, frac) as u128),
+        side: Side::Fits,
     }
 }
 

@@ -16,8 +16,15 @@ overflow_sub-result g c =
     let h = c.bits_of_sum.ensures.bound in
     subst (SFits w64) (sym (read_as c.bits_of_sum.result h)) (apart_fits c.bits_of_sum.result h)
 
-pub returns-then-is_near : goal.returns-then-is_near
-returns-then-is_near g c = λ whole e.
+pub returns-then-is_near-clause-units : goal.returns-then-is_near-clause-units
+returns-then-is_near-clause-units g c = λ whole e.
     let h = c.bits_of_sum.ensures.bound in
     let same = read_as c.bits_of_sum.result h in
     c.bits_of_sum.ensures.units ∙ ap Some (sym same) ∙ ap Some (sym (to_z-of_z w64 _ (subst (SFits w64) (sym same) (apart_fits c.bits_of_sum.result h)))) ∙ e
+
+pub returns-then-is_near-clause-held : goal.returns-then-is_near-clause-held
+returns-then-is_near-clause-held g c = λ whole e narrow.
+    let h = c.bits_of_sum.ensures.bound in
+    let same = read_as c.bits_of_sum.result h in
+    let row = c.bits_of_sum.ensures.units ∙ ap Some (sym same) ∙ ap Some (sym (to_z-of_z w64 _ (subst (SFits w64) (sym same) (apart_fits c.bits_of_sum.result h)))) ∙ e in
+    c.is_near.ensures.held whole c.if-is_near.true narrow row
