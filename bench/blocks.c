@@ -32,11 +32,11 @@
   LOOP(label, wrapping, W, WIDE, EXACT, 0, exact)                                                                  \
   LOOP(label, checked, W, WIDE, EXACT, exact > (WIDE)(greatest) || exact < (WIDE)(least), exact)
 
-/* One row of a policy: the least nanoseconds a number of both sides. Checked loops take numbers whose results fit. */
-#define ROW(name, W, operation, policy, number, ...)                                                               \
+/* One row of a policy: the least nanoseconds a number of both sides. */
+#define ROW(name, W, operation, policy, number, numbers, more, ...)                                                \
   {                                                                                                                \
     double least = 1e18, least_by_hand = 1e18;                                                                     \
-    const W *first = number == FIXED_CHECKED ? small : large, *others = first + 1;                                 \
+    const W *first = numbers, *others = more;                                                                      \
     const uint32_t policy_number = number;                                                                         \
     for (int pass = 0; pass < PASSES; pass++) {                                                                    \
       size_t place = 0, place_by_hand = 0;                                                                         \
@@ -58,10 +58,11 @@
     printf(#name "_" #operation "_" #policy " %.4f %.4f\n", least / COUNT, least_by_hand / COUNT);                 \
   }
 
-#define POLICIES(name, W, operation, ...)                                                                          \
-  ROW(name, W, operation, saturating, FIXED_SATURATING, __VA_ARGS__)                                               \
-  ROW(name, W, operation, wrapping, FIXED_WRAPPING, __VA_ARGS__)                                                   \
-  ROW(name, W, operation, checked, FIXED_CHECKED, __VA_ARGS__)
+/* The rows of an operation. Checked loops take the numbers FITTING and MORE, whose results fit. */
+#define POLICIES(name, W, operation, fitting, more, ...)                                                           \
+  ROW(name, W, operation, saturating, FIXED_SATURATING, large, large + 1, __VA_ARGS__)                             \
+  ROW(name, W, operation, wrapping, FIXED_WRAPPING, large, large + 1, __VA_ARGS__)                                 \
+  ROW(name, W, operation, checked, FIXED_CHECKED, fitting, more, __VA_ARGS__)
 
 /* The sum of the products by hand, in an integer that holds it. */
 #define DOT(name, W, TOTAL)                                                                                        \
@@ -155,18 +156,21 @@ FILTER(fixed_u64, uint64_t, unsigned __int128)
   LOOPS(name##_hand_mul_add, W, MORE, least, greatest, ((y * k) >> frac) + x)                                      \
   LOOPS(name##_hand_convert, W, PRODUCT, least, greatest, x << (k - 1))                                             \
   static void rows_##name(void) {                                                                                  \
-    static W block[COUNT], by_hand[COUNT], large[COUNT + 1], small[COUNT + 1];                                     \
+    static W block[COUNT], by_hand[COUNT], large[COUNT + 1], small[COUNT + 1], zeros[COUNT], above[COUNT];         \
     const uint32_t frac = sizeof(W) * 4;                                                                           \
     const W k = 3;                                                                                                 \
     for (int i = 0; i <= COUNT; i++) large[i] = (W)draw(), small[i] = (W)((W)draw() >> (shift));                   \
-    POLICIES(name, W, neg, block, COUNT)                                                                           \
-    POLICIES(name, W, add, block, COUNT, others, COUNT)                                                            \
-    POLICIES(name, W, sub, block, COUNT, others, COUNT)                                                            \
-    POLICIES(name, W, mul_int, block, COUNT, k)                                                                    \
-    POLICIES(name, W, scale, block, COUNT, k, frac)                                                                \
-    POLICIES(name, W, mul, block, COUNT, others, COUNT, frac)                                                      \
-    POLICIES(name, W, mul_add, block, COUNT, others, COUNT, k, frac)                                               \
-    POLICIES(name, W, convert, block, COUNT, 2, 4, FIXED_DOWN)                                                     \
+    /* No negative of an unsigned number fits but that of 0, and no difference from a smaller number. */           \
+    const W *negated = (least) == 0 ? zeros : small, *reduced = (least) == 0 ? above : small;                      \
+    for (int i = 0; i < COUNT; i++) above[i] = small[i] > small[i + 1] ? small[i] : small[i + 1];                  \
+    POLICIES(name, W, neg, negated, small, block, COUNT)                                                           \
+    POLICIES(name, W, add, small, small + 1, block, COUNT, others, COUNT)                                          \
+    POLICIES(name, W, sub, reduced, small + 1, block, COUNT, others, COUNT)                                        \
+    POLICIES(name, W, mul_int, small, small + 1, block, COUNT, k)                                                  \
+    POLICIES(name, W, scale, small, small + 1, block, COUNT, k, frac)                                              \
+    POLICIES(name, W, mul, small, small + 1, block, COUNT, others, COUNT, frac)                                    \
+    POLICIES(name, W, mul_add, small, small + 1, block, COUNT, others, COUNT, k, frac)                             \
+    POLICIES(name, W, convert, small, small + 1, block, COUNT, 2, 4, FIXED_DOWN)                                   \
     dot_##name(small, small + 1, frac);                                                                            \
     filter_##name(small, frac);                                                                                    \
   }

@@ -1,3 +1,4 @@
 pub mod Fronts
+pub mod Fours
 pub mod Tested
 pub mod Sums

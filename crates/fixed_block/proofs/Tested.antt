@@ -68,7 +68,7 @@ each_kept value r s n xs front k h e made =
     let part : map r (map value (take k xs)) ≡ take k (map r (map value xs)) = ap (map r) (sym (take-map value k xs)) ∙ sym (take-map r k (map value xs)) in
     values_apart value front xs k ∙ kept_block s n (map r (map value xs)) (map value xs) (map value front) k h e (made ∙ ap (map (wrap s n)) part)
 
-pairs_take : (r : ℤ → ℤ → ℤ) (k : ℕ) (a b : List ℤ) → of_pairs r (take k a) (take k b) ≡ take k (of_pairs r a b)
+pub pairs_take : (r : ℤ → ℤ → ℤ) (k : ℕ) (a b : List ℤ) → of_pairs r (take k a) (take k b) ≡ take k (of_pairs r a b)
 pairs_take r zero a b = refl
 pairs_take r (suc k) [] b = refl
 pairs_take r (suc k) (x ∷ a) [] = refl

@@ -110,6 +110,11 @@ impl<T: Word> Each<T> for Scale<T> {
     }
 
     #[inline(always)]
+    fn is_by_fours(&self) -> bool {
+        T::BITS == 64
+    }
+
+    #[inline(always)]
     fn is_tested_first(&self) -> bool {
         T::BITS <= 16 || (T::BITS == 32 && !T::SIGNED)
     }
@@ -152,8 +157,13 @@ impl<T: Word> Each<T> for MulInt<T> {
     }
 
     #[inline(always)]
+    fn is_by_fours(&self) -> bool {
+        T::BITS == 64
+    }
+
+    #[inline(always)]
     fn nearest(&self, x: T) -> T {
-        if T::BITS > 16 {
+        if T::BITS == 64 && !T::SIGNED {
             nearest_of(mul_int_of(x, self.k))
         } else {
             nearest_of_whole(whole_product(x, factor_for(x, self.k)))
@@ -193,6 +203,17 @@ impl<T: Castable + Word> Each<T> for Convert {
     }
 }
 
+/// Returns the number `x / 2^from` in units of `2^-to`. Preconditions: `from` is at most `to`, and `to` is at most the
+/// width.
+#[inline(always)]
+fn raised<T: Castable + Word>(x: T, convert: Convert) -> T::Whole
+    requires order { convert.from ≤ convert.to }
+    requires width { convert.to ≤ T.BITS }
+    ensures { T.Whole.value result ≡ rounded_convert (T.value x) convert.from convert.to convert.rounding }
+{
+    x.whole().scaled(convert.to - convert.from)
+}
+
 /// A conversion to at least as many fraction bits, which rounds nothing: each number is shifted left by `to - from`.
 /// Preconditions: `from` is at most `to`, and `to` is at most the width.
 #[derive(Clone, Copy, Debug)]
@@ -213,7 +234,16 @@ impl<T: Castable + Word> Each<T> for Raise {
 
     #[inline(always)]
     fn outcome(&self, x: T) -> Outcome<T> {
-        outcome_of_whole(x.whole().scaled(self.convert.to - self.convert.from))
+        outcome_of_whole(raised(x, self.convert))
+    }
+
+    #[inline(always)]
+    fn nearest(&self, x: T) -> T {
+        if T::BITS == 32 && !T::SIGNED {
+            nearest_of_whole(raised(x, self.convert))
+        } else {
+            nearest_of(self.outcome(x))
+        }
     }
 
     #[inline(always)]
@@ -313,6 +343,11 @@ impl<T: Word> Pairs<T> for Mul {
     fn outcome(&self, x: T, y: T) -> Outcome<T> {
         mul_of(x, y, self.frac)
     }
+
+    #[inline(always)]
+    fn is_by_fours(&self) -> bool {
+        T::BITS == 64
+    }
 }
 
 /// The sum `x + y by / 2^frac`, with the product rounded down. Precondition: `frac` is at most the width.
@@ -337,6 +372,11 @@ impl<T: Word> Pairs<T> for MulAdd<T> {
     #[inline(always)]
     fn outcome(&self, x: T, y: T) -> Outcome<T> {
         mul_add_of(y, self.by, x, self.frac)
+    }
+
+    #[inline(always)]
+    fn is_by_fours(&self) -> bool {
+        T::BITS == 64
     }
 
     #[inline(always)]

@@ -33,6 +33,13 @@ pub trait Pairs<T: Word> {
         T::BITS <= 16
     }
 
+    /// Returns whether loops that write every number are faster by four numbers at a time. The answer changes nothing
+    /// else.
+    #[inline(always)]
+    fn is_by_fours(&self) -> bool {
+        false
+    }
+
     /// Returns the number of the word that differs from the exact result by a multiple of `2^n` units, where n is the
     /// width. Precondition: the operation is ready.
     #[inline(always)]
@@ -53,9 +60,40 @@ pub fn saturating_pairs<T: Word, O: Pairs<T>>(operation: &O, block: &mut [T], ot
     ensures { map T.value block.new
         ≡ saturating_block T.SIGNED T.BITS (of_pairs (O.exact operation.now) (map T.value block.old) (map T.value others.now)) }
 {
+    if operation.is_by_fours() {
+        saturating_by_fours(operation, block, others);
+    } else {
+        saturating_singly(operation, block, others);
+    }
+}
+
+/// Does what `saturating_pairs` does, number by number.
+#[inline(always)]
+fn saturating_singly<T: Word, O: Pairs<T>>(operation: &O, block: &mut [T], others: &[T])
+    requires ready { O.pairs_ready operation.now }
+    requires lengths { length block.old ≡ length others.now }
+    ensures { map T.value block.new
+        ≡ saturating_block T.SIGNED T.BITS (of_pairs (O.exact operation.now) (map T.value block.old) (map T.value others.now)) }
+{
     for at in 0..block.len() {
         block[at] = saturating_of(operation.outcome(block[at], others[at]));
     }
+}
+
+/// Does what `saturating_pairs` does, by four numbers at a time.
+#[inline(always)]
+fn saturating_by_fours<T: Word, O: Pairs<T>>(operation: &O, block: &mut [T], others: &[T])
+    requires ready { O.pairs_ready operation.now }
+    requires lengths { length block.old ≡ length others.now }
+    ensures { map T.value block.new
+        ≡ saturating_block T.SIGNED T.BITS (of_pairs (O.exact operation.now) (map T.value block.old) (map T.value others.now)) }
+{
+    let mut at = 0;
+    while block.len() - at >= 4 {
+        saturating_singly(operation, &mut block[at..at + 4], &others[at..at + 4]);
+        at += 4;
+    }
+    saturating_singly(operation, &mut block[at..], &others[at..]);
 }
 
 /// Replaces each number of the first block by the number of the word that differs from the exact result for it and the
@@ -67,9 +105,40 @@ pub fn wrapping_pairs<T: Word, O: Pairs<T>>(operation: &O, block: &mut [T], othe
     ensures { map T.value block.new
         ≡ wrapping_block T.SIGNED T.BITS (of_pairs (O.exact operation.now) (map T.value block.old) (map T.value others.now)) }
 {
+    if operation.is_by_fours() {
+        wrapping_by_fours(operation, block, others);
+    } else {
+        wrapping_singly(operation, block, others);
+    }
+}
+
+/// Does what `wrapping_pairs` does, number by number.
+#[inline(always)]
+fn wrapping_singly<T: Word, O: Pairs<T>>(operation: &O, block: &mut [T], others: &[T])
+    requires ready { O.pairs_ready operation.now }
+    requires lengths { length block.old ≡ length others.now }
+    ensures { map T.value block.new
+        ≡ wrapping_block T.SIGNED T.BITS (of_pairs (O.exact operation.now) (map T.value block.old) (map T.value others.now)) }
+{
     for at in 0..block.len() {
         block[at] = operation.wrapped(block[at], others[at]);
     }
+}
+
+/// Does what `wrapping_pairs` does, by four numbers at a time.
+#[inline(always)]
+fn wrapping_by_fours<T: Word, O: Pairs<T>>(operation: &O, block: &mut [T], others: &[T])
+    requires ready { O.pairs_ready operation.now }
+    requires lengths { length block.old ≡ length others.now }
+    ensures { map T.value block.new
+        ≡ wrapping_block T.SIGNED T.BITS (of_pairs (O.exact operation.now) (map T.value block.old) (map T.value others.now)) }
+{
+    let mut at = 0;
+    while block.len() - at >= 4 {
+        wrapping_singly(operation, &mut block[at..at + 4], &others[at..at + 4]);
+        at += 4;
+    }
+    wrapping_singly(operation, &mut block[at..], &others[at..]);
 }
 
 /// Replaces the numbers of the first block by the exact results for them and the numbers at the same places of the

@@ -3,7 +3,7 @@ use Rattle.std.proofs.lemmas.List.{length-map}
 use Rattle.fixed_word.specs.Format.{wrap}
 use Rattle.fixed_block.specs.Blocks.{of_pairs}
 use Rattle.fixed_block.proofs.Fronts.{all_written, pair_step, pairs_long}
-use Rattle.fixed_block.proofs.pairs.wrapping_pairs.Goals as goal
+use Rattle.fixed_block.proofs.pairs.wrapping_singly.Goals as goal
 
 pub loop-at-preserved : goal.loop-at-preserved
 loop-at-preserved g c =

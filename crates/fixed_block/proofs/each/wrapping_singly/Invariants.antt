@@ -1,7 +1,7 @@
 use Rattle.std.proofs.Common.{map}
 use Rattle.fixed_block.specs.Blocks.{wrapping_block}
 use Rattle.fixed_block.proofs.Fronts.{IsFront}
-use Rattle.fixed_block.proofs.each.wrapping_each.Given as goal
+use Rattle.fixed_block.proofs.each.wrapping_singly.Given as goal
 
 abbrev pub invariant-loop-item : goal.invariant-loop-item
 invariant-loop-item g l =

@@ -1,7 +1,7 @@
 use Rattle.std.proofs.Common.{arith}
 use Rattle.fixed_word.specs.Format.{wrap}
 use Rattle.fixed_block.proofs.Fronts.{each_step}
-use Rattle.fixed_block.proofs.each.wrapping_each.Goals as goal
+use Rattle.fixed_block.proofs.each.wrapping_singly.Goals as goal
 
 pub loop-item-preserved : goal.loop-item-preserved
 loop-item-preserved g c =

@@ -1,7 +1,7 @@
 use Rattle.std.proofs.Common.{map}
 use Rattle.fixed_block.specs.Blocks.{of_pairs, wrapping_block}
 use Rattle.fixed_block.proofs.Fronts.{IsFront}
-use Rattle.fixed_block.proofs.pairs.wrapping_pairs.Given as goal
+use Rattle.fixed_block.proofs.pairs.wrapping_singly.Given as goal
 
 abbrev pub invariant-loop-at : goal.invariant-loop-at
 invariant-loop-at g l =
