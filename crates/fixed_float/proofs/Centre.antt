@@ -58,30 +58,6 @@ finite_under nan (fin t n k) b d w h = absurd (true≢false (sym h))
 finite_under (inf s) (fin t n k) b d w h = absurd (true≢false (sym h))
 finite_under (fin s m e) (fin t n k) b d w h = refl
 
--- ---- the size of a number between -y and y
-turned_way : (a b : ℕ) (r : Bool) → (ltb b a || (eqb a b && r)) ≡ true → (ltb b a || (eqb b a && true)) ≡ true
-turned_way a b r h = elim (cases_lt b a) [
-  | inl l ↦ rw (lt-ltb b a l) refl
-  | inr g ↦ elim (cases_lt a b) [
-    | inl k ↦
-        let e : ltb b a ≡ false = le-ltb b a g in
-        let q : eqb a b ≡ false = ne_eqb a b (omega arith) in
-        absurd (true≢false (sym h ∙ (λ i. e i || (q i && r))))
-    | inr k ↦ let e : b ≡ a = omega arith in rw (eq-eqb b a e, le-ltb b a g) refl
-  ]
-]
-
-pub size_between : (x y : Float) (b d : ℕ) → HasValue y false b d → le (neg y) x ≡ true → le x y ≡ true → le (float_with_sign false x) y ≡ true
-unfolding le lt eq neg float_with_sign
-size_between x nan b d w lo hi = absurd w
-size_between x (inf t) b d w lo hi = absurd w
-size_between x (fin true n k) b d w lo hi = absurd (true≢false w.0)
-size_between nan (fin false n k) b d w lo hi = absurd (true≢false (sym hi))
-size_between (inf false) (fin false n k) b d w lo hi = absurd (true≢false (sym hi))
-size_between (inf true) (fin false n k) b d w lo hi = absurd (true≢false (sym lo))
-size_between (fin false m e) (fin false n k) b d w lo hi = hi
-size_between (fin true m e) (fin false n k) b d w lo hi = turned_way (n * up k * down e) (m * up e * down k) _ lo
-
 -- ---- the size as the larger of a float and its negation
 
 at_none : (a b : ℕ) → a ≡ 0 → (ltb a b || (eqb a b && true)) ≡ true

@@ -16,7 +16,7 @@ use Rattle.fixed_float.specs.Rows.{units_of_float}
 use Rattle.fixed_float.specs.inside.Parts.{AreParts}
 use Rattle.fixed_float.specs.inside.Small.{IsSmall}
 use Rattle.fixed_float.specs.declared.parts.Parts.{Parts}
-use Rattle.fixed_float.proofs.Centre.{abs_value, bits_at, closest_minus, closest_plus, finite_under, is_number, moved, size_between, size_by_larger, size_under, value_at}
+use Rattle.fixed_float.proofs.Centre.{abs_value, bits_at, closest_minus, closest_plus, finite_under, is_number, moved, size_by_larger, size_under, value_at}
 use Rattle.fixed_float.proofs.Fields.{packed_value}
 use Rattle.fixed_float.proofs.Products.{times_is}
 use Rattle.fixed_float.proofs.Roundings.{closest_stepped}
@@ -194,11 +194,6 @@ module _ (x : Float) (fit : T (fits binary64 x)) (g : ℕ) (G : g ≤ 64) where
         value = p.1.value;
         small = omega (arith, n_is p.0 p.1, small p.0 p.1 under);
       }
-
-  pub small_between : (le (neg bound) x && le x bound) ≡ true → IsSmall x g
-  small_between h =
-      let both = both_true (le (neg bound) x) (le x bound) h in
-      small_under (size_between x bound ((2 ^ 52 + 0) * 2 ^ (1072 - g)) (2 ^ 1074) bound_value both.0 both.1)
 
   pub small_by_larger : le (if lt x (neg x) then neg x else x) bound ≡ true → IsSmall x g
   small_by_larger h = small_under (size_by_larger x bound ((2 ^ 52 + 0) * 2 ^ (1072 - g)) (2 ^ 1074) bound_value h)

@@ -4,7 +4,6 @@ ghost use Rattle.std.specs.Prelude.{◌≡◌, ◌<◌, ◌≤◌, Bool, Some, f
 ghost use Rattle.std.specs.Float.{NotNan, inf};
 ghost use Rattle.std.specs.Float.Ieee.{lt};
 ghost use Rattle.fixed_word.specs.Format.{clamp, highest, lowest, with_sign};
-ghost use Rattle.fixed_word.specs.Policies.{saturating};
 ghost use Rattle.fixed_word.specs.declared.rounding.Rounding.TheVariants.{Even};
 ghost use Rattle.fixed_float.specs.Rows.{saturated_float};
 
