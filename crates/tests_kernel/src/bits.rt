@@ -2,6 +2,7 @@
 
 ghost use Rattle.std.specs.Prelude.{◌<◌};
 
+use super::plain::all_hold;
 use fixed_bits::BitWord;
 use fixed_word::{RawWord, Word};
 
@@ -128,17 +129,19 @@ fn move_long_words() -> [bool; 2] {
 #[test]
 fn shifts(rt: HostRuntime) {
     let [greatest, least] = move_long_words();
-    for (what, holds) in [
-        ("-120 by 3", moves_byte(-120, 3, 64, -15)),
-        ("-1 by 7", moves_byte(-1, 7, -128, -1)),
-        ("5 by 1", moves_byte(5, 1, 10, 2)),
-        ("-128 by 0", moves_byte(-128, 0, -128, -128)),
-        ("200 by 3", moves_unsigned_byte()),
-        ("the greatest by 63", greatest),
-        ("the least by 63", least),
-    ] {
-        assert!(rt; holds, "{what}");
-    }
+    all_hold(
+        &rt,
+        "shift",
+        &[
+            ("-120 by 3", moves_byte(-120, 3, 64, -15)),
+            ("-1 by 7", moves_byte(-1, 7, -128, -1)),
+            ("5 by 1", moves_byte(5, 1, 10, 2)),
+            ("-128 by 0", moves_byte(-128, 0, -128, -128)),
+            ("200 by 3", moves_unsigned_byte()),
+            ("the greatest by 63", greatest),
+            ("the least by 63", least),
+        ],
+    );
 }
 
 #[test]
@@ -148,26 +151,28 @@ fn longer_words(rt: HostRuntime) {
         && BitWord::to_be_bytes(-2_i32) == [255, 255, 255, 254];
     let low_first = <u32 as BitWord>::from_le_bytes([1, 2, 3, 4]);
     let high_first = <i64 as BitWord>::from_be_bytes([255, 0, 0, 0, 0, 0, 0, 1]);
-    for (what, holds) in [
-        ("bytes of a word", written),
-        ("from bytes, low first", low_first == 0x0403_0201),
-        (
-            "from bytes, high first",
-            high_first == -0x00ff_ffff_ffff_ffff,
-        ),
-        (
-            "swapped bytes",
-            BitWord::swap_bytes(0x1234_5678_i32) == 0x7856_3412,
-        ),
-        ("reversed bits", BitWord::reverse_bits(1_u64) == 1 << 63),
-        (
-            "rotated left",
-            BitWord::rotate_left(0x8000_0001_u32, 33) == 3,
-        ),
-        ("rotated right", BitWord::rotate_right(1_i16, 17) == -0x8000),
-        ("leading zeros", BitWord::leading_zeros(1_u16) == 15),
-        ("trailing zeros", BitWord::trailing_zeros(0_i64) == 64),
-    ] {
-        assert!(rt; holds, "{what}");
-    }
+    all_hold(
+        &rt,
+        "longer word",
+        &[
+            ("bytes of a word", written),
+            ("from bytes, low first", low_first == 0x0403_0201),
+            (
+                "from bytes, high first",
+                high_first == -0x00ff_ffff_ffff_ffff,
+            ),
+            (
+                "swapped bytes",
+                BitWord::swap_bytes(0x1234_5678_i32) == 0x7856_3412,
+            ),
+            ("reversed bits", BitWord::reverse_bits(1_u64) == 1 << 63),
+            (
+                "rotated left",
+                BitWord::rotate_left(0x8000_0001_u32, 33) == 3,
+            ),
+            ("rotated right", BitWord::rotate_right(1_i16, 17) == -0x8000),
+            ("leading zeros", BitWord::leading_zeros(1_u16) == 15),
+            ("trailing zeros", BitWord::trailing_zeros(0_i64) == 64),
+        ],
+    );
 }

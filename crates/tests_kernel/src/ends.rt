@@ -1,130 +1,122 @@
 //! The ends of every word, with no fraction, with one integer bit and with none.
 
-use super::calls::{Call, answer};
-use super::named::{WordName, check_number, check_row};
-use super::plain::stands;
+use super::calls::Call;
+use super::named::{WordName, check_magnitude, check_number, check_rows, greatest};
 use fixed_word::Side::{Above, Below, Fits};
-use fixed_word::{SignedWord, UnsignedWord};
 use std::process::Abort;
 
 #[test]
 fn signed_bytes(rt: HostRuntime) {
-    for row in [
-        (Call::Mul, -128, -128, 0, 0, Above),
-        (Call::Mul, -128, -128, 7, -128, Above),
-        (Call::Mul, -128, -128, 8, 64, Fits),
-        (Call::Div, -128, -1, 0, -128, Above),
-        (Call::Div, -128, -1, 7, 0, Above),
-        (Call::Div, -128, -1, 8, 0, Above),
-        (Call::Recip, 1, 0, 0, 1, Fits),
-        (Call::Recip, 1, 0, 7, 0, Above),
-        (Call::Recip, 1, 0, 8, 0, Above),
-        (Call::Sqrt, 127, 0, 0, 11, Fits),
-        (Call::Sqrt, 127, 0, 7, 127, Fits),
-        (Call::Sqrt, 127, 0, 8, -76, Above),
-        (Call::DivEuclidInt, -1, 2, 0, -1, Fits),
-        (Call::DivEuclidInt, -1, 2, 7, -128, Fits),
-        (Call::DivEuclidInt, -1, 2, 8, 0, Below),
-        (Call::Signum, 5, 0, 0, 1, Fits),
-        (Call::Signum, 5, 0, 7, -128, Above),
-        (Call::Signum, 5, 0, 8, 0, Above),
-        (Call::RemInt, -128, -128, 0, 0, Fits),
-        (Call::RemInt, -128, -128, 7, -128, Fits),
-        (Call::RemInt, -128, -128, 8, -128, Fits),
-        (Call::NextMultipleOf, 127, -128, 0, 0, Fits),
-        (Call::NextMultipleOf, 127, -128, 7, 0, Fits),
-        (Call::NextMultipleOf, 127, -128, 8, 0, Fits),
-    ] {
-        check_row(&rt, WordName::I8, row);
-    }
+    check_rows(
+        &rt,
+        WordName::I8,
+        &[
+            (Call::Mul, -128, -128, 0, 0, Above),
+            (Call::Mul, -128, -128, 7, -128, Above),
+            (Call::Mul, -128, -128, 8, 64, Fits),
+            (Call::Div, -128, -1, 0, -128, Above),
+            (Call::Div, -128, -1, 7, 0, Above),
+            (Call::Div, -128, -1, 8, 0, Above),
+            (Call::Recip, 1, 0, 0, 1, Fits),
+            (Call::Recip, 1, 0, 7, 0, Above),
+            (Call::Recip, 1, 0, 8, 0, Above),
+            (Call::Sqrt, 127, 0, 0, 11, Fits),
+            (Call::Sqrt, 127, 0, 7, 127, Fits),
+            (Call::Sqrt, 127, 0, 8, -76, Above),
+            (Call::DivEuclidInt, -1, 2, 0, -1, Fits),
+            (Call::DivEuclidInt, -1, 2, 7, -128, Fits),
+            (Call::DivEuclidInt, -1, 2, 8, 0, Below),
+            (Call::Signum, 5, 0, 0, 1, Fits),
+            (Call::Signum, 5, 0, 7, -128, Above),
+            (Call::Signum, 5, 0, 8, 0, Above),
+            (Call::RemInt, -128, -128, 0, 0, Fits),
+            (Call::RemInt, -128, -128, 7, -128, Fits),
+            (Call::RemInt, -128, -128, 8, -128, Fits),
+            (Call::NextMultipleOf, 127, -128, 0, 0, Fits),
+            (Call::NextMultipleOf, 127, -128, 7, 0, Fits),
+            (Call::NextMultipleOf, 127, -128, 8, 0, Fits),
+        ],
+    );
 }
 
 #[test]
 fn unsigned_bytes(rt: HostRuntime) {
-    for row in [
-        (Call::Mul, 255, 255, 0, 1, Above),
-        (Call::Mul, 255, 255, 7, 252, Above),
-        (Call::Mul, 255, 255, 8, 254, Fits),
-        (Call::Div, 255, 1, 0, 255, Fits),
-        (Call::Div, 255, 1, 7, 128, Above),
-        (Call::Div, 255, 1, 8, 0, Above),
-        (Call::Recip, 255, 0, 0, 0, Fits),
-        (Call::Recip, 255, 0, 7, 64, Fits),
-        (Call::Recip, 255, 0, 8, 1, Above),
-        (Call::Sqrt, 255, 0, 0, 15, Fits),
-        (Call::Sqrt, 255, 0, 7, 180, Fits),
-        (Call::Sqrt, 255, 0, 8, 255, Fits),
-    ] {
-        check_row(&rt, WordName::U8, row);
+    check_rows(
+        &rt,
+        WordName::U8,
+        &[
+            (Call::Mul, 255, 255, 0, 1, Above),
+            (Call::Mul, 255, 255, 7, 252, Above),
+            (Call::Mul, 255, 255, 8, 254, Fits),
+            (Call::Div, 255, 1, 0, 255, Fits),
+            (Call::Div, 255, 1, 7, 128, Above),
+            (Call::Div, 255, 1, 8, 0, Above),
+            (Call::Recip, 255, 0, 0, 0, Fits),
+            (Call::Recip, 255, 0, 7, 64, Fits),
+            (Call::Recip, 255, 0, 8, 1, Above),
+            (Call::Sqrt, 255, 0, 0, 15, Fits),
+            (Call::Sqrt, 255, 0, 7, 180, Fits),
+            (Call::Sqrt, 255, 0, 8, 255, Fits),
+        ],
+    );
+}
+
+/// A kernel with its operands, and its number by sign and magnitude.
+type End = (Call, i128, i128, bool, u128);
+
+/// That the kernels answer so, at words of that name and with that fraction.
+fn check_ends(rt: &impl Abort, word: WordName, frac: u32, ends: &[End]) {
+    for &(call, a, b, below_zero, magnitude) in ends {
+        check_magnitude(rt, word, call, (a, b, frac), (below_zero, magnitude));
     }
 }
 
-fn signed_ends<T: SignedWord>(rt: &impl Abort, frac: u32) {
-    let least = T::MIN;
-    let half = least.magnitude() as u128;
-    let minus_one = T::residue(true, 1);
-    let two = T::residue(false, 2);
-    let five = T::residue(false, 5);
+fn signed_ends(rt: &impl Abort, word: WordName, frac: u32) {
+    let most = greatest(word) as i128;
+    let least = -1 - most;
+    let half = least.unsigned_abs();
     if frac <= 64 {
         let unit = 1_u128 << frac;
-        assert!(rt;
-            stands(
-                answer(Call::Mul, least, least, frac),
-                false,
-                half.wrapping_mul(half) >> frac
-            )
-        );
-        assert!(rt;
-            stands(
-                answer(Call::Div, least, minus_one, frac),
-                false,
-                half.wrapping_mul(unit)
-            )
-        );
-        assert!(rt; stands(answer(Call::DivEuclidInt, minus_one, two, frac), true, unit));
-        assert!(rt; stands(answer(Call::Signum, five, least, frac), false, unit));
-        assert!(rt; stands(answer(Call::NextMultipleOf, T::MAX, least, frac), false, 0));
         let left = if frac == 0 { 0 } else { half };
-        assert!(rt; stands(answer(Call::RemInt, least, least, frac), true, left));
+        let square = half.wrapping_mul(half) >> frac;
+        check_ends(
+            rt,
+            word,
+            frac,
+            &[
+                (Call::Mul, least, least, false, square),
+                (Call::Div, least, -1, false, half.wrapping_mul(unit)),
+                (Call::DivEuclidInt, -1, 2, true, unit),
+                (Call::Signum, 5, least, false, unit),
+                (Call::NextMultipleOf, most, least, false, 0),
+                (Call::RemInt, least, least, true, left),
+            ],
+        );
         if frac < 64 {
-            assert!(rt;
-                stands(
-                    answer(Call::Recip, T::ONE, least, frac),
-                    false,
-                    unit.wrapping_mul(unit)
-                )
-            );
+            let number = (false, unit.wrapping_mul(unit));
+            check_magnitude(rt, word, Call::Recip, (1, least, frac), number);
         }
     }
 }
 
-fn unsigned_ends<T: UnsignedWord>(rt: &impl Abort, frac: u32) {
-    let most = T::MAX;
-    let size = most.magnitude() as u128;
+fn unsigned_ends(rt: &impl Abort, word: WordName, frac: u32) {
+    let most = greatest(word) as i128;
+    let size = most.unsigned_abs();
     if frac <= 64 && size > 0 {
         let unit = 1_u128 << frac;
-        assert!(rt;
-            stands(
-                answer(Call::Mul, most, most, frac),
-                false,
-                size.wrapping_mul(size) >> frac
-            )
-        );
-        assert!(rt;
-            stands(
-                answer(Call::Div, most, T::ONE, frac),
-                false,
-                size.wrapping_mul(unit)
-            )
+        let square = size.wrapping_mul(size) >> frac;
+        check_ends(
+            rt,
+            word,
+            frac,
+            &[
+                (Call::Mul, most, most, false, square),
+                (Call::Div, most, 1, false, size.wrapping_mul(unit)),
+            ],
         );
         if frac < 64 {
-            assert!(rt;
-                stands(
-                    answer(Call::Recip, most, most, frac),
-                    false,
-                    unit.wrapping_mul(unit) / size
-                )
-            );
+            let number = (false, unit.wrapping_mul(unit) / size);
+            check_magnitude(rt, word, Call::Recip, (most, most, frac), number);
         }
     }
 }
@@ -132,16 +124,16 @@ fn unsigned_ends<T: UnsignedWord>(rt: &impl Abort, frac: u32) {
 #[test]
 fn wider_words(rt: HostRuntime) {
     for frac in [0, 15, 16] {
-        signed_ends::<i16>(&rt, frac);
-        unsigned_ends::<u16>(&rt, frac);
+        signed_ends(&rt, WordName::I16, frac);
+        unsigned_ends(&rt, WordName::U16, frac);
     }
     for frac in [0, 31, 32] {
-        signed_ends::<i32>(&rt, frac);
-        unsigned_ends::<u32>(&rt, frac);
+        signed_ends(&rt, WordName::I32, frac);
+        unsigned_ends(&rt, WordName::U32, frac);
     }
     for frac in [0, 63, 64] {
-        signed_ends::<i64>(&rt, frac);
-        unsigned_ends::<u64>(&rt, frac);
+        signed_ends(&rt, WordName::I64, frac);
+        unsigned_ends(&rt, WordName::U64, frac);
     }
 }
 

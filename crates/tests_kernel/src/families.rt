@@ -1,18 +1,14 @@
 //! Families of cases of the crate's own tests, by plain computations.
 
 use super::calls::{Call, ratio};
-use super::named::{WordName, answer_in, greatest, multiply_add_in, stands_in, width};
+use super::named::{WordName, check_magnitude, greatest, multiply_add_in, stands_in, width};
 use fixed_word::SignedWord;
 use std::process::Abort;
 
 /// That the kernel of two operands leaves what the word leaves of that number, with its side.
 fn check(rt: &impl Abort, word: WordName, call: Call, a: i128, b: i128, frac: u32, number: i128) {
-    let found = answer_in(word, call, a, b, frac);
-    let stands = stands_in(word, found, number);
-    assert!(rt;
-        stands,
-        "{word:?}: {call:?} of {a} and {b} at {frac}: {found:?}"
-    );
+    let magnitude = number.unsigned_abs();
+    check_magnitude(rt, word, call, (a, b, frac), (number < 0, magnitude));
 }
 
 /// `a / b`, rounded toward zero; 0 for a divisor 0.

@@ -17,27 +17,56 @@ struct Found {
     count: u64,
 }
 
-fn logs<D: Digits<Count>>(val: D, base: Base) -> Found
+/// The logarithm of a whole number, and its count.
+fn int_log<D: Digits<Count>>(val: D, base: Base) -> (i32, u64)
     requires { D.value val ≢ pos 0 }
 {
     let mut steps = Steps::new(Count::new());
     let int = int_part(val, base, &mut steps);
-    let mut count = steps.ledger().count();
-    steps = Steps::new(Count::new());
+    (int, steps.ledger().count())
+}
+
+/// The logarithm of a fraction, and its count.
+fn frac_log<D: Digits<Count>>(val: D, base: Base) -> (i32, u64)
+    requires { D.value val ≢ pos 0 }
+{
+    let mut steps = Steps::new(Count::new());
     let frac = frac_part(val, base, &mut steps);
-    count = count.max(steps.ledger().count());
-    steps = Steps::new(Count::new());
-    let int_ten = int_log10_part(val, &mut steps);
-    count = count.max(steps.ledger().count());
-    steps = Steps::new(Count::new());
-    let frac_ten = frac_log10_part(val, &mut steps);
-    count = count.max(steps.ledger().count());
+    (frac, steps.ledger().count())
+}
+
+/// The logarithm to the base ten of a whole number, and its count.
+fn int_log_ten<D: Digits<Count>>(val: D) -> (i32, u64)
+    requires { D.value val ≢ pos 0 }
+{
+    let mut steps = Steps::new(Count::new());
+    let int = int_log10_part(val, &mut steps);
+    (int, steps.ledger().count())
+}
+
+/// The logarithm to the base ten of a fraction, and its count.
+fn frac_log_ten<D: Digits<Count>>(val: D) -> (i32, u64)
+    requires { D.value val ≢ pos 0 }
+{
+    let mut steps = Steps::new(Count::new());
+    let frac = frac_log10_part(val, &mut steps);
+    (frac, steps.ledger().count())
+}
+
+fn logs<D: Digits<Count>>(val: D, base: Base) -> Found
+    requires { D.value val ≢ pos 0 }
+{
+    let (int, int_count) = int_log(val, base);
+    let (frac, frac_count) = frac_log(val, base);
+    let (int_ten, int_ten_count) = int_log_ten(val);
+    let (frac_ten, frac_ten_count) = frac_log_ten(val);
+    let count = int_count.max(frac_count);
     Found {
         int,
         frac,
         int_ten,
         frac_ten,
-        count,
+        count: count.max(int_ten_count).max(frac_ten_count),
     }
 }
 
@@ -169,11 +198,10 @@ fn every_byte(rt: HostRuntime) -> Result<(), Fail> {
     Ok(())
 }
 
-#[test]
-fn worked_values(rt: HostRuntime) -> Result<(), Fail> {
+/// The logarithms of bytes, to the base thousand and to the base ten.
+fn check_bytes(rt: &impl Abort, rows: &[(u64, i32)]) -> Result<(), Fail> {
     let thousand = Base::new(1000).ok_or("a base")?;
-    let two = Base::new(2).ok_or("a base")?;
-    for (val, want) in [(26, -1), (25, -2), (3, -2), (2, -3), (1, -3)] {
+    for &(val, want) in rows {
         let found = logs_in(8, val, thousand).ok_or("a word")?;
         let found_ten = found.frac_ten;
         assert!(rt;
@@ -181,6 +209,13 @@ fn worked_values(rt: HostRuntime) -> Result<(), Fail> {
             "{val}: {found_ten}"
         );
     }
+    Ok(())
+}
+
+#[test]
+fn worked_values(rt: HostRuntime) -> Result<(), Fail> {
+    check_bytes(&rt, &[(26, -1), (25, -2), (3, -2), (2, -3), (1, -3)])?;
+    let two = Base::new(2).ok_or("a base")?;
     let one = logs_in(64, 1, two).ok_or("a word")?;
     let no_base = Base::new(1).is_none() && Base::new(0).is_none();
     assert!(rt; no_base && one.frac == -64 && one.frac_ten == -20);

@@ -2,7 +2,7 @@
 //! that no test pays for their laws.
 
 use super::calls::{Call, answer, multiply_add};
-use super::plain::words_of;
+use super::plain::low_bits;
 use fixed_word::{Side, Word, checked_of, outcome_of};
 use std::process::Abort;
 
@@ -38,23 +38,43 @@ fn answer_as<T: Word>(call: Call, a: i128, b: i128, frac: u32) -> Option<(i128, 
     Some((value_of(outcome.wrapped), outcome.side))
 }
 
-/// What the kernel answers at words of that name and those values.
-pub fn answer_in(word: WordName, call: Call, a: i128, b: i128, frac: u32) -> Option<(i128, Side)> {
-    match word {
-        WordName::U8 => answer_as::<u8>(call, a, b, frac),
-        WordName::U16 => answer_as::<u16>(call, a, b, frac),
-        WordName::U32 => answer_as::<u32>(call, a, b, frac),
-        WordName::U64 => answer_as::<u64>(call, a, b, frac),
-        WordName::I8 => answer_as::<i8>(call, a, b, frac),
-        WordName::I16 => answer_as::<i16>(call, a, b, frac),
-        WordName::I32 => answer_as::<i32>(call, a, b, frac),
-        WordName::I64 => answer_as::<i64>(call, a, b, frac),
-    }
-}
-
 fn multiply_add_as<T: Word>(a: i128, mul: i128, add: i128, frac: u32) -> Option<(i128, Side)> {
     let outcome = multiply_add::<T>(word_of(a)?, word_of(mul)?, word_of(add)?, frac)?;
     Some((value_of(outcome.wrapped), outcome.side))
+}
+
+/// A kernel with its operands and fraction, or a sum of a product, whose factor has that fraction.
+#[derive(Clone, Copy)]
+enum Question {
+    Kernel(Call, i128, i128, u32),
+    MultiplyAdd(i128, i128, i128, u32),
+}
+
+/// What is found at one type of words.
+fn found_as<T: Word>(question: Question) -> Option<(i128, Side)> {
+    match question {
+        Question::Kernel(call, a, b, frac) => answer_as::<T>(call, a, b, frac),
+        Question::MultiplyAdd(a, mul, add, frac) => multiply_add_as::<T>(a, mul, add, frac),
+    }
+}
+
+/// What is found at words of that name.
+fn found_in(word: WordName, question: Question) -> Option<(i128, Side)> {
+    match word {
+        WordName::U8 => found_as::<u8>(question),
+        WordName::U16 => found_as::<u16>(question),
+        WordName::U32 => found_as::<u32>(question),
+        WordName::U64 => found_as::<u64>(question),
+        WordName::I8 => found_as::<i8>(question),
+        WordName::I16 => found_as::<i16>(question),
+        WordName::I32 => found_as::<i32>(question),
+        WordName::I64 => found_as::<i64>(question),
+    }
+}
+
+/// What the kernel answers at words of that name and those values.
+pub fn answer_in(word: WordName, call: Call, a: i128, b: i128, frac: u32) -> Option<(i128, Side)> {
+    found_in(word, Question::Kernel(call, a, b, frac))
 }
 
 /// What the kernel answers of `a mul + add` at words of that name and those values; the factor has `frac` places.
@@ -65,34 +85,36 @@ pub fn multiply_add_in(
     add: i128,
     frac: u32,
 ) -> Option<(i128, Side)> {
-    match word {
-        WordName::U8 => multiply_add_as::<u8>(a, mul, add, frac),
-        WordName::U16 => multiply_add_as::<u16>(a, mul, add, frac),
-        WordName::U32 => multiply_add_as::<u32>(a, mul, add, frac),
-        WordName::U64 => multiply_add_as::<u64>(a, mul, add, frac),
-        WordName::I8 => multiply_add_as::<i8>(a, mul, add, frac),
-        WordName::I16 => multiply_add_as::<i16>(a, mul, add, frac),
-        WordName::I32 => multiply_add_as::<i32>(a, mul, add, frac),
-        WordName::I64 => multiply_add_as::<i64>(a, mul, add, frac),
-    }
+    found_in(word, Question::MultiplyAdd(a, mul, add, frac))
 }
 
 /// Whether what was found is what words of that name leave of the number, with its side.
 pub fn stands_in(word: WordName, found: Option<(i128, Side)>, number: i128) -> bool {
+    stands_at(word, found, number < 0, number.unsigned_abs())
+}
+
+/// The same of a number of that sign and magnitude.
+fn stands_at(
+    word: WordName,
+    found: Option<(i128, Side)>,
+    below_zero: bool,
+    magnitude: u128,
+) -> bool {
     match found {
         Some((wrapped, side)) => {
-            let apart = wrapped.wrapping_sub(number).unsigned_abs();
-            apart % words_of(width(word)) == 0 && side == side_in(word, number)
+            let bits = low_bits(wrapped < 0, wrapped.unsigned_abs(), width(word));
+            bits == low_bits(below_zero, magnitude, width(word))
+                && side == side_at(word, below_zero, magnitude)
         }
         None => false,
     }
 }
 
-fn side_in(word: WordName, number: i128) -> Side {
-    if number > greatest(word) as i128 {
-        Side::Above
-    } else if number < least(word) {
+fn side_at(word: WordName, below_zero: bool, magnitude: u128) -> Side {
+    if below_zero && magnitude > least(word) {
         Side::Below
+    } else if !below_zero && magnitude > greatest(word) as u128 {
+        Side::Above
     } else {
         Side::Fits
     }
@@ -102,7 +124,7 @@ fn side_in(word: WordName, number: i128) -> Side {
 pub type Row = (Call, i128, i128, u32, i128, Side);
 
 /// That the kernel answers as the row says, at words of that name.
-pub fn check_row(rt: &impl Abort, word: WordName, row: Row) {
+fn check_row(rt: &impl Abort, word: WordName, row: Row) {
     let (call, a, b, frac, wrapped, side) = row;
     let found = answer_in(word, call, a, b, frac);
     let stands = found == Some((wrapped, side));
@@ -112,11 +134,34 @@ pub fn check_row(rt: &impl Abort, word: WordName, row: Row) {
     );
 }
 
-/// That the kernel of one operand leaves what the word leaves of that number, which is at least 0.
+/// That the kernel answers as each row says, at words of that name.
+pub fn check_rows(rt: &impl Abort, word: WordName, rows: &[Row]) {
+    for &row in rows {
+        check_row(rt, word, row);
+    }
+}
+
+/// That the kernel leaves what the word leaves of the number of that sign and magnitude, with its side.
+pub fn check_magnitude(
+    rt: &impl Abort,
+    word: WordName,
+    call: Call,
+    operands: (i128, i128, u32),
+    number: (bool, u128),
+) {
+    let (a, b, frac) = operands;
+    let (below_zero, magnitude) = number;
+    let found = answer_in(word, call, a, b, frac);
+    let stands = stands_at(word, found, below_zero, magnitude);
+    assert!(rt;
+        stands,
+        "{word:?}: {call:?} of {a} and {b} at {frac}: {found:?}"
+    );
+}
+
+/// The same of the kernel of one operand and a number that is at least 0.
 pub fn check_number(rt: &impl Abort, word: WordName, call: Call, a: i128, frac: u32, number: u64) {
-    let found = answer_in(word, call, a, 0, frac);
-    let stands = stands_in(word, found, number as i128);
-    assert!(rt; stands, "{word:?}: {call:?} of {a} at {frac}: {found:?}");
+    check_magnitude(rt, word, call, (a, 0, frac), (false, number as u128));
 }
 
 pub fn width(word: WordName) -> u32 {
@@ -141,12 +186,13 @@ pub fn greatest(word: WordName) -> u64 {
     }
 }
 
-fn least(word: WordName) -> i128 {
+/// The magnitude of the least number.
+fn least(word: WordName) -> u128 {
     match word {
         WordName::U8 | WordName::U16 | WordName::U32 | WordName::U64 => 0,
-        WordName::I8 => -128,
-        WordName::I16 => -32_768,
-        WordName::I32 => -2_147_483_648,
-        WordName::I64 => -9_223_372_036_854_775_808,
+        WordName::I8 => 128,
+        WordName::I16 => 32_768,
+        WordName::I32 => 2_147_483_648,
+        WordName::I64 => 9_223_372_036_854_775_808,
     }
 }

@@ -2,7 +2,8 @@
 
 ghost use Rattle.std.specs.Prelude.{◌<◌};
 
-use fixed_word::{Outcome, RawWord, Side, Word};
+use fixed_word::{Outcome, Side};
+use std::process::Abort;
 
 /// What eight bits leave of a number, and whether it does not fit them.
 pub fn left_of(number: i64, signed: bool) -> (i64, bool) {
@@ -65,25 +66,8 @@ pub fn multiple(a: i64, b: i64) -> i64 {
     }
 }
 
-/// Whether the outcome is what the word leaves of the number, with its side.
-pub fn stands<T: Word>(found: Option<Outcome<T>>, below_zero: bool, magnitude: u128) -> bool {
-    match found {
-        Some(outcome) => {
-            let bits = outcome.wrapped.to_unsigned().magnitude() as u128;
-            let side = if below_zero && magnitude > T::MIN.magnitude() as u128 {
-                Side::Below
-            } else if !below_zero && magnitude > T::MAX.magnitude() as u128 {
-                Side::Above
-            } else {
-                Side::Fits
-            };
-            bits == low_bits(below_zero, magnitude, T::BITS) && outcome.side == side
-        }
-        None => false,
-    }
-}
-
-fn low_bits(below_zero: bool, magnitude: u128, bits: u32) -> u128 {
+/// The number modulo the count of words of that width.
+pub fn low_bits(below_zero: bool, magnitude: u128, bits: u32) -> u128 {
     let all = words_of(bits);
     let low = magnitude % all;
     if below_zero && low > 0 {
@@ -94,7 +78,7 @@ fn low_bits(below_zero: bool, magnitude: u128, bits: u32) -> u128 {
 }
 
 /// How many words of that width there are.
-pub fn words_of(bits: u32) -> u128
+fn words_of(bits: u32) -> u128
     ensures { 0 < result }
 {
     match bits {
@@ -102,5 +86,12 @@ pub fn words_of(bits: u32) -> u128
         16 => 65536,
         32 => 4294967296,
         _ => 18446744073709551616,
+    }
+}
+
+/// That each of these facts holds, by its name.
+pub fn all_hold(rt: &impl Abort, of: &str, facts: &[(&'static str, bool)]) {
+    for (what, holds) in facts {
+        assert!(rt; *holds, "{of}: {what}");
     }
 }

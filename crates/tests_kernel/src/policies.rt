@@ -1,6 +1,7 @@
 //! What the policies make of a number on both sides of each end, through the bound.
 
 use super::calls::nearest;
+use super::plain::all_hold;
 use fixed_word::{
     Side, Word, checked_of, clamped_of, nearest_of_whole, outcome_of, overflowing_of,
     saturating_of, strict_of, wrapping_of,
@@ -83,25 +84,28 @@ fn nearest_bytes(rt: HostRuntime) {
 fn nearest_words(rt: HostRuntime) {
     let least = i64::MIN;
     let most = u64::MAX;
-    assert!(rt;
-        nearest(-32768_i16, -32768, 15) == Some((32767, 32767)),
-        "i16"
+    all_hold(
+        &rt,
+        "nearest",
+        &[
+            (
+                "i16",
+                nearest(-32768_i16, -32768, 15) == Some((32767, 32767)),
+            ),
+            (
+                "i16, without integer bits",
+                nearest(-32768_i16, -32768, 16) == Some((16384, 32767)),
+            ),
+            ("u16", nearest(65535_u16, 65535, 16) == Some((65534, 65535))),
+            (
+                "i32",
+                nearest(1_i32 << 30, -4, 0) == Some((-2147483648, -268435456)),
+            ),
+            ("u32", nearest(7_u32, 2, 1) == Some((7, 7))),
+            ("i64", nearest(least, -1, 0) == Some((i64::MAX, i64::MAX))),
+            ("u64", nearest(most, most, 64) == Some((most - 1, most))),
+        ],
     );
-    assert!(rt;
-        nearest(-32768_i16, -32768, 16) == Some((16384, 32767)),
-        "i16, without integer bits"
-    );
-    assert!(rt;
-        nearest(65535_u16, 65535, 16) == Some((65534, 65535)),
-        "u16"
-    );
-    assert!(rt;
-        nearest(1_i32 << 30, -4, 0) == Some((-2147483648, -268435456)),
-        "i32"
-    );
-    assert!(rt; nearest(7_u32, 2, 1) == Some((7, 7)), "u32");
-    assert!(rt; nearest(least, -1, 0) == Some((i64::MAX, i64::MAX)), "i64");
-    assert!(rt; nearest(most, most, 64) == Some((most - 1, most)), "u64");
 }
 
 #[test]
@@ -115,7 +119,13 @@ fn nearest_to_integers(rt: HostRuntime) {
     ] {
         assert!(rt; nearest_of_whole::<i8>(whole) == word, "{whole}");
     }
-    assert!(rt; nearest_of_whole::<u8>(256) == 255, "u8");
-    assert!(rt; nearest_of_whole::<i64>(-1 << 100) == i64::MIN, "i64");
-    assert!(rt; nearest_of_whole::<u64>(1 << 100) == u64::MAX, "u64");
+    all_hold(
+        &rt,
+        "nearest",
+        &[
+            ("u8", nearest_of_whole::<u8>(256) == 255),
+            ("i64", nearest_of_whole::<i64>(-1 << 100) == i64::MIN),
+            ("u64", nearest_of_whole::<u64>(1 << 100) == u64::MAX),
+        ],
+    );
 }

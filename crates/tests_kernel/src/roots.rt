@@ -70,16 +70,18 @@ fn two<D: Digits<Count> + RawWord>(rt: &impl Abort) {
     }
 }
 
+/// Both of the two, at one word.
+fn both<D: Digits<Count> + RawWord>(rt: &impl Abort) {
+    greatest::<D>(rt);
+    two::<D>(rt);
+}
+
 #[test]
 fn greatest_and_two(rt: HostRuntime) {
-    greatest::<u8>(&rt);
-    greatest::<u16>(&rt);
-    greatest::<u32>(&rt);
-    greatest::<u64>(&rt);
-    two::<u8>(&rt);
-    two::<u16>(&rt);
-    two::<u32>(&rt);
-    two::<u64>(&rt);
+    both::<u8>(&rt);
+    both::<u16>(&rt);
+    both::<u32>(&rt);
+    both::<u64>(&rt);
 }
 
 #[test]

@@ -1,6 +1,6 @@
 //! That the six kernels with a named rounding round as a plain computation does.
 
-use super::plain::{quotient, remainder};
+use super::plain::{all_hold, quotient, remainder};
 use fixed_kernel::{
     Rounding, add_prod_round_of, div_int_round_of, div_round_of, mul_add_round_of, mul_round_of,
     recip_round_of,
@@ -166,21 +166,23 @@ fn corners(rt: HostRuntime) {
     let (least, most) = (i64::MIN, u64::MAX);
     let half = add_prod_round_of(0_i64, least, least, 0, 63, 64, Rounding::Even);
     let below_zero = add_prod_round_of(0_i64, least, 1, 0, 64, 64, Rounding::Down);
-    for (what, holds) in [
-        ("tie up", is_of(mul_round_of(85, 3, 1, Rounding::Even), 128)),
-        (
-            "tie down",
-            is_of(mul_round_of(85, 3, 1, Rounding::Down), 127),
-        ),
-        (
-            "third",
-            left(recip_round_of(3_u8, 8, Rounding::Even), 85, Side::Above),
-        ),
-        ("half", left(half, 0, Side::Fits)),
-        ("just below 0", left(below_zero, -1, Side::Fits)),
-    ] {
-        assert!(rt; holds, "{what}");
-    }
+    all_hold(
+        &rt,
+        "corner",
+        &[
+            ("tie up", is_of(mul_round_of(85, 3, 1, Rounding::Even), 128)),
+            (
+                "tie down",
+                is_of(mul_round_of(85, 3, 1, Rounding::Down), 127),
+            ),
+            (
+                "third",
+                left(recip_round_of(3_u8, 8, Rounding::Even), 85, Side::Above),
+            ),
+            ("half", left(half, 0, Side::Fits)),
+            ("just below 0", left(below_zero, -1, Side::Fits)),
+        ],
+    );
     for (rounding, sum) in [
         (Rounding::Down, 0),
         (Rounding::Zero, 0),

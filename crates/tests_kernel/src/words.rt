@@ -73,11 +73,20 @@ fn lies<T: Word>(below_zero: bool, magnitude: u128, wrapped: T, side: Side) -> b
     outcome.wrapped == wrapped && outcome.side == side
 }
 
+/// A number's name, and whether it lies where it is to lie.
+type Place = (&'static str, bool);
+
+fn all_lie(rt: &impl Abort, bits: u32, places: &[Place]) {
+    for (what, holds) in places {
+        assert!(rt; *holds, "{what} of {bits} bits");
+    }
+}
+
 /// The outcomes at each end.
 fn ends<T: Word>(rt: &impl Abort, bits: u32, least: u64, greatest: u64) {
     let least = least as u128;
     let greatest = greatest as u128;
-    for (what, holds) in [
+    let places = [
         ("greatest", lies(false, greatest, T::MAX, Side::Fits)),
         (
             "past the greatest",
@@ -90,9 +99,8 @@ fn ends<T: Word>(rt: &impl Abort, bits: u32, least: u64, greatest: u64) {
             "all ones below 0",
             lies(true, u128::MAX, T::ONE, Side::Below),
         ),
-    ] {
-        assert!(rt; holds, "{what} of {bits} bits");
-    }
+    ];
+    all_lie(rt, bits, &places);
 }
 
 /// Whether the way through the unsigned word leads back.
@@ -158,6 +166,19 @@ fn all_counted(rt: &impl Abort, counts: &[Counted]) {
     }
 }
 
+/// Whether the greatest word by 1, by 2 and as a literal is what it is to be.
+fn products<D: Digits<Count> + RawWord + Ordered>(
+    one: D,
+    two: D,
+    greatest: u64,
+    steps: &mut Steps<Count>,
+) -> bool {
+    let all = D::times(D::MAX, one, steps);
+    let past = D::times(D::MAX, two, steps);
+    let known = D::literal(greatest, steps);
+    all == Some(D::MAX) && past == None && known == Some(D::MAX)
+}
+
 /// Each of the eight calls raises the count by one.
 fn counted<D: Digits<Count> + RawWord + Ordered>(rt: &impl Abort, greatest: u64) {
     let mut steps = Steps::new(Count::new());
@@ -174,12 +195,9 @@ fn counted<D: Digits<Count> + RawWord + Ordered>(rt: &impl Abort, greatest: u64)
     let orders = steps.ledger().count();
     let zeros = Digits::leading_zeros(<D as RawWord>::ZERO, &mut steps);
     let zeros_counted = steps.ledger().count();
-    let all = D::times(D::MAX, one, &mut steps);
-    let past = D::times(D::MAX, two, &mut steps);
-    let known = D::literal(greatest, &mut steps);
+    let known = products(one, two, greatest, &mut steps);
     assert!(rt; seen(two) == (false, 2) && seen(eight) == (false, 8) && again == one);
-    assert!(rt; ordered && zeros == D::BITS);
-    assert!(rt; all == Some(D::MAX) && past == None && known == Some(D::MAX));
+    assert!(rt; ordered && zeros == D::BITS && known);
     let counts = [
         ("two sums", sums, 2),
         ("a difference", difference, 3),

@@ -8,6 +8,7 @@ use fixed_elementary::{exp2_of, hypot_of, log2_of, recip_sqrt_of};
 use fixed_math::{CheckedMath, OverflowingMath, SaturatingMath, WrappingMath};
 use fixed_num::{FixedI8, FixedI32};
 use fixed_word::Side;
+use std::process::Abort;
 
 fn length(a: i8, b: i8) -> Found {
     let outcome = hypot_of(a, b);
@@ -19,18 +20,26 @@ fn long_length(a: u64, b: u64) -> Found {
     Some((outcome.wrapped as i128, outcome.side))
 }
 
+/// Asserts the lengths of pairs.
+fn check_lengths(rt: &impl Abort, rows: &[(i8, i8, i128, Side)]) {
+    for &(a, b, wrapped, side) in rows {
+        let operands = [a as i128, b as i128, 0];
+        check(rt, "length", operands, length(a, b), (wrapped, side));
+    }
+}
+
 #[test]
 fn lengths(rt: HostRuntime) {
-    for (a, b, wrapped, side) in [
-        (48_i8, -64, 80, Side::Fits),
-        (24, 36, 43, Side::Fits),
-        (-128, 0, -128, Side::Above),
-        (-128, -128, -75, Side::Above),
-        (0, 0, 0, Side::Fits),
-    ] {
-        let operands = [a as i128, b as i128, 0];
-        check(&rt, "length", operands, length(a, b), (wrapped, side));
-    }
+    check_lengths(
+        &rt,
+        &[
+            (48, -64, 80, Side::Fits),
+            (24, 36, 43, Side::Fits),
+            (-128, 0, -128, Side::Above),
+            (-128, -128, -75, Side::Above),
+            (0, 0, 0, Side::Fits),
+        ],
+    );
     // The root of 2^129 - 2^66 + 2, which has 65 bits.
     let past = long_length(u64::MAX, u64::MAX);
     let wanted = (7640891576956012807, Side::Above);
@@ -47,20 +56,28 @@ fn reciprocal_root(a: u64, frac: u32) -> Found {
     }
 }
 
-#[test]
-fn reciprocal_roots(rt: HostRuntime) {
-    for (a, frac, wrapped, side) in [
-        (64_u64, 4, 8, Side::Fits),
-        (2, 63, 0, Side::Above),
-        (1, 64, 0, Side::Above),
-        (u64::MAX, 64, 0, Side::Above),
-        (u64::MAX, 43, 6074000999, Side::Fits),
-        (3, 40, 665639541039271462, Side::Fits),
-    ] {
+/// Asserts the reciprocal roots of rows of bits and fraction.
+fn check_reciprocal_roots(rt: &impl Abort, rows: &[(u64, u32, i128, Side)]) {
+    for &(a, frac, wrapped, side) in rows {
         let operands = [a as i128, frac as i128, 0];
         let found = reciprocal_root(a, frac);
-        check(&rt, "reciprocal root", operands, found, (wrapped, side));
+        check(rt, "reciprocal root", operands, found, (wrapped, side));
     }
+}
+
+#[test]
+fn reciprocal_roots(rt: HostRuntime) {
+    check_reciprocal_roots(
+        &rt,
+        &[
+            (64, 4, 8, Side::Fits),
+            (2, 63, 0, Side::Above),
+            (1, 64, 0, Side::Above),
+            (u64::MAX, 64, 0, Side::Above),
+            (u64::MAX, 43, 6074000999, Side::Fits),
+            (3, 40, 665639541039271462, Side::Fits),
+        ],
+    );
 }
 
 /// The logarithm of bits above 0.
@@ -78,25 +95,33 @@ fn long_logarithm() -> Found {
     Some((outcome.wrapped as i128, outcome.side))
 }
 
-#[test]
-fn logarithms(rt: HostRuntime) {
-    for (a, frac, wrapped, side) in [
-        (10_i32, 0, 3, Side::Fits),
-        (655360, 16, 217705, Side::Fits),
-        (1, 16, -1048576, Side::Fits),
-        (1, 31, -2147483648, Side::Below),
-        // 10^-9 of a unit above a whole number of units
-        (1860085729, 32, -890252365, Side::Below),
-    ] {
+/// Asserts the logarithms of rows of bits and fraction.
+fn check_logarithms(rt: &impl Abort, rows: &[(i32, u32, i128, Side)]) {
+    for &(a, frac, wrapped, side) in rows {
         let operands = [a as i128, frac as i128, 0];
         check(
-            &rt,
+            rt,
             "logarithm",
             operands,
             logarithm(a, frac),
             (wrapped, side),
         );
     }
+}
+
+#[test]
+fn logarithms(rt: HostRuntime) {
+    check_logarithms(
+        &rt,
+        &[
+            (10, 0, 3, Side::Fits),
+            (655360, 16, 217705, Side::Fits),
+            (1, 16, -1048576, Side::Fits),
+            (1, 31, -2147483648, Side::Below),
+            // 10^-9 of a unit above a whole number of units
+            (1860085729, 32, -890252365, Side::Below),
+        ],
+    );
     let wanted = (5395326771760153551, Side::Below);
     check(&rt, "logarithm", [3, 63, 0], long_logarithm(), wanted);
 }
@@ -120,25 +145,28 @@ fn power_past_the_end() -> Side {
     exp2_of(64_u64, 0).side
 }
 
+/// Asserts the powers of 2 of rows of bits and fraction.
+fn check_powers(rt: &impl Abort, rows: &[(i32, u32, i128)]) {
+    for &(a, frac, wrapped) in rows {
+        let operands = [a as i128, frac as i128, 0];
+        check_fit(rt, "power", operands, power(a, frac), wrapped);
+    }
+}
+
 #[test]
 fn powers(rt: HostRuntime) {
-    for (a, frac, wrapped) in [
-        (16_i32, 4, 32),
-        (8, 4, 22),
-        (-80, 4, 0),
-        (655360, 16, 67108864),
-        (32768, 16, 92681),
-        (-1048576, 16, 1),
-        (-1048577, 16, 0),
-    ] {
-        check_fit(
-            &rt,
-            "power",
-            [a as i128, frac as i128, 0],
-            power(a, frac),
-            wrapped,
-        );
-    }
+    check_powers(
+        &rt,
+        &[
+            (16, 4, 32),
+            (8, 4, 22),
+            (-80, 4, 0),
+            (655360, 16, 67108864),
+            (32768, 16, 92681),
+            (-1048576, 16, 1),
+            (-1048577, 16, 0),
+        ],
+    );
     check_fit(
         &rt,
         "the power of a half",
@@ -174,13 +202,27 @@ fn typed_calls(rt: HostRuntime) {
     assert!(rt; left_by_calls(96) == (true, (-121, true), [127, -121, 127]));
 }
 
+/// The calls of 32 bits at ten, and the reciprocal root of 0.
+fn calls_of_32_bits() -> [Option<i32>; 5] {
+    let ten = FixedI32::<16> { bits: 655360 };
+    let none = FixedI32::<16> { bits: 0 };
+    [
+        Some(log2_with_16(ten).bits),
+        bits_of(ten.checked_log2()),
+        Some(ten.wrapping_recip_sqrt().bits),
+        bits_of(ten.checked_exp2()),
+        bits_of(none.checked_recip_sqrt()),
+    ]
+}
+
 #[test]
 fn typed_calls_of_32_bits(rt: HostRuntime) {
-    let ten = FixedI32::<16> { bits: 655360 };
-    assert!(rt; log2_with_16(ten).bits == 217705);
-    assert!(rt; bits_of(ten.checked_log2()) == Some(217705));
-    assert!(rt; ten.wrapping_recip_sqrt().bits == 20724);
-    let none = FixedI32::<16> { bits: 0 };
-    assert!(rt; bits_of(ten.checked_exp2()) == Some(67108864));
-    assert!(rt; bits_of(none.checked_recip_sqrt()) == None);
+    let wanted = [
+        Some(217705),
+        Some(217705),
+        Some(20724),
+        Some(67108864),
+        None,
+    ];
+    assert!(rt; calls_of_32_bits() == wanted);
 }

@@ -25,6 +25,21 @@ pub fn check_fit(rt: &impl Abort, call: &str, operands: [i128; 3], found: Found,
     check(rt, call, operands, found, (wanted, Side::Fits));
 }
 
+/// Asserts what is left by each of these calls.
+pub fn check_all(rt: &impl Abort, rows: &[(&'static str, Found, (i128, Side))]) {
+    for &(call, found, wanted) in rows {
+        check(rt, call, [0; 3], found, wanted);
+    }
+}
+
+/// What the calls of each policy leave of three operations: checked, overflowing, saturating, wrapping.
+pub type Left = ([Option<i8>; 3], [(i8, bool); 3], [i8; 3], [i8; 3]);
+
+/// Asserts that the calls of each policy leave this.
+pub fn check_left(rt: &impl Abort, left: Left, wanted: Left) {
+    assert!(rt; left == wanted, "{left:?}, not {wanted:?}");
+}
+
 /// The bits of a number, where there is one.
 pub fn bits_of(number: Option<FixedI32<16>>) -> Option<i32> {
     match number {

@@ -10,6 +10,7 @@ use fixed_natural::{
 };
 use fixed_num::{FixedI8, FixedI32};
 use fixed_word::Side;
+use std::process::Abort;
 
 /// The natural logarithm of bits above 0.
 fn logarithm(a: i32, frac: u32) -> Found {
@@ -31,19 +32,27 @@ fn logarithm_of_the_least() -> Found {
     Some((outcome.wrapped as i128, outcome.side))
 }
 
+/// Asserts the natural logarithms of rows of bits and fraction.
+fn check_logarithms(rt: &impl Abort, rows: &[(i32, u32, i128, Side)]) {
+    for &(a, frac, wrapped, side) in rows {
+        let operands = [a as i128, frac as i128, 0];
+        check(rt, "ln", operands, logarithm(a, frac), (wrapped, side));
+    }
+}
+
 #[test]
 fn natural_logarithms(rt: HostRuntime) {
-    for (a, frac, wrapped, side) in [
-        (10_i32, 0, 2, Side::Fits),
-        (65536, 16, 0, Side::Fits),
-        (178145, 16, 65535, Side::Fits),
-        (1, 16, -726818, Side::Fits),
-        (i32::MAX, 16, 681391, Side::Fits),
-        (5, 31, 261725246, Side::Below),
-    ] {
-        let operands = [a as i128, frac as i128, 0];
-        check(&rt, "ln", operands, logarithm(a, frac), (wrapped, side));
-    }
+    check_logarithms(
+        &rt,
+        &[
+            (10, 0, 2, Side::Fits),
+            (65536, 16, 0, Side::Fits),
+            (178145, 16, 65535, Side::Fits),
+            (1, 16, -726818, Side::Fits),
+            (i32::MAX, 16, 681391, Side::Fits),
+            (5, 31, 261725246, Side::Below),
+        ],
+    );
     check_fit(
         &rt,
         "ln of the greatest",
@@ -79,17 +88,25 @@ fn logarithm_of_a_thousand() -> Found {
     found_of(log10_of(4294967296000_i64, 32))
 }
 
+/// Asserts the decimal logarithms of rows of bits and fraction.
+fn check_decimal_logarithms(rt: &impl Abort, rows: &[(i32, u32, i128)]) {
+    for &(a, frac, wrapped) in rows {
+        let operands = [a as i128, frac as i128, 0];
+        check_fit(rt, "log10", operands, decimal_logarithm(a, frac), wrapped);
+    }
+}
+
 #[test]
 fn decimal_logarithms(rt: HostRuntime) {
-    for (a, frac, wrapped) in [
-        (655360_i32, 16, 65536),
-        (65536, 16, 0),
-        (1, 16, -315653),
-        (i32::MAX, 0, 9),
-    ] {
-        let operands = [a as i128, frac as i128, 0];
-        check_fit(&rt, "log10", operands, decimal_logarithm(a, frac), wrapped);
-    }
+    check_decimal_logarithms(
+        &rt,
+        &[
+            (655360, 16, 65536),
+            (65536, 16, 0),
+            (1, 16, -315653),
+            (i32::MAX, 0, 9),
+        ],
+    );
     check_fit(
         &rt,
         "log10 of 10^19",
@@ -125,21 +142,29 @@ fn sides_past_the_end() -> [Side; 2] {
     [exp_of(u64::MAX, 0).side, exp_of(0_u64, 64).side]
 }
 
+/// Asserts the powers of e of rows of bits and fraction.
+fn check_powers_of_e(rt: &impl Abort, rows: &[(i32, u32, i128)]) {
+    for &(a, frac, wrapped) in rows {
+        let operands = [a as i128, frac as i128, 0];
+        check_fit(rt, "exp", operands, power_of_e(a, frac), wrapped);
+    }
+}
+
 #[test]
 fn powers_of_e(rt: HostRuntime) {
-    for (a, frac, wrapped) in [
-        (0_i32, 16, 65536),
-        (65536, 16, 178145),
-        (-65536, 16, 24109),
-        (681391, 16, 2147470397),
-        (-726816, 16, 1),
-        (-726818, 16, 0),
-        (i32::MIN, 16, 0),
-        (21, 0, 1318815734),
-    ] {
-        let operands = [a as i128, frac as i128, 0];
-        check_fit(&rt, "exp", operands, power_of_e(a, frac), wrapped);
-    }
+    check_powers_of_e(
+        &rt,
+        &[
+            (0, 16, 65536),
+            (65536, 16, 178145),
+            (-65536, 16, 24109),
+            (681391, 16, 2147470397),
+            (-726816, 16, 1),
+            (-726818, 16, 0),
+            (i32::MIN, 16, 0),
+            (21, 0, 1318815734),
+        ],
+    );
     check_fit(
         &rt,
         "exp",
@@ -165,22 +190,30 @@ fn long_power() -> Found {
     found_of(pow_of(12884901888_i64, -2147483648, 32))
 }
 
+/// Asserts the powers of rows of base and exponent, each with 16 fraction bits.
+fn check_powers(rt: &impl Abort, rows: &[(i32, i32, i128, Side)]) {
+    for &(a, b, wrapped, side) in rows {
+        let operands = [a as i128, b as i128, 16];
+        check(rt, "pow", operands, power(a, b), (wrapped, side));
+    }
+}
+
 #[test]
 fn powers_of_numbers(rt: HostRuntime) {
-    for (a, b, wrapped, side) in [
-        (196608_i32, 131072, 589824, Side::Fits),
-        (98304, 655360, 3779136, Side::Fits),
-        (131072, 32768, 92681, Side::Fits),
-        (655360, -65536, 6553, Side::Fits),
-        (655360, 19660, 130757, Side::Fits),
-        (65537, i32::MAX, 108050, Side::Fits),
-        (178145, i32::MIN, 0, Side::Fits),
-        (655360, 0, 65536, Side::Fits),
-        (32768, -1048576, 0, Side::Above),
-    ] {
-        let operands = [a as i128, b as i128, 16];
-        check(&rt, "pow", operands, power(a, b), (wrapped, side));
-    }
+    check_powers(
+        &rt,
+        &[
+            (196608, 131072, 589824, Side::Fits),
+            (98304, 655360, 3779136, Side::Fits),
+            (131072, 32768, 92681, Side::Fits),
+            (655360, -65536, 6553, Side::Fits),
+            (655360, 19660, 130757, Side::Fits),
+            (65537, i32::MAX, 108050, Side::Fits),
+            (178145, i32::MIN, 0, Side::Fits),
+            (655360, 0, 65536, Side::Fits),
+            (32768, -1048576, 0, Side::Above),
+        ],
+    );
     let operands = [12884901888, -2147483648, 32];
     check_fit(&rt, "pow", operands, long_power(), 2479700524);
 }
@@ -227,28 +260,45 @@ fn left_by_calls(bits: i8) -> ([Option<i8>; 3], (i8, bool), [i8; 3], i8)
 
 #[test]
 fn natural_calls(rt: HostRuntime) {
-    let (checked, overflowing, saturating, wrapped) = left_by_calls(1);
-    assert!(rt; checked == [Some(-45), Some(17), Some(13)]);
-    assert!(rt; overflowing == (-20, false) && saturating == [-45, 17, 13] && wrapped == -45);
-    let (checked, overflowing, saturating, wrapped) = left_by_calls(127);
-    assert!(rt; checked == [Some(33), None, None]);
-    assert!(rt; overflowing == (14, false) && saturating == [33, 127, 127] && wrapped == 33);
+    let least = (
+        [Some(-45), Some(17), Some(13)],
+        (-20, false),
+        [-45, 17, 13],
+        -45,
+    );
+    assert!(rt; left_by_calls(1) == least);
+    let greatest = ([Some(33), None, None], (14, false), [33, 127, 127], 33);
+    assert!(rt; left_by_calls(127) == greatest);
+}
+
+/// The logarithms, the power of e and the power of ten by itself in 32 bits.
+fn calls_at_ten() -> [Option<i32>; 4] {
+    let ten = FixedI32::<16> { bits: 655360 };
+    [
+        Some(ln_with_16(ten).bits),
+        bits_of(ten.checked_log10()),
+        bits_of(ten.checked_exp()),
+        bits_of(ten.checked_pow(ten)),
+    ]
 }
 
 #[test]
 fn natural_calls_of_32_bits(rt: HostRuntime) {
+    assert!(rt; calls_at_ten() == [Some(150902), Some(65536), Some(1443526462), None]);
+}
+
+/// The power of 0 by ten, and its logarithms.
+fn calls_at_zero() -> [Option<i32>; 3] {
     let ten = FixedI32::<16> { bits: 655360 };
-    assert!(rt; ln_with_16(ten).bits == 150902);
-    assert!(rt; bits_of(ten.checked_log10()) == Some(65536));
-    assert!(rt; bits_of(ten.checked_exp()) == Some(1443526462));
-    assert!(rt; bits_of(ten.checked_pow(ten)) == None);
+    let none = FixedI32::<16> { bits: 0 };
+    [
+        bits_of(none.checked_pow(ten)),
+        bits_of(none.checked_ln()),
+        bits_of(none.checked_log10()),
+    ]
 }
 
 #[test]
 fn natural_calls_of_zero(rt: HostRuntime) {
-    let ten = FixedI32::<16> { bits: 655360 };
-    let none = FixedI32::<16> { bits: 0 };
-    assert!(rt; bits_of(none.checked_pow(ten)) == None);
-    assert!(rt; bits_of(none.checked_ln()) == None);
-    assert!(rt; bits_of(none.checked_log10()) == None);
+    assert!(rt; calls_at_zero() == [None; 3]);
 }

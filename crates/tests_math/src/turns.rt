@@ -2,7 +2,9 @@
 
 ghost use Rattle.std.specs.Prelude.{◌≡◌, ◌≢◌, ◌≤◌, pos};
 
-use crate::found::{Found, check, check_fit, checked_bits, flagged_bits, short_bits};
+use crate::found::{
+    Found, Left, check_all, check_fit, check_left, checked_bits, flagged_bits, short_bits,
+};
 use crate::turns_fitting::{angle_of, sine_and_cosine};
 use fixed_num::{FixedI8, FixedI32};
 use fixed_turns::{
@@ -10,6 +12,7 @@ use fixed_turns::{
     sin_turns_of,
 };
 use fixed_word::Side;
+use std::process::Abort;
 
 fn sine(a: i32, frac: u32) -> Found {
     if frac <= 32 {
@@ -29,31 +32,39 @@ fn cosine(a: i32, frac: u32) -> Found {
     }
 }
 
+/// Asserts the sines and the cosines of rows of bits and fraction.
+fn check_sines(rt: &impl Abort, rows: &[(i32, u32, i128, i128)]) {
+    for &(a, frac, wanted_sine, wanted_cosine) in rows {
+        let operands = [a as i128, frac as i128, 0];
+        check_fit(rt, "sine", operands, sine(a, frac), wanted_sine);
+        check_fit(rt, "cosine", operands, cosine(a, frac), wanted_cosine);
+    }
+}
+
 #[test]
 fn sines_and_cosines(rt: HostRuntime) {
-    for (a, frac, wanted_sine, wanted_cosine) in [
-        (0_i32, 16, 0, 65536),
-        (16384, 16, 65536, 0),
-        (32768, 16, 0, -65536),
-        (49152, 16, -65536, 0),
-        (65536, 16, 0, 65536),
-        (1, 16, 6, 65536),
-        (8192, 16, 46341, 46341),
-        (5461, 16, 32766, 56757),
-        (12345, 16, 60684, 24748),
-        (-12345, 16, -60684, 24748),
-        (100000, 16, -10609, -64672),
-        (i32::MIN, 16, 0, 65536),
-        (i32::MAX, 16, -6, 65536),
-        (1000000, 30, 6283149, 1073723440),
-        (123456789, 28, 66900315, -259965270),
-        (3, 2, -4, 0),
-        (7, 0, 0, 1),
-    ] {
-        let operands = [a as i128, frac as i128, 0];
-        check_fit(&rt, "sine", operands, sine(a, frac), wanted_sine);
-        check_fit(&rt, "cosine", operands, cosine(a, frac), wanted_cosine);
-    }
+    check_sines(
+        &rt,
+        &[
+            (0, 16, 0, 65536),
+            (16384, 16, 65536, 0),
+            (32768, 16, 0, -65536),
+            (49152, 16, -65536, 0),
+            (65536, 16, 0, 65536),
+            (1, 16, 6, 65536),
+            (8192, 16, 46341, 46341),
+            (5461, 16, 32766, 56757),
+            (12345, 16, 60684, 24748),
+            (-12345, 16, -60684, 24748),
+            (100000, 16, -10609, -64672),
+            (i32::MIN, 16, 0, 65536),
+            (i32::MAX, 16, -6, 65536),
+            (1000000, 30, 6283149, 1073723440),
+            (123456789, 28, 66900315, -259965270),
+            (3, 2, -4, 0),
+            (7, 0, 0, 1),
+        ],
+    );
 }
 
 /// A sine and a cosine in 64 bits.
@@ -86,26 +97,25 @@ fn long_unsigned_sine() -> Found {
 #[test]
 fn sines_of_other_words(rt: HostRuntime) {
     let [sine, cosine] = long_sine_and_cosine();
-    check_fit(&rt, "sine in 64 bits", [0; 3], sine, 496238384467647991);
-    check_fit(
+    check_all(
         &rt,
-        "cosine in 64 bits",
-        [0; 3],
-        cosine,
-        -4611686018427387904,
+        &[
+            ("sine in 64 bits", sine, (496238384467647991, Side::Fits)),
+            (
+                "cosine in 64 bits",
+                cosine,
+                (-4611686018427387904, Side::Fits),
+            ),
+            ("sine of a quarter", short_sine(32), (-128, Side::Above)),
+            (
+                "sine of minus a quarter",
+                short_sine(-32),
+                (-128, Side::Fits),
+            ),
+            ("unsigned sine", unsigned_sine(), (240, Side::Below)),
+            ("long unsigned sine", long_unsigned_sine(), (0, Side::Above)),
+        ],
     );
-    for (call, found, wanted) in [
-        ("sine of a quarter", short_sine(32), (-128, Side::Above)),
-        (
-            "sine of minus a quarter",
-            short_sine(-32),
-            (-128, Side::Fits),
-        ),
-        ("unsigned sine", unsigned_sine(), (240, Side::Below)),
-        ("long unsigned sine", long_unsigned_sine(), (0, Side::Above)),
-    ] {
-        check(&rt, call, [0; 3], found, wanted);
-    }
 }
 
 /// The calls of each policy at one point: the sine and the cosine of y turns, and the angle of the point.
@@ -146,7 +156,7 @@ fn calls<const F: u32>(
 }
 
 /// What those calls leave of numbers of 8 bits, by their bits: checked, overflowing, saturating, wrapping.
-fn left_by_calls<const F: u32>(y: i8, x: i8) -> ([Option<i8>; 3], [(i8, bool); 3], [i8; 3], [i8; 3])
+fn left_by_calls<const F: u32>(y: i8, x: i8) -> Left
     requires fraction { F ≤ 8 }
     requires some { x ≢ pos 0 }
 {
@@ -164,21 +174,31 @@ fn left_by_calls<const F: u32>(y: i8, x: i8) -> ([Option<i8>; 3], [(i8, bool); 3
 
 #[test]
 fn turn_calls(rt: HostRuntime) {
-    let (checked, overflowing, saturating, wrapping) = left_by_calls::<4>(-5, 5);
-    assert!(rt; checked == [Some(-15), Some(-6), Some(-2)]);
-    assert!(rt; overflowing == [(-15, false), (-6, false), (-2, false)]);
-    assert!(rt; saturating == [-15, -6, -2]);
-    assert!(rt; wrapping == [-15, -6, -2]);
+    check_left(
+        &rt,
+        left_by_calls::<4>(-5, 5),
+        (
+            [Some(-15), Some(-6), Some(-2)],
+            [(-15, false), (-6, false), (-2, false)],
+            [-15, -6, -2],
+            [-15, -6, -2],
+        ),
+    );
 }
 
 /// The sine of a quarter turn does not fit without integer bits.
 #[test]
 fn turn_calls_past_the_end(rt: HostRuntime) {
-    let (checked, overflowing, saturating, wrapping) = left_by_calls::<7>(32, -32);
-    assert!(rt; checked == [None, Some(0), Some(48)]);
-    assert!(rt; overflowing == [(-128, true), (0, false), (48, false)]);
-    assert!(rt; saturating == [127, 0, 48]);
-    assert!(rt; wrapping == [-128, 0, 48]);
+    check_left(
+        &rt,
+        left_by_calls::<7>(32, -32),
+        (
+            [None, Some(0), Some(48)],
+            [(-128, true), (0, false), (48, false)],
+            [127, 0, 48],
+            [-128, 0, 48],
+        ),
+    );
 }
 
 #[test]
@@ -205,31 +225,44 @@ fn angle_above() -> Found {
     Some((outcome.wrapped as i128, outcome.side))
 }
 
+/// Asserts the angles of rows of a point and its fraction.
+fn check_angles(rt: &impl Abort, rows: &[(i32, i32, u32, i128)]) {
+    for &(y, x, frac, wanted) in rows {
+        let operands = [y as i128, x as i128, frac as i128];
+        check_fit(rt, "angle", operands, angle(y, x, frac), wanted);
+    }
+}
+
 #[test]
 fn angles(rt: HostRuntime) {
-    for (y, x, frac, wanted) in [
-        (0_i32, 1, 16, 0),
-        (5, 5, 16, 8192),
-        (0, -1, 16, 32768),
-        (-9, -9, 16, -24576),
-        (3, -4, 16, 26056),
-        (-3, -4, 16, -26056),
-        (-1, 2, 31, -158466703),
-        (1, -1, 1, 1),
-    ] {
-        let operands = [y as i128, x as i128, frac as i128];
-        check_fit(&rt, "angle", operands, angle(y, x, frac), wanted);
-    }
+    check_angles(
+        &rt,
+        &[
+            (0, 1, 16, 0),
+            (5, 5, 16, 8192),
+            (0, -1, 16, 32768),
+            (-9, -9, 16, -24576),
+            (3, -4, 16, 26056),
+            (-3, -4, 16, -26056),
+            (-1, 2, 31, -158466703),
+            (1, -1, 1, 1),
+        ],
+    );
     check_fit(&rt, "angle", [7, 0, 16], angle_above(), 16384);
 }
 
 #[test]
 fn turn_calls_at_angles(rt: HostRuntime) {
-    let (checked, overflowing, saturating, wrapping) = left_by_calls::<4>(48, -64);
-    assert!(rt; checked == [Some(0), Some(16), Some(6)]);
-    assert!(rt; overflowing == [(0, false), (16, false), (6, false)]);
-    assert!(rt; saturating == [0, 16, 6]);
-    assert!(rt; wrapping == [0, 16, 6]);
+    check_left(
+        &rt,
+        left_by_calls::<4>(48, -64),
+        (
+            [Some(0), Some(16), Some(6)],
+            [(0, false), (16, false), (6, false)],
+            [0, 16, 6],
+            [0, 16, 6],
+        ),
+    );
     let none = FixedI8::<4> { bits: 0 };
     assert!(rt; none.checked_atan2_turns(none).is_none());
 }
