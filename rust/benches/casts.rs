@@ -229,6 +229,12 @@ fn floats() {
         |x| FixedI32::<16>::saturating_from_num(x).to_bits(),
     );
     row(
+        "saturating f64 to i64<32>",
+        float,
+        |x| (x * 4294967296.0).round_ties_even() as i64,
+        |x| FixedI64::<32>::saturating_from_num(x).to_bits(),
+    );
+    row(
         "saturating far f64 to i64<32>",
         far_float,
         |x| (x * 4294967296.0).round_ties_even() as i64,
