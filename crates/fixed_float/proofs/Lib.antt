@@ -13,7 +13,6 @@ pub mod Sums
 pub mod Centre
 pub mod Quick
 pub mod Halves
-pub mod Wide
 pub mod Limits
 pub mod TwoSums
 pub mod WideLimits

@@ -1,5 +1,5 @@
--- A float limited to the least number of a word of 64 bits and the one beyond its greatest.
-use Rattle.std.proofs.Common.{◌≡◌, ◌+◌, ◌-◌, ◌*◌, ◌^◌, ◌<◌, ◌≤◌, ◌<ℤ◌, ◌≤ℤ◌, ◌+ℤ◌, ℕ, ℤ, suc, Bool, true, false, ◌&&◌, pos, unsigned_abs, refl, ap, sym, ◌∙◌, subst, subst₂, arith, inl, inr, T, true≢false}
+-- A float between the least number of a word of 64 bits and the one beyond its greatest, and one that is not.
+use Rattle.std.proofs.Common.{◌≡◌, ◌+◌, ◌-◌, ◌*◌, ◌^◌, ◌<◌, ◌≤◌, ◌<ℤ◌, ◌≤ℤ◌, ◌+ℤ◌, ℕ, ℤ, suc, Bool, true, false, ◌&&◌, pos, unsigned_abs, refl, ap, sym, not, ◌∙◌, subst, arith, inl, inr, T, true≢false}
 use native.Mathlib.Nat.{add-mul, lt_of_lt_of_le, lt_of_mul-lt-mul_right, mul_assoc, mul-le-mul_right, mul-lt-mul_of_pos_right}
 use Rattle.std.proofs.lemmas.Bool.{cases_lt}
 use Rattle.std.proofs.lemmas.Int.{ints}
@@ -7,13 +7,12 @@ use lib.Pow.{pow-add, pow_mono, pow_pos, shl_lt}
 use Rattle.std.specs.Bool.{passes}
 use Rattle.std.specs.Prelude.{Some, int_lt, if◌then◌else◌}
 use Rattle.std.specs.Float.{Float, NotNan, binary64, nan, inf, fin, float_is_finite}
-use Rattle.std.proofs.lemmas.Float.{le_right}
+use Rattle.std.proofs.lemmas.Float.{le_of_not-lt, le_right}
 use lib.Ieee.{fits, is_nan, le, lt}
 use lib.Ieee.Exact.{HasValue}
 use lib.Ieee.Nearest.{closest}
 use Rattle.fixed_word.specs.Format.{InRange, IsWidth, highest, lowest, with_sign, wrap}
 use Rattle.fixed_word.specs.declared.rounding.Rounding.TheVariants.{Even}
-use Rattle.fixed_word.proofs.Sides.{lt_no}
 use Rattle.fixed_word.proofs.Standings.{clamp_same}
 use Rattle.fixed_word.proofs.Wraps.{narrower, wrap_alike, wrap_same}
 use Rattle.fixed_convert.proofs.Factors.{rounded_magnitude}
@@ -21,11 +20,12 @@ use Rattle.fixed_float.specs.Rows.{saturated_float, units_of_float}
 use Rattle.fixed_float.specs.inside.Parts.{AreParts}
 use Rattle.fixed_float.specs.inside.Small.{HasBits, IsMedium}
 use Rattle.fixed_float.specs.declared.parts.Parts.{Parts}
+use Rattle.fixed_float.proofs.Centre.{is_number}
 use Rattle.fixed_float.proofs.Ends.{held_row}
-use Rattle.fixed_float.proofs.Limits.{at_least, before_high, clamp_high, clamp_low, end_value, k, least_from, less_from, lt_is, not_below, q, risen, row, saturated_in, scaled_above, scaled_below, at_most, size_within}
+use Rattle.fixed_float.proofs.Limits.{at_least, before_high, clamp_high, clamp_low, end_value, k, least_from, less_from, lt_is, not_below, q, risen, row, scaled_above, scaled_below, at_most, size_within}
 use Rattle.fixed_float.proofs.Quick.{both_true}
 use Rattle.fixed_float.proofs.Roundings.{closest_stepped}
-use Rattle.fixed_float.proofs.Rows.{parts_exist, row_of_whole}
+use Rattle.fixed_float.proofs.Rows.{parts_exist}
 use Rattle.fixed_float.proofs.TwoSums.{near_is}
 
 -- ---- a float of at least 2 ^ 53 units is a whole number of them
@@ -50,23 +50,6 @@ closest_below d j M D deep l =
 
 module _ (s : Bool) (n : ℕ) (x : Float) (fit : T (fits binary64 x)) (g : ℕ) (G : g ≤ 64) (lo hi : Float) (b : Bool) (m M : ℕ) (L : HasValue lo b m (2 ^ g)) (H : HasValue hi false M (2 ^ g))
     (l : with_sign b m ≡ lowest s n) (h : pos M ≡ highest s n +ℤ pos 1) (deep : 2 ^ 53 < M) (few : m ≤ 2 ^ 64) (some : M ≤ 2 ^ 64) where
-  -- y is medium, and its units are those of x, limited, unless x is beyond
-  abbrev pub IsWithin : Float → Type 0
-  IsWithin y =
-      IsMedium y g × (lt x hi ≡ true → (w : ℤ) → units_of_float y g Even ≡ Some w → saturated_float s n x g Even ≡ Some w)
-      × (lt x hi ≡ false → saturated_float s n x g Even ≡ Some (highest s n))
-
-  end_medium : (y : Float) (t : Bool) (c : ℕ) → HasValue y t c (2 ^ g) → c ≤ 2 ^ 64 → IsMedium y g
-  end_medium y t c v r = record {
-    sign = t;
-    size = c * 2 ^ k g G;
-    value = end_value g G y t c v;
-    medium = subst (λ (z : ℕ). z ≤ 2 ^ 64 * 2 ^ 1074) (sym (risen g G c)) (mul-le-mul_right (2 ^ 1074) r);
-  }
-
-  low_row : saturated_float s n x g Even ≡ Some (lowest s n) → (w : ℤ) → units_of_float lo g Even ≡ Some w → saturated_float s n x g Even ≡ Some w
-  low_row e w r = e ∙ ap Some (sym l) ∙ sym (row_of_whole lo b m g Even L) ∙ r
-
   module _ (p : Parts) (are : AreParts x p) where
     abbrev t : Bool
     t = p.below_zero
@@ -83,11 +66,8 @@ module _ (s : Bool) (n : ℕ) (x : Float) (fit : T (fits binary64 x)) (g : ℕ) 
     first : lt x lo ≡ int_lt (with_sign t a) (with_sign b (m * 2 ^ k g G))
     first = lt_is x lo t b a (m * 2 ^ k g G) (2 ^ 1074) (pow_pos 1074) are.value (end_value g G lo b m L)
 
-    second : lt hi x ≡ int_lt (pos (M * 2 ^ k g G)) (with_sign t a)
-    second = lt_is hi x false t (M * 2 ^ k g G) a (2 ^ 1074) (pow_pos 1074) (end_value g G hi false M H) are.value
-
-    third : lt x hi ≡ int_lt (with_sign t a) (pos (M * 2 ^ k g G))
-    third = lt_is x hi t false a (M * 2 ^ k g G) (2 ^ 1074) (pow_pos 1074) are.value (end_value g G hi false M H)
+    second : lt x hi ≡ int_lt (with_sign t a) (pos (M * 2 ^ k g G))
+    second = lt_is x hi t false a (M * 2 ^ k g G) (2 ^ 1074) (pow_pos 1074) are.value (end_value g G hi false M H)
 
     magnitude : qx ≡ with_sign t (closest (a * 2 ^ g) (2 ^ 1074))
     magnitude = rounded_magnitude Even t (a * 2 ^ g) (2 ^ 1074) (pow_pos 1074) ∙ ap (with_sign t) (sym (closest_stepped (a * 2 ^ g) (2 ^ 1074) t))
@@ -121,73 +101,30 @@ module _ (s : Bool) (n : ℕ) (x : Float) (fit : T (fits binary64 x)) (g : ℕ) 
       medium = size_within t b (a * 2 ^ g) (m * 2 ^ 1074) (M * 2 ^ 1074) (2 ^ 64 * 2 ^ 1074) (scaled_above g G x t a are.value b m lower) (scaled_below g G x t a are.value false M upper) (mul-le-mul_right (2 ^ 1074) few) (mul-le-mul_right (2 ^ 1074) some);
     }
 
+    below_row : lt x lo ≡ true → saturated_float s n x g Even ≡ Some (lowest s n)
+    below_row e =
+        let r = at_most g G x t a are.value b m (omega (arith, ints, less_from (with_sign t a) (with_sign b (m * 2 ^ k g G)) (sym first ∙ e))) in
+        held_row s n x g Even qx row_is ∙ ap Some (clamp_low s n qx (subst (λ (z : ℤ). qx ≤ℤ z) l r))
+
     beyond_row : lt x hi ≡ false → saturated_float s n x g Even ≡ Some (highest s n)
     beyond_row e =
-        let r = at_least g G x t a are.value false M (least_from (with_sign t a) (pos (M * 2 ^ k g G)) (sym third ∙ e)) in
+        let r = at_least g G x t a are.value false M (least_from (with_sign t a) (pos (M * 2 ^ k g G)) (sym second ∙ e)) in
         held_row s n x g Even qx row_is ∙ ap Some (clamp_high s n qx (omega (arith, ints, r, h)))
-
-    by_tests : (c d : Bool) → int_lt (with_sign t a) (with_sign b (m * 2 ^ k g G)) ≡ c → int_lt (pos (M * 2 ^ k g G)) (with_sign t a) ≡ d → IsWithin (if c then lo else (if d then hi else x))
-    by_tests true d e f =
-        let r = at_most g G x t a are.value b m (omega (arith, ints, less_from (with_sign t a) (with_sign b (m * 2 ^ k g G)) e)) in (
-          end_medium lo b m L few,
-          λ u. low_row (held_row s n x g Even qx row_is ∙ ap Some (clamp_low s n qx (subst (λ (z : ℤ). qx ≤ℤ z) l r))),
-          beyond_row,
-        )
-    by_tests false true e f = (
-      end_medium hi false M H some,
-      λ u w r.
-          let i = less_from (with_sign t a) (pos (M * 2 ^ k g G)) (sym third ∙ u) in
-          let j = less_from (pos (M * 2 ^ k g G)) (with_sign t a) f in
-          absurd (omega (arith, ints, i, j)),
-      beyond_row,
-    )
-    by_tests false false e f =
-        let lower = least_from (with_sign t a) (with_sign b (m * 2 ^ k g G)) e in (
-          is_medium lower (least_from (pos (M * 2 ^ k g G)) (with_sign t a) f),
-          λ u w z.
-              let r = in_range lower (less_from (with_sign t a) (pos (M * 2 ^ k g G)) (sym third ∙ u)) in
-              held_row s n x g Even qx row_is ∙ ap Some (clamp_same s n qx r) ∙ sym row_is ∙ z,
-          beyond_row,
-        )
-
-    pub finite_within : IsWithin (if lt x lo then lo else (if lt hi x then hi else x))
-    finite_within = subst₂ (λ (c d : Bool). IsWithin (if c then lo else (if d then hi else x))) (sym first) (sym second) (by_tests _ _ refl refl)
 
     pub finite_between : lt x lo ≡ false → lt x hi ≡ true → IsMedium x g × ((w : ℤ) → units_of_float x g Even ≡ Some w → InRange s n w)
     finite_between e f =
         let lower = least_from (with_sign t a) (with_sign b (m * 2 ^ k g G)) (sym first ∙ e) in
-        let upper = less_from (with_sign t a) (pos (M * 2 ^ k g G)) (sym third ∙ f) in
+        let upper = less_from (with_sign t a) (pos (M * 2 ^ k g G)) (sym second ∙ f) in
         (is_medium lower (omega (arith, ints, upper)), λ w z. let same : qx ≡ w = some_same qx w (sym row_is ∙ z) in subst (InRange s n) same (in_range lower upper))
       where
         some_same : (u w : ℤ) → Some u ≡ Some w → u ≡ w
         some_same u w e = cc
 
--- ---- the same for an infinity
-pub within : (s : Bool) (n : ℕ) (x : Float) → NotNan x → (fit : T (fits binary64 x)) (g : ℕ) (G : g ≤ 64) (lo hi : Float) (b : Bool) (m M : ℕ) (L : HasValue lo b m (2 ^ g)) (H : HasValue hi false M (2 ^ g))
-    (l : with_sign b m ≡ lowest s n) (h : pos M ≡ highest s n +ℤ pos 1) (deep : 2 ^ 53 < M) (few : m ≤ 2 ^ 64) (some : M ≤ 2 ^ 64) → IsWithin s n x fit g G lo hi b m M L H l h deep few some (if lt x lo then lo else (if lt hi x then hi else x))
-unfolding is_nan float_is_finite
-within s n nan num fit g G lo hi b m M L H l h deep few some = absurd num
-within s n (inf true) num fit g G lo hi b m M L H l h deep few some =
-    let e = (before_high lo b m (2 ^ g) L).0 in
-    let f = (before_high hi false M (2 ^ g) H).0 in
-    subst (λ (c : Bool). IsWithin s n (inf true) fit g G lo hi b m M L H l h deep few some (if c then lo else (if lt hi (inf true) then hi else inf true))) (sym e) (
-      end_medium s n (inf true) fit g G lo hi b m M L H l h deep few some lo b m L few,
-      λ u. low_row s n (inf true) fit g G lo hi b m M L H l h deep few some refl,
-      λ u. absurd (true≢false (sym f ∙ u)),
-    )
-within s n (inf false) num fit g G lo hi b m M L H l h deep few some =
-    let e = (before_high lo b m (2 ^ g) L).1 in
-    let f = (before_high hi false M (2 ^ g) H).2 in
-    let i = (before_high hi false M (2 ^ g) H).1 in
-    subst₂ (λ (c d : Bool). IsWithin s n (inf false) fit g G lo hi b m M L H l h deep few some (if c then lo else (if d then hi else inf false))) (sym e) (sym f) (
-      end_medium s n (inf false) fit g G lo hi b m M L H l h deep few some hi false M H some,
-      λ u w r. absurd (true≢false (sym u ∙ i)),
-      λ u. refl,
-    )
-within s n (fin c d e) num fit g G lo hi b m M L H l h deep few some =
-    let p = parts_exist (fin c d e) fit refl in
-    finite_within s n (fin c d e) fit g G lo hi b m M L H l h deep few some p.0 p.1
+    pub finite_beside : (c : Bool) → lt x lo ≡ c → (c ≡ false → lt x hi ≡ false) → saturated_float s n x g Even ≡ Some (if c then lowest s n else highest s n)
+    finite_beside true e f = below_row e
+    finite_beside false e f = beyond_row (f refl)
 
+-- ---- the same for an infinity
 pub between : (s : Bool) (n : ℕ) (x : Float) (fit : T (fits binary64 x)) (g : ℕ) (G : g ≤ 64) (lo hi : Float) (b : Bool) (m M : ℕ) (L : HasValue lo b m (2 ^ g)) (H : HasValue hi false M (2 ^ g))
     (l : with_sign b m ≡ lowest s n) (h : pos M ≡ highest s n +ℤ pos 1) (deep : 2 ^ 53 < M) (few : m ≤ 2 ^ 64) (some : M ≤ 2 ^ 64)
     → (le lo x && lt x hi) ≡ true → IsMedium x g × ((w : ℤ) → units_of_float x g Even ≡ Some w → InRange s n w)
@@ -202,6 +139,26 @@ between s n (fin c d e) fit g G lo hi b m M L H l h deep few some r =
     let p = parts_exist (fin c d e) fit refl in
     let both = both_true (le lo (fin c d e)) (lt (fin c d e) hi) r in
     finite_between s n (fin c d e) fit g G lo hi b m M L H l h deep few some p.0 p.1 (not_below lo (fin c d e) (passes _ both.0)) both.1
+
+beyond_unless : (x lo hi : Float) → NotNan x → NotNan lo → (le lo x && lt x hi) ≡ false → lt x lo ≡ false → lt x hi ≡ false
+beyond_unless x lo hi num lonum r e = go (le lo x) refl r
+  where
+    go : (c : Bool) → le lo x ≡ c → (c && lt x hi) ≡ false → lt x hi ≡ false
+    go true f r = r
+    go false f r = absurd (subst T f (le_of_not-lt x lo num lonum (subst (λ (z : Bool). T (not z)) (sym e) tt)))
+
+pub beside : (s : Bool) (n : ℕ) (x : Float) → NotNan x → (fit : T (fits binary64 x)) (g : ℕ) (G : g ≤ 64) (lo hi : Float) (b : Bool) (m M : ℕ) (L : HasValue lo b m (2 ^ g)) (H : HasValue hi false M (2 ^ g))
+    (l : with_sign b m ≡ lowest s n) (h : pos M ≡ highest s n +ℤ pos 1) (deep : 2 ^ 53 < M) (few : m ≤ 2 ^ 64) (some : M ≤ 2 ^ 64)
+    → (le lo x && lt x hi) ≡ false → saturated_float s n x g Even ≡ Some (if lt x lo then lowest s n else highest s n)
+unfolding is_nan float_is_finite
+beside s n nan num fit g G lo hi b m M L H l h deep few some r = absurd num
+beside s n (inf true) num fit g G lo hi b m M L H l h deep few some r =
+    ap (λ (c : Bool). Some (if c then lowest s n else highest s n)) (sym (before_high lo b m (2 ^ g) L).0)
+beside s n (inf false) num fit g G lo hi b m M L H l h deep few some r =
+    ap (λ (c : Bool). Some (if c then lowest s n else highest s n)) (sym (before_high lo b m (2 ^ g) L).1)
+beside s n (fin c d e) num fit g G lo hi b m M L H l h deep few some r =
+    let p = parts_exist (fin c d e) fit refl in
+    finite_beside s n (fin c d e) fit g G lo hi b m M L H l h deep few some p.0 p.1 (lt (fin c d e) lo) refl (beyond_unless (fin c d e) lo hi num (is_number lo b m (2 ^ g) L) r)
 
 -- ---- the ends of a word of 64 bits
 pub beyond_is : (s : Bool) (n : ℕ) → n ≡ 64 → pos (suc (unsigned_abs (highest s n))) ≡ highest s n +ℤ pos 1
@@ -226,31 +183,19 @@ beyond_deep false n e = rw e (omega arith, omega arith, omega arith)
 pub wide_is : (n : ℕ) → IsWidth n → 32 < n → n ≡ 64
 wide_is n w h = grind arith
 
-pub word_of_bits : (s : Bool) (n : ℕ) (x : Float) (g : ℕ) (y : Float) (bits : ℕ) → n ≡ 64 → (r : HasBits y g bits) → saturated_float s n x g Even ≡ Some r.whole → Some (wrap s n (pos bits)) ≡ saturated_float s n x g Even
-word_of_bits s n x g y bits e r z =
+pub word_of_bits : (s : Bool) (n : ℕ) (x : Float) (g : ℕ) (bits : ℕ) → n ≡ 64 → (r : HasBits x g bits) → InRange s n r.whole → Some (wrap s n (pos bits)) ≡ saturated_float s n x g Even
+word_of_bits s n x g bits e r i =
     let N : 0 < n = omega (arith, e) in
-    ap Some (wrap_alike s n (pos bits) r.whole N (narrower n 64 (pos bits) r.whole (omega (arith, e)) r.alike) ∙ wrap_same s n r.whole N (saturated_in s n x g r.whole z)) ∙ sym z
-
-pub ends_in_order : (s : Bool) (n : ℕ) (lo hi : Float) (g : ℕ) → HasValue lo s (unsigned_abs (lowest s n)) (2 ^ g) → HasValue hi false (suc (unsigned_abs (highest s n))) (2 ^ g) → lt hi lo ≡ false
-ends_in_order s n lo hi g L H =
-    let e = least_is s n in
-    let f : lowest s n ≤ℤ pos 0 = at s in
-    lt_is hi lo false s (suc (unsigned_abs (highest s n))) (unsigned_abs (lowest s n)) (2 ^ g) (pow_pos g) H L
-    ∙ lt_no (pos (suc (unsigned_abs (highest s n)))) (with_sign s (unsigned_abs (lowest s n))) (omega (arith, ints, e, f))
-  where
-    at : (s : Bool) → lowest s n ≤ℤ pos 0
-    at true = omega (arith, ints)
-    at false = omega (arith, ints)
+    ap Some (wrap_alike s n (pos bits) r.whole N (narrower n 64 (pos bits) r.whole (omega (arith, e)) r.alike) ∙ wrap_same s n r.whole N i ∙ sym (clamp_same s n r.whole i))
+    ∙ sym (held_row s n x g Even r.whole r.row)
 
 module _ (s : Bool) (n : ℕ) (long : n ≡ 64) (x : Float) (fit : T (fits binary64 x)) (g : ℕ) (G : g ≤ 64) (lo hi : Float) (L : HasValue lo s (unsigned_abs (lowest s n)) (2 ^ g)) (H : HasValue hi false (suc (unsigned_abs (highest s n))) (2 ^ g)) where
-  pub held_within : NotNan x → (y : Float) → y ≡ (if lt x lo then lo else (if lt hi x then hi else x))
-      → IsMedium y g × (lt x hi ≡ true → (w : ℤ) → units_of_float y g Even ≡ Some w → saturated_float s n x g Even ≡ Some w) × (lt x hi ≡ false → saturated_float s n x g Even ≡ Some (highest s n))
-  held_within num y Y =
-      let d = beyond_deep s n long in
-      subst (λ (z : Float). IsMedium z g × (lt x hi ≡ true → (w : ℤ) → units_of_float z g Even ≡ Some w → saturated_float s n x g Even ≡ Some w) × (lt x hi ≡ false → saturated_float s n x g Even ≡ Some (highest s n))) (sym Y)
-      (within s n x num fit g G lo hi s (unsigned_abs (lowest s n)) (suc (unsigned_abs (highest s n))) L H (least_is s n) (beyond_is s n long) d.0 d.2 d.1)
-
   pub held_between : (le lo x && lt x hi) ≡ true → IsMedium x g × ((w : ℤ) → units_of_float x g Even ≡ Some w → InRange s n w)
   held_between r =
       let d = beyond_deep s n long in
       between s n x fit g G lo hi s (unsigned_abs (lowest s n)) (suc (unsigned_abs (highest s n))) L H (least_is s n) (beyond_is s n long) d.0 d.2 d.1 r
+
+  pub held_beside : NotNan x → (le lo x && lt x hi) ≡ false → saturated_float s n x g Even ≡ Some (if lt x lo then lowest s n else highest s n)
+  held_beside num r =
+      let d = beyond_deep s n long in
+      beside s n x num fit g G lo hi s (unsigned_abs (lowest s n)) (suc (unsigned_abs (highest s n))) L H (least_is s n) (beyond_is s n long) d.0 d.2 d.1 r

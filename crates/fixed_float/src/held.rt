@@ -4,13 +4,12 @@ ghost use Rattle.std.specs.Prelude.{◌≡◌, ◌<◌, ◌≤◌, Bool, Some, f
 ghost use Rattle.std.specs.Float.{NotNan, inf};
 ghost use Rattle.std.specs.Float.Ieee.{lt};
 ghost use Rattle.fixed_word.specs.Format.{clamp, highest, lowest, with_sign};
-ghost use Rattle.fixed_word.specs.Policies.{saturating};
 ghost use Rattle.fixed_word.specs.declared.rounding.Rounding.TheVariants.{Even};
 ghost use Rattle.fixed_float.specs.Rows.{saturated_float};
 
 use crate::binary::Binary;
 use crate::incoming::magnitude_of_parts;
-use crate::near::{beyond_of, bits_of_sum, bits_of_sums, larger, least_of, whole_near};
+use crate::near::{beyond_of, bits_of_sum, bits_of_sums, larger, least_of};
 use crate::nearest::held_f64;
 use crate::parts::parts_of;
 use fixed_word::{RawWord, Rounding};
@@ -30,34 +29,9 @@ pub fn saturating_float_of<X: Binary, T: RawWord>(x: X, frac: u32, rounding: Rou
     }
 }
 
-/// Does the same for every `f64`, of every word. Precondition: it is not a NaN.
-#[inline]
-fn wide_held<T: RawWord>(x: f64, frac: u32, rounding: Rounding) -> T
-    requires { NotNan x }
-    ensures { Some (T.value result) ≡ saturated_float T.SIGNED T.BITS x frac rounding }
-{
-    match whole_near::<T>(x, frac, rounding) {
-        Some(whole) => whole_held(whole),
-        None => held_beside(x, frac, rounding),
-    }
-}
-
-/// Returns the word nearest to the whole number. In a signed word of 64 bits it fits, which rustc does not see.
-#[inline]
-fn whole_held<T: RawWord>(whole: i64) -> T
-    ensures { Some (T.value result) ≡ saturating T.SIGNED T.BITS (Some whole) }
-{
-    let magnitude = whole.unsigned_abs() as u128;
-    if T::SIGNED && T::BITS == 64 {
-        T::residue(whole < 0, magnitude)
-    } else {
-        magnitude_held(whole < 0, magnitude)
-    }
-}
-
 /// Does the same for every `f64`: of words of 64 bits by two sums. Precondition: it is not a NaN.
 #[inline]
-fn held_beside<T: RawWord>(x: f64, frac: u32, rounding: Rounding) -> T
+fn wide_held<T: RawWord>(x: f64, frac: u32, rounding: Rounding) -> T
     requires { NotNan x }
     ensures { Some (T.value result) ≡ saturated_float T.SIGNED T.BITS x frac rounding }
 {
@@ -100,8 +74,8 @@ fn smaller(x: f64, y: f64) -> f64
     if y < x { y } else { x }
 }
 
-/// Does the same for every `f64`, of words of 64 bits, by two sums. Loops do this without a branch. Preconditions: it is
-/// not a NaN, and `frac` is at most 64.
+/// Does the same for every `f64`, of words of 64 bits, by two sums. Preconditions: it is not a NaN, and `frac` is at
+/// most 64.
 #[inline]
 fn long_held<T: RawWord>(x: f64, frac: u32) -> T
     requires number { NotNan x }
@@ -110,9 +84,11 @@ fn long_held<T: RawWord>(x: f64, frac: u32) -> T
     ensures { Some (T.value result) ≡ saturated_float T.SIGNED T.BITS x frac Even }
 {
     let (least, beyond) = (least_of::<T>(frac), beyond_of::<T>(frac));
-    let bits = bits_of_sums(clamped(x, least, beyond), frac);
-    let held = T::residue(false, bits as u128);
-    T::MAX.unless(x < beyond, held)
+    if (least <= x) & (x < beyond) {
+        T::residue(false, bits_of_sums(x, frac) as u128)
+    } else {
+        end_on(x < least)
+    }
 }
 
 /// Does the same for every `f64`, by its bits. Precondition: it is not a NaN.
