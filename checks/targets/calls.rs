@@ -94,7 +94,7 @@ impl Draws {
 }
 
 /// A word of the drawn bits that fit it.
-trait Drawn: Castable + Debug {
+trait Drawn: Castable + Word + Debug {
     fn drawn(bits: u64) -> Self;
 }
 
@@ -250,6 +250,17 @@ fn conversions<T: Drawn, const F: u32, const G: u32>(seen: &mut Seen, drawn: &Op
     );
 }
 
+fn functions<T: Drawn, const F: u32, const G: u32>(seen: &mut Seen, drawn: &Operands<T, F, G>) {
+    let &Operands { a, b, .. } = drawn;
+    calls!(seen, a:
+        checked_hypot(b) checked_recip_sqrt() checked_log2() checked_exp2() checked_ln() checked_log10() checked_exp()
+        checked_pow(b) checked_sin_turns() checked_cos_turns() checked_atan2_turns(b) checked_sin() checked_cos()
+        checked_atan2(b) overflowing_hypot(b) overflowing_recip_sqrt() overflowing_log2() overflowing_ln()
+        overflowing_log10() overflowing_sin_cos_turns() overflowing_atan2_turns(b) overflowing_sin_cos()
+        overflowing_atan2(b) saturating_exp2() saturating_exp() saturating_pow(b)
+    );
+}
+
 fn format<T: Drawn, const F: u32, const G: u32>(seen: &mut Seen, rounds: u64) {
     let mut draws = Draws(u64::from(1000 * T::BITS + F));
     for _ in 0..rounds {
@@ -260,6 +271,7 @@ fn format<T: Drawn, const F: u32, const G: u32>(seen: &mut Seen, rounds: u64) {
         saturating(seen, &drawn);
         strict(seen, &drawn);
         conversions(seen, &drawn);
+        functions(seen, &drawn);
     }
 }
 
