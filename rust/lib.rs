@@ -43,7 +43,7 @@
 //!
 //! # What is trusted
 //!
-//! The proofs are those of the Rattle toolchain `rattle-kit-13b logic dac8208d650f15bf`, for its language. That rustc's
+//! The proofs are those of the Rattle toolchain `rattle-kit-13f logic dac8208d650f15bf`, for its language. That rustc's
 //! code does the same rests on:
 //!
 //! - rustc, and the build script, which leaves contracts out and writes assertions and messages of errors in.
