@@ -1,12 +1,15 @@
 """Measures each operation of the face for C beside the same operation by hand (bench/by_hand.c), both by gcc -O2; each
 call over a block, the dot product and a filter, beside its loop by hand (bench/blocks.c), by gcc -O3; and where
-libfixmath is installed (Debian's libfixmath-dev), six operations beside those of libfixmath (bench/fixmath.c).
+libfixmath is installed (Debian's libfixmath-dev), operations and functions beside those of libfixmath
+(bench/fixmath.c).
 
     python3 bench/face.py [LIBRARY] [ROUNDS]
 
 LIBRARY is the static library: crates/fixed_c/out/libfixed_c.a, which `rt lib` in crates/fixed_c makes, or
-target/release/libfixed_c.a of the Cargo package in rust/c. Nanoseconds a call, with the call and its loop, or a number of a
-block; both sides run in turn, have to answer alike, and the least counts. libfixmath may differ by one unit, since it rounds otherwise.
+target/release/libfixed_c.a of the Cargo package in rust/c. Nanoseconds a call, with the call and its loop, or a number
+of a block; both sides run in turn, have to answer alike, and the least counts. The last column beside libfixmath is by
+how many units results differ at most: of operations by one, since libfixmath rounds otherwise, of functions by any
+number.
 """
 import subprocess
 import sys
@@ -31,16 +34,16 @@ def least_times(program, rounds):
         if done.returncode != 0:
             sys.exit(done.stdout + done.stderr)
         for line in done.stdout.splitlines():
-            name, here, other = line.split()
+            name, here, other, *units = line.split()
             before = least.get(name, (float(here), float(other)))
-            least[name] = min(before[0], float(here)), min(before[1], float(other))
+            least[name] = min(before[0], float(here)), min(before[1], float(other)), *units
     return least
 
 
 def print_table(least, other_side):
     print(f"{'':<28} {'here':>8} {other_side:>10} {'ratio':>6}")
-    for name, (here, other) in least.items():
-        print(f"{name:<28} {here:8.3f} {other:10.3f} {here / other:6.2f}")
+    for name, (here, other, *units) in least.items():
+        print(f"{name:<28} {here:8.3f} {other:10.3f} {here / other:6.2f}" + "".join(f"{unit:>8}" for unit in units))
 
 
 def has_fixmath():
