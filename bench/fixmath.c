@@ -111,13 +111,13 @@ static int64_t distance(int32_t a, int32_t b) {
 }
 
 /* Runs both loops in turn, and prints the least of each in nanoseconds a call, and by how many units results differ at
- * most. Ends the program if they differ by more than so many. */
-static void row(const char *label, operands *operands, loop *here, loop *fixmath, int64_t allowed) {
+ * most. Ends the program if that is more than is allowed. */
+static void row(const char *label, operands *drawn, loop *here, loop *fixmath, int64_t allowed) {
   static int32_t a[COUNT], b[COUNT], results[COUNT], other_results[COUNT];
   double least = 1e18, least_of_other = 1e18;
   int64_t farthest = 0;
   for (int pass = 0; pass < PASSES; pass++) {
-    for (int i = 0; i < COUNT; i++) operands(&a[i], &b[i]);
+    for (int i = 0; i < COUNT; i++) drawn(&a[i], &b[i]);
     const double taken = here(a, b, results), taken_by_other = fixmath(a, b, other_results);
     if (taken < least) least = taken;
     if (taken_by_other < least_of_other) least_of_other = taken_by_other;
