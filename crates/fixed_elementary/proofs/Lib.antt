@@ -8,6 +8,7 @@ mod Groups
 mod Eights
 pub mod Raised
 mod ExpLaws
+mod Returned
 pub mod Rows
 pub mod Chains
 mod Tables

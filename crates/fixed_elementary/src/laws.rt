@@ -1,7 +1,7 @@
 //! Laws of the exact results: what each one is, and where it is simple. These functions do nothing: the contract of
 //! each is the law.
 
-ghost use Rattle.std.specs.Prelude.{◌≡◌, ◌≤◌, ◌<◌, ◌-◌, ◌*◌, ◌^◌, ◌+ℤ◌, ◌-ℤ◌, ◌*ℤ◌, ◌≤ℤ◌, ◌<ℤ◌, ℕ, ℤ, true, pos, unsigned_abs};
+ghost use Rattle.std.specs.Prelude.{◌≡◌, ◌≤◌, ◌<◌, ◌+◌, ◌-◌, ◌*◌, ◌^◌, ◌+ℤ◌, ◌-ℤ◌, ◌*ℤ◌, ◌≤ℤ◌, ◌<ℤ◌, ℕ, ℤ, true, pos, unsigned_abs};
 ghost use Rattle.fixed_word.specs.Format.{InRange};
 ghost use Rattle.fixed_root.specs.Root.{IsRoot};
 ghost use Rattle.fixed_elementary.specs.Exp2.{IsExp2Of};
@@ -38,7 +38,9 @@ pub fn log2_law()
 
 /// 2 to the power of the whole number `j - f`, for j from 0 on, is exactly `2^j` units. No power is below 0, and one
 /// whose exponent is below `m - f` is below `2^m` units. 2 to the power of the logarithm of a number is at most that
-/// number.
+/// number. It comes back within one unit and a `2^-f` part: the number times `2^f` is less than the power plus 1, times
+/// `2^f + 1`, if f is above 0. By powers, for each k of the logarithm's bound and each j of the power's, the number is
+/// less than the power plus 1, times `2^((1 + 2^-k) / 2^f + 2^-j)`.
 pub fn exp2_law()
     ensures exact { (room j f : ℕ) (a r : ℤ) → a +ℤ pos (f * 2 ^ f) ≡ pos (j * 2 ^ f)
         → IsExp2Of room a f r → r ≡ pos (2 ^ j) }
@@ -47,4 +49,11 @@ pub fn exp2_law()
         → IsExp2Of room a f r → r <ℤ pos (2 ^ m) }
     ensures of_log2 { (log exp f : ℕ) (a r s : ℤ) → f ≤ log → pos 0 <ℤ a
         → IsLog2Of log a f r → IsExp2Of exp r f s → s ≤ℤ a }
+    ensures near_log2 { (log exp f : ℕ) (a r s : ℤ) → 0 < f → f + 4 ≤ log → f + 4 ≤ exp
+        → IsLog2Of log a f r → IsExp2Of exp r f s
+        → (a *ℤ pos (2 ^ f)) <ℤ ((s +ℤ pos 1) *ℤ pos (2 ^ f + 1)) }
+    ensures near_log2_powers { (log exp f k j : ℕ) (a r s : ℤ) → f + k ≤ log → j ≤ exp
+        → IsLog2Of log a f r → IsExp2Of exp r f s
+        → unsigned_abs a ^ (2 ^ f * 2 ^ k * 2 ^ j)
+        < (unsigned_abs s + 1) ^ (2 ^ f * 2 ^ k * 2 ^ j) * 2 ^ ((2 ^ k + 1) * 2 ^ j + 2 ^ f * 2 ^ k) }
 {}
