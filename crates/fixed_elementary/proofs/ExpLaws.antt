@@ -1,13 +1,13 @@
 -- Laws of powers of 2 that are rounded down up to a part of themselves.
-use Rattle.std.proofs.Common.{◌≡◌, ◌+◌, ◌*◌, ◌^◌, ◌<◌, ◌≤◌, ◌≤ℤ◌, ◌<ℤ◌, ◌+ℤ◌, ℕ, ℤ, pos, negsuc, suc, refl, ap, subst, ◌∙◌, arith, inl, inr}
+use Rattle.std.proofs.Common.{◌≡◌, ◌+◌, ◌*◌, ◌^◌, ◌<◌, ◌≤◌, ◌≤ℤ◌, ◌<ℤ◌, ◌+ℤ◌, ℕ, ℤ, pos, negsuc, zero, suc, refl, ap, sym, subst, ◌∙◌, arith, inl, inr}
 use Rattle.std.specs.Prelude.{unsigned_abs}
 use Rattle.std.proofs.lemmas.Int.{ints}
 use Rattle.std.proofs.lemmas.Bool.{cases_lt}
-use Rattle.std.proofs.lemmas.Nat.{pow_pos}
-use Rattle.std.proofs.Math.Nat.{pow-le-pow_left, pow-lt-pow_left, pow-suc}
+use Rattle.std.proofs.lemmas.Nat.{mul-pow, pow-add, pow_pos}
+use Rattle.std.proofs.Math.Nat.{mul-le-mul_left, mul-le-mul_right, one-le-pow, pow-le-pow_left, pow-le-pow_right, pow-lt-pow_left, pow-suc}
 use Rattle.fixed_elementary.specs.Log2.{IsLog2Of}
 use Rattle.fixed_elementary.specs.Exp2.{IsExp2At, IsExp2Of}
-use Rattle.fixed_elementary.proofs.Reading.{pow_times}
+use Rattle.fixed_elementary.proofs.Reading.{pow_times, root_lt}
 use Rattle.fixed_elementary.proofs.LogLaws.{exponent_less}
 
 at_exact : (room j f : ℕ) (x r : ℤ) → x ≡ pos (j * 2 ^ f) → IsExp2At room x f r → r ≡ pos (2 ^ j)
@@ -72,3 +72,64 @@ exp2_of_log2 log exp f a r s room o g h =
     let e : r +ℤ pos (f * 2 ^ f) ≡ pos u = omega (arith, ints) in
     let t = at_returned exp f u (unsigned_abs a) (r +ℤ pos (f * 2 ^ f)) s e (g.near 0 zero).below h in
     omega (arith, ints)
+
+-- ---- two exponents in order
+
+square_power : (x q : ℕ) → x ^ (2 * q) ≡ (x * x) ^ q
+square_power x q =
+    let e : 2 * q ≡ q + q = omega arith in
+    ap (λ y. x ^ y) e ∙ pow-add x q q ∙ sym (mul-pow x x q)
+
+-- if (1 + 1/q)^q is at least a / b, so is that of 2q
+pub growth_twice : (a b q : ℕ) → a * q ^ q ≤ b * (q + 1) ^ q → a * (2 * q) ^ (2 * q) ≤ b * (2 * q + 1) ^ (2 * q)
+growth_twice a b q h =
+    let s : 4 * q * (q + 1) ≤ (2 * q + 1) * (2 * q + 1) = omega arith in
+    let p : (4 * q) ^ q * (q + 1) ^ q ≤ ((2 * q + 1) * (2 * q + 1)) ^ q = rw (sym (mul-pow (4 * q) (q + 1) q)) (pow-le-pow_left s q) in
+    let e : 2 * q * (2 * q) ≡ 4 * q * q = omega arith in
+    let x : (2 * q) ^ (2 * q) ≡ (4 * q) ^ q * q ^ q = square_power (2 * q) q ∙ ap (λ y. y ^ q) e ∙ mul-pow (4 * q) q q in
+    let y = square_power (2 * q + 1) q in
+    let t = mul-le-mul_left ((4 * q) ^ q) h in
+    let u = mul-le-mul_left b p in
+    rw (x, y) (omega arith)
+
+growth : (k : ℕ) → 2 * (2 ^ k) ^ 2 ^ k ≤ (2 ^ k + 1) ^ 2 ^ k
+growth zero = omega arith
+growth (suc k) =
+    let e : 2 ^ suc k ≡ 2 * 2 ^ k = omega (arith, pow-suc 2 k) in
+    let t = growth_twice 2 1 (2 ^ k) (omega (arith, growth k)) in
+    rw e (omega arith)
+
+-- the root of a factor that is at most (1 + 1/q)^m
+pub grown : (a n q m c : ℕ) → 0 < q → a ^ m < n ^ m * c → c * q ^ m ≤ (q + 1) ^ m → a * q < n * (q + 1)
+grown a n q m c o h g =
+    let less : a ^ m + 1 ≤ n ^ m * c = omega arith in
+    let x = mul-le-mul_right (q ^ m) less in
+    let y = mul-le-mul_left (n ^ m) g in
+    let some = one-le-pow m q o in
+    root_lt (a * q) (n * (q + 1)) m (rw (mul-pow a q m, mul-pow n (q + 1) m) (omega arith))
+
+-- q is 2^f and K is 2^k
+near_power : (n m e d q K : ℕ) → 0 < K → 2 * K ^ K ≤ (K + 1) ^ K → e ≤ d → m < K → n ^ q ≤ 2 ^ e
+    → 2 ^ (d * K) < (m + 1) ^ (q * K) * 2 ^ q → n ≤ m + 1
+near_power n m e d q K o g l u h i =
+    let up : 2 ^ e ≤ 2 ^ d = pow-le-pow_right {n = 2} (omega arith) {i = e} {j = d} l in
+    let x : (n ^ q) ^ K ≤ (2 ^ d) ^ K = pow-le-pow_left (omega arith) K in
+    let swap : (y : ℕ) → (y ^ K) ^ q ≡ y ^ (q * K) = λ y. pow_times y K q ∙ ap (λ w. y ^ w) (omega arith) in
+    let y : (n ^ K) ^ q < ((m + 1) ^ K * 2) ^ q = rw (mul-pow ((m + 1) ^ K) 2 q, swap (m + 1), swap n) (omega (arith, pow_times n q K, pow_times 2 d K)) in
+    let t = grown n (m + 1) K K 2 o (root_lt (n ^ K) ((m + 1) ^ K * 2) q y) g in
+    elim (cases_lt (m + 1) n) [
+      | inl less ↦ let z = mul-le-mul_right K less in absurd (omega arith)
+      | inr fine ↦ fine
+    ]
+
+at_monotone : (room k f : ℕ) (x y r s : ℤ) → k ≤ room → x ≤ℤ y → IsExp2At room x f r → IsExp2At room y f s → s <ℤ pos (2 ^ k) → r ≤ℤ (s +ℤ pos 1)
+at_monotone room k f (pos e) (pos d) r s l o g h u =
+    let a = g.1 in
+    let b = h.1 in
+    let t = near_power g.0 h.0 e d (2 ^ f) (2 ^ k) (pow_pos k) (growth k) (omega (arith, ints)) (omega (arith, ints)) (g.2.near k l).below (h.2.near k l).above in
+    omega (arith, ints)
+at_monotone room k f (pos e) (negsuc d) r s l o g h u = absurd (omega (arith, ints))
+at_monotone room k f (negsuc e) y r s l o g h u = let z = at_from_zero room f y s h in omega (arith, ints)
+
+pub exp2_monotone : (room k f : ℕ) (a b r s : ℤ) → k ≤ room → a ≤ℤ b → IsExp2Of room a f r → IsExp2Of room b f s → s <ℤ pos (2 ^ k) → r ≤ℤ (s +ℤ pos 1)
+exp2_monotone room k f a b r s l o = at_monotone room k f (a +ℤ pos (f * 2 ^ f)) (b +ℤ pos (f * 2 ^ f)) r s l (omega (arith, ints))

@@ -22,25 +22,32 @@ pub log2_exact : (room j f : ℕ) (r : ℤ) → IsLog2Of room (pos (2 ^ j)) f r 
 log2_exact room j f r h =
     h.value ∙ ap (λ (u : ℕ). pos u -ℤ pos (f * 2 ^ f)) (h.exact j refl)
 
--- ---- two logarithms of one number
+-- ---- the logarithms of two numbers in order, or of one
 
-near_units : (a g s t : ℕ) → 2 ^ s ≤ a ^ 2 ^ g → a ^ (2 ^ g * 2 ^ 0) < 2 ^ ((t + 1) * 2 ^ 0 + 1) → s ≤ t + 1
-near_units a g s t h l =
+near_units : (a b g s t : ℕ) → a ≤ b → 2 ^ s ≤ a ^ 2 ^ g → b ^ (2 ^ g * 2 ^ 0) < 2 ^ ((t + 1) * 2 ^ 0 + 1) → s ≤ t + 1
+near_units a b g s t o h l =
     let one : 2 ^ 0 ≡ 1 = refl in
     let e : 2 ^ g * 2 ^ 0 ≡ 2 ^ g = omega arith in
     let f : (t + 1) * 2 ^ 0 + 1 ≡ t + 2 = omega arith in
-    let x = ap (λ (k : ℕ). a ^ k) e in
+    let m = pow-le-pow_left o (2 ^ g) in
+    let x = ap (λ (k : ℕ). b ^ k) e in
     let y = ap (λ (k : ℕ). 2 ^ k) f in
     let z = exponent_less s (t + 2) (omega arith) in
     omega arith
 
-pub log2_near : (room f : ℕ) (a r s : ℤ) → f ≤ room → IsLog2Of room a f r → IsLog2Of room a f s → r ≤ℤ (s +ℤ pos 1)
-log2_near room f a r s l g h =
+in_order : (room f : ℕ) (a b r s : ℤ) → f ≤ room → unsigned_abs a ≤ unsigned_abs b → IsLog2Of room a f r → IsLog2Of room b f s → r ≤ℤ (s +ℤ pos 1)
+in_order room f a b r s l o g h =
     let v = g.value in
     let w = h.value in
     let zero : f + 0 ≤ room = omega arith in
-    let t = near_units (unsigned_abs a) f g.units h.units (g.near 0 zero).below (h.near 0 zero).above in
+    let t = near_units (unsigned_abs a) (unsigned_abs b) f g.units h.units o (g.near 0 zero).below (h.near 0 zero).above in
     omega (arith, ints)
+
+pub log2_monotone : (room f : ℕ) (a b r s : ℤ) → f ≤ room → pos 0 <ℤ a → a ≤ℤ b → IsLog2Of room a f r → IsLog2Of room b f s → r ≤ℤ (s +ℤ pos 1)
+log2_monotone room f a b r s l z o = in_order room f a b r s l (omega (arith, ints))
+
+pub log2_near : (room f : ℕ) (a r s : ℤ) → f ≤ room → IsLog2Of room a f r → IsLog2Of room a f s → r ≤ℤ (s +ℤ pos 1)
+log2_near room f a r s l = in_order room f a a r s l (omega arith)
 
 -- ---- where it fits
 

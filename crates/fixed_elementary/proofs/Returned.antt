@@ -3,35 +3,19 @@ use Rattle.std.proofs.Common.{◌≡◌, ◌+◌, ◌*◌, ◌^◌, ◌<◌, ◌
 use Rattle.std.specs.Prelude.{unsigned_abs}
 use Rattle.std.proofs.lemmas.Int.{ints}
 use Rattle.std.proofs.lemmas.Nat.{mul-pow, pow-add, pow_pos}
-use Rattle.std.proofs.Math.Nat.{mul-le-mul_left, mul-le-mul_right, one-le-pow, pow-le-pow_left, pow-lt-pow_left, pow-suc}
+use Rattle.std.proofs.Math.Nat.{mul-le-mul_right, pow-le-pow_left, pow-lt-pow_left, pow-suc}
 use Rattle.fixed_elementary.specs.Log2.{IsLog2Of}
 use Rattle.fixed_elementary.specs.Exp2.{IsExp2At, IsExp2Of}
 use Rattle.fixed_elementary.proofs.Reading.{pow_times, root_lt}
-use Rattle.fixed_elementary.proofs.ExpLaws.{exp2_from_zero}
+use Rattle.fixed_elementary.proofs.ExpLaws.{exp2_from_zero, growth_twice, grown}
 
 -- ---- (1 + 1/q)^q is at least 9/4 if q is 2, 4, 8 and so on
-
-square_power : (x q : ℕ) → x ^ (2 * q) ≡ (x * x) ^ q
-square_power x q =
-    let e : 2 * q ≡ q + q = omega arith in
-    ap (λ y. x ^ y) e ∙ pow-add x q q ∙ sym (mul-pow x x q)
-
-growth_twice : (q : ℕ) → 9 * q ^ q ≤ 4 * (q + 1) ^ q → 9 * (2 * q) ^ (2 * q) ≤ 4 * (2 * q + 1) ^ (2 * q)
-growth_twice q h =
-    let s : 4 * q * (q + 1) ≤ (2 * q + 1) * (2 * q + 1) = omega arith in
-    let p : (4 * q * (q + 1)) ^ q ≤ ((2 * q + 1) * (2 * q + 1)) ^ q = pow-le-pow_left s q in
-    let m = mul-pow (4 * q) (q + 1) q in
-    let e : 2 * q * (2 * q) ≡ 4 * q * q = omega arith in
-    let x : (2 * q) ^ (2 * q) ≡ (4 * q) ^ q * q ^ q = square_power (2 * q) q ∙ ap (λ y. y ^ q) e ∙ mul-pow (4 * q) q q in
-    let y = square_power (2 * q + 1) q in
-    let t = mul-le-mul_left ((4 * q) ^ q) h in
-    rw (x, y) (omega arith)
 
 growth_least : (f : ℕ) → 9 * (2 ^ suc f) ^ 2 ^ suc f ≤ 4 * (2 ^ suc f + 1) ^ 2 ^ suc f
 growth_least zero = omega arith
 growth_least (suc f) =
     let e : 2 ^ suc (suc f) ≡ 2 * 2 ^ suc f = omega (arith, pow-suc 2 (suc f)) in
-    rw e (growth_twice (2 ^ suc f) (growth_least f))
+    rw e (growth_twice 9 4 (2 ^ suc f) (growth_least f))
 
 growth_many : (q : ℕ) → 9 * q ^ q ≤ 4 * (q + 1) ^ q → 2 ^ 18 * q ^ (q * 16) ≤ (q + 1) ^ (q * 16)
 growth_many q h =
@@ -89,15 +73,7 @@ near_root a n q J g o e h =
     let s : (16 + 1) * J + m ≡ 18 * J = omega arith in
     let down : (a ^ m) ^ J < (n ^ m * 2 ^ 18) ^ J = rw (mul-pow (n ^ m) (2 ^ 18) J, pow_times a m J, pow_times n m J, pow_times 2 18 J, sym s) h in
     let x = root_lt (a ^ m) (n ^ m * 2 ^ 18) J down in
-    let y = join (a ^ m) (n ^ m) (q ^ m) ((q + 1) ^ m) (one-le-pow m q o) x (growth_many q g) in
-    root_lt (a * q) (n * (q + 1)) m (rw (mul-pow a q m, mul-pow n (q + 1) m) y)
-  where
-    join : (A N Q R : ℕ) → 1 ≤ Q → A < N * 2 ^ 18 → 2 ^ 18 * Q ≤ R → A * Q < N * R
-    join A N Q R o h g =
-        let less : A + 1 ≤ N * 2 ^ 18 = omega arith in
-        let x = mul-le-mul_right Q less in
-        let y = mul-le-mul_left N g in
-        omega arith
+    grown a n q m (2 ^ 18) o x (growth_many q g)
 
 at_near : (f a n : ℕ) → 0 < f → a ^ (2 ^ f * 2 ^ 4 * 2 ^ (f + 4)) < n ^ (2 ^ f * 2 ^ 4 * 2 ^ (f + 4)) * 2 ^ ((2 ^ 4 + 1) * 2 ^ (f + 4) + 2 ^ f * 2 ^ 4)
     → a * 2 ^ f < n * (2 ^ f + 1)

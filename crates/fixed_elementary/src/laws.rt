@@ -10,35 +10,41 @@ ghost use Rattle.fixed_elementary.specs.RecipRoot.{IsRecipRoot};
 ghost use Rattle.fixed_elementary.specs.ElementaryRows.{exact_hypot, exact_recip_sqrt};
 
 /// The length is the root of the sum of the squares, rounded down. It is the same if the operands are exchanged. If one
-/// operand is 0, it is the magnitude of the other.
+/// operand is 0, it is the magnitude of the other. The length does not fall if the magnitude of an operand grows.
 pub fn hypot_law()
     ensures is_root { (a b : ℤ) → IsRoot (a *ℤ a +ℤ b *ℤ b) 0 (exact_hypot a b) }
     ensures exchanged { (a b : ℤ) → exact_hypot a b ≡ exact_hypot b a }
     ensures on_axis { (a : ℤ) → exact_hypot a (pos 0) ≡ pos (unsigned_abs a) }
+    ensures monotone { (a b c : ℤ) → unsigned_abs a ≤ unsigned_abs c → exact_hypot a b ≤ℤ exact_hypot c b }
 {}
 
-/// The reciprocal root of an a above 0 is an r with `r^2 a <= 2^(3f) < (r+1)^2 a`, and the only one from 0 on.
+/// The reciprocal root of an a above 0 is an r with `r^2 a <= 2^(3f) < (r+1)^2 a`, and the only one from 0 on. A
+/// greater number has no greater reciprocal root.
 pub fn recip_sqrt_law()
     ensures is_recip_root { (a : ℤ) (f : ℕ) → pos 0 <ℤ a → IsRecipRoot a f (exact_recip_sqrt a f) }
     ensures unique { (a r s : ℤ) (f : ℕ) → IsRecipRoot a f r → IsRecipRoot a f s → r ≡ s }
+    ensures monotone { (a b r s : ℤ) (f : ℕ) → a ≤ℤ b → IsRecipRoot a f r → IsRecipRoot b f s → s ≤ℤ r }
 {}
 
 /// The logarithm of a power of two is exact: that of `2^j` units is `j - f`. Two numbers that both meet the bound for
-/// the logarithm of one number differ by at most one unit. On signed words of n bits, each logarithm fits if the range
-/// of the word reaches from `-f` to `n - 1 - f`.
+/// the logarithm of one number differ by at most one unit. The logarithm of a greater number is less by at most one
+/// unit. On signed words of n bits, each logarithm fits if the range of the word reaches from `-f` to `n - 1 - f`.
 pub fn log2_law()
     ensures exact { (room j f : ℕ) (r : ℤ) → IsLog2Of room (pos (2 ^ j)) f r
         → r ≡ pos (j * 2 ^ f) -ℤ pos (f * 2 ^ f) }
     ensures near { (room f : ℕ) (a r s : ℤ) → f ≤ room → IsLog2Of room a f r → IsLog2Of room a f s
         → r ≤ℤ (s +ℤ pos 1) }
+    ensures monotone { (room f : ℕ) (a b r s : ℤ) → f ≤ room → pos 0 <ℤ a → a ≤ℤ b
+        → IsLog2Of room a f r → IsLog2Of room b f s → r ≤ℤ (s +ℤ pos 1) }
     ensures fits { (room n f : ℕ) (a r : ℤ) → f ≤ room → f < n → f * 2 ^ f ≤ 2 ^ (n - 1)
         → (n - 1 - f) * 2 ^ f < 2 ^ (n - 1) → InRange true n a → pos 0 <ℤ a
         → IsLog2Of room a f r → InRange true n r }
 {}
 
 /// 2 to the power of the whole number `j - f`, for j from 0 on, is exactly `2^j` units. No power is below 0, and one
-/// whose exponent is below `m - f` is below `2^m` units. 2 to the power of the logarithm of a number is at most that
-/// number. It comes back within one unit and a `2^-f` part: the number times `2^f` is less than the power plus 1, times
+/// whose exponent is below `m - f` is below `2^m` units. A power with a greater exponent is less by at most one unit,
+/// if it is below `2^k` units for a k of its bound. 2 to the power of the logarithm of a number is at most that number.
+/// It comes back within one unit and a `2^-f` part: the number times `2^f` is less than the power plus 1, times
 /// `2^f + 1`, if f is above 0. By powers, for each k of the logarithm's bound and each j of the power's, the number is
 /// less than the power plus 1, times `2^((1 + 2^-k) / 2^f + 2^-j)`.
 pub fn exp2_law()
@@ -47,6 +53,8 @@ pub fn exp2_law()
     ensures from_zero { (room f : ℕ) (a r : ℤ) → IsExp2Of room a f r → pos 0 ≤ℤ r }
     ensures below { (room m f : ℕ) (a r : ℤ) → (a +ℤ pos (f * 2 ^ f)) <ℤ pos (m * 2 ^ f)
         → IsExp2Of room a f r → r <ℤ pos (2 ^ m) }
+    ensures monotone { (room k f : ℕ) (a b r s : ℤ) → k ≤ room → a ≤ℤ b
+        → IsExp2Of room a f r → IsExp2Of room b f s → s <ℤ pos (2 ^ k) → r ≤ℤ (s +ℤ pos 1) }
     ensures of_log2 { (log exp f : ℕ) (a r s : ℤ) → f ≤ log → pos 0 <ℤ a
         → IsLog2Of log a f r → IsExp2Of exp r f s → s ≤ℤ a }
     ensures near_log2 { (log exp f : ℕ) (a r s : ℤ) → 0 < f → f + 4 ≤ log → f + 4 ≤ exp
