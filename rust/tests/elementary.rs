@@ -356,6 +356,22 @@ fn powers_by_powers() {
     }
 }
 
+/// The number and 2 to the power of its logarithm differ by a unit and a `2^-frac` part at most, where the logarithm fits.
+#[test]
+fn powers_of_logarithms() {
+    for frac in 1..=15 {
+        for a in 1..=i16::MAX {
+            let log = log2_of(a, frac);
+            if log.side == Side::Fits {
+                let power = exp2_of(log.wrapped, frac).wrapped;
+                let (number, one) = (i64::from(a), 1 << frac);
+                assert!(power <= a, "{a} {frac}");
+                assert!(number * one < (i64::from(power) + 1) * (one + 1), "{a} {frac}");
+            }
+        }
+    }
+}
+
 #[test]
 fn typed_calls() {
     let length = FixedI32::<16>::from_num(3).checked_hypot(FixedI32::from_num(-4));

@@ -78,16 +78,23 @@ fn words_of_16_bits_in_radians() {
     every_word::<u16>([0, 3, 8, 12, 15, 16], assert_radians);
 }
 
-/// The squares of sine and cosine sum to 1, up to what rounding leaves: less than a unit each.
+/// Asserts that the squares have the sum 1, up to two units and `4 * 2^-room`.
+fn assert_unit_length<T: Word + Into<i128>>(point: (Outcome<T>, Outcome<T>), frac: u32, room: u32) {
+    let square = |outcome: Outcome<T>| outcome.wrapped.into().pow(2);
+    let off = square(point.0) + square(point.1) - (1 << (2 * frac));
+    assert!(off.abs() <= (2 << frac) + (4 << (2 * frac - room)), "{off}");
+}
+
 #[test]
 fn squares_sum_to_one() {
-    let mut a = 12_345_i32;
+    let mut a = 98_765_i64;
     for _ in 0..100_000 {
-        a = a.wrapping_mul(1_664_525).wrapping_add(1_013_904_223);
-        let (sine, cosine) = (sin_turns_of(a, 28), cos_turns_of(a, 28));
-        let square = |outcome: Outcome<i32>| i128::from(outcome.wrapped).pow(2);
-        let off = square(sine) + square(cosine) - (1 << 56);
-        assert!(off.abs() <= 1 << 29, "{a}: {off}");
+        a = a.wrapping_mul(6_364_136_223_846_793_005).wrapping_add(1_442_695_040_888_963_407);
+        assert_unit_length(sin_cos_turns_of(a, 60), 60, 61);
+        assert_unit_length(sin_cos_of(a, 60), 60, 61);
+        let narrow = (a >> 32) as i32;
+        assert_unit_length(sin_cos_turns_of(narrow, 28), 28, 41);
+        assert_unit_length(sin_cos_of(narrow, 28), 28, 41);
     }
 }
 

@@ -27,8 +27,8 @@ pub fn recip_sqrt_law()
 {}
 
 /// The logarithm of a power of two is exact: that of `2^j` units is `j - f`. Two numbers that both meet the bound for
-/// the logarithm of one number differ by at most one unit. The logarithm of a greater number is less by at most one
-/// unit. On signed words of n bits, each logarithm fits if the range of the word reaches from `-f` to `n - 1 - f`.
+/// the logarithm of one number differ by at most one unit, and the logarithm of a greater number is at most one unit
+/// less. On signed words of n bits, each logarithm fits if the range of the word reaches from `-f` to `n - 1 - f`.
 pub fn log2_law()
     ensures exact { (room j f : ℕ) (r : ℤ) → IsLog2Of room (pos (2 ^ j)) f r
         → r ≡ pos (j * 2 ^ f) -ℤ pos (f * 2 ^ f) }
@@ -42,11 +42,10 @@ pub fn log2_law()
 {}
 
 /// 2 to the power of the whole number `j - f`, for j from 0 on, is exactly `2^j` units. No power is below 0, and one
-/// whose exponent is below `m - f` is below `2^m` units. A power with a greater exponent is less by at most one unit,
-/// if it is below `2^k` units for a k of its bound. 2 to the power of the logarithm of a number is at most that number.
-/// It comes back within one unit and a `2^-f` part: the number times `2^f` is less than the power plus 1, times
-/// `2^f + 1`, if f is above 0. By powers, for each k of the logarithm's bound and each j of the power's, the number is
-/// less than the power plus 1, times `2^((1 + 2^-k) / 2^f + 2^-j)`.
+/// whose exponent is below `m - f` is below `2^m` units. A power with a greater exponent is at most one unit less, if it
+/// is below `2^k` units for a k of its bound. 2 to the power of the logarithm of a number is at most that number. If f is
+/// above 0, a unit more than the power, times `1 + 2^-f`, is above the number. By powers, so is a unit more than the
+/// power, times `2^((1 + 2^-k) / 2^f + 2^-j)`, for each k of the logarithm's bound and each j of the power's.
 pub fn exp2_law()
     ensures exact { (room j f : ℕ) (a r : ℤ) → a +ℤ pos (f * 2 ^ f) ≡ pos (j * 2 ^ f)
         → IsExp2Of room a f r → r ≡ pos (2 ^ j) }

@@ -1,12 +1,15 @@
 pub mod AngleLaws
 pub mod Beside
 pub mod Bisected
+pub mod Circle
 pub mod Coordinates
 pub mod Factorials
 pub mod FewTurns
+pub mod Lengths
 pub mod Nesting
 pub mod Pairs
 pub mod Pi
+pub mod Polynomials
 pub mod Quarters
 pub mod RadianSines
 pub mod Reach

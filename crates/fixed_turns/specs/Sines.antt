@@ -1,5 +1,5 @@
 -- Sines and cosines of angles in turns, rounded to the nearest up to a small part.
-use Rattle.std.specs.Prelude.{◌≡◌, ◌+◌, ◌*◌, ◌^◌, ◌≤◌, ◌+ℤ◌, ◌*ℤ◌, ℕ, zero, suc, ℤ, Bool, pos, neg_ℤ, nat_le, if◌then◌else◌, Option, Some, None}
+use Rattle.std.specs.Prelude.{◌≡◌, ◌+◌, ◌*◌, ◌^◌, ◌≤◌, ◌+ℤ◌, ◌*ℤ◌, ℕ, zero, suc, ℤ, Bool, pos, neg_ℤ, nat_le, unsigned_abs, if◌then◌else◌, Option, Some, None}
 use Rattle.fixed_word.specs.Format.{with_sign}
 use Rattle.fixed_turns.specs.Series.{Fraction, cosine_series, sine_series}
 
@@ -59,6 +59,14 @@ pub record IsCosine (k : ℕ) (a : ℤ) (f : ℕ) (r : ℤ) : Type 0 where
   pub rest : ℕ
   pub angle : IsAngle a f q below rest
   pub sine : IsSineAt k (q + 1) below rest f r
+
+abbrev pub sum_of_squares : ℤ → ℤ → ℕ
+sum_of_squares s c = unsigned_abs s * unsigned_abs s + unsigned_abs c * unsigned_abs c
+
+-- s^2 + c^2, of numbers in units of 2^-f, differs from 1 by 2 2^-f and 4 2^-k at most
+pub record IsOfUnitLength (k f : ℕ) (s c : ℤ) : Type 0 where
+  pub below : 2 ^ k * sum_of_squares s c ≤ 2 ^ k * (2 ^ f * 2 ^ f) + 2 ^ (f + 1) * (2 ^ k + 2 ^ (f + 1))
+  pub above : 2 ^ k * (2 ^ f * 2 ^ f) ≤ 2 ^ k * sum_of_squares s c + 2 ^ (f + 1) * (2 ^ k + 2 ^ (f + 1))
 
 -- both numbers, and nothing where one is missing
 abbrev pub both : Option ℤ → Option ℤ → Option (ℤ × ℤ)

@@ -1,12 +1,12 @@
 //! Laws of sines, cosines and angles of points. These functions do nothing: the contract of each is the law.
 
-ghost use Rattle.std.specs.Prelude.{◌≡◌, ◌≢◌, ◌+◌, ◌*◌, ◌^◌, ◌<◌, ◌+ℤ◌, ◌*ℤ◌, ◌<ℤ◌, ◌≤ℤ◌, ℕ, ℤ, true, pos, neg_ℤ};
+ghost use Rattle.std.specs.Prelude.{◌≡◌, ◌≢◌, ◌+◌, ◌*◌, ◌^◌, ◌<◌, ◌≤◌, ◌+ℤ◌, ◌*ℤ◌, ◌<ℤ◌, ◌≤ℤ◌, ℕ, ℤ, true, pos, neg_ℤ};
 ghost use Rattle.fixed_word.specs.Format.{InRange};
 ghost use Rattle.fixed_turns.specs.Angles.{IsAngleOf};
 ghost use Rattle.fixed_turns.specs.RadianAngles.{IsRadianAngle};
 ghost use Rattle.fixed_turns.specs.Radians.{IsRadianCosine, IsRadianSine};
 ghost use Rattle.fixed_turns.specs.Series.{sine_series};
-ghost use Rattle.fixed_turns.specs.Sines.{IsCosine, IsSine, pi, radians};
+ghost use Rattle.fixed_turns.specs.Sines.{IsCosine, IsOfUnitLength, IsSine, pi, radians};
 
 /// The sines of 0, 1/4, 1/2 and 3/4 are exact. A number that meets the bound for the sine of an angle also meets it a
 /// whole turn further, and its negative meets it for the sine of minus the angle. No sine is above 1 or below -1. On
@@ -25,15 +25,19 @@ pub fn sine_law()
 {}
 
 /// A number that meets the bound for the cosine of an angle meets it for the sine of a quarter turn more. On signed
-/// words whose largest number is at least 1, each cosine fits.
+/// words whose largest number is at least 1, each cosine fits. The squares of the sine and the cosine of one angle have
+/// the sum 1, up to `2 * 2^-f + 4 * 2^-k`, for k from 8 to 76.
 pub fn cosine_law()
     ensures as_sine { (k f : ℕ) (a b r : ℤ) → pos 4 *ℤ b ≡ pos 4 *ℤ a +ℤ pos (2 ^ f) → IsCosine k a f r → IsSine k b f r }
     ensures fits { (k n f : ℕ) (a r : ℤ) → f + 1 < n → IsCosine k a f r → InRange true n r }
+    ensures squares { (k f : ℕ) (a s c : ℤ) → 8 ≤ k → k ≤ 76 → IsSine k a f s → IsCosine k a f c
+        → IsOfUnitLength k f s c }
 {}
 
 /// In radians, the sine of 0 is 0 and its cosine is 1. A number that meets the bound for the cosine of an angle also
 /// meets it for minus the angle, and the negative of one that meets it for the sine does so for minus the angle. No sine
-/// or cosine is above 1 or below -1. On signed words whose largest number is at least 1, each one fits.
+/// or cosine is above 1 or below -1. On signed words whose largest number is at least 1, each one fits. The squares of
+/// the sine and the cosine of one angle have the sum 1, up to `2 * 2^-f + 4 * 2^-k`, for k from 8 to 76.
 pub fn radian_law()
     ensures sine_of_zero { (k f : ℕ) (r : ℤ) → IsRadianSine k (pos 0) f r → r ≡ pos 0 }
     ensures cosine_of_zero { (k f : ℕ) (r : ℤ) → IsRadianCosine k (pos 0) f r → r ≡ pos (2 ^ f) }
@@ -45,6 +49,8 @@ pub fn radian_law()
     ensures cosine_most { (k f : ℕ) (a r : ℤ) → IsRadianCosine k a f r → r ≤ℤ pos (2 ^ f) }
     ensures sine_fits { (k n f : ℕ) (a r : ℤ) → f + 1 < n → IsRadianSine k a f r → InRange true n r }
     ensures cosine_fits { (k n f : ℕ) (a r : ℤ) → f + 1 < n → IsRadianCosine k a f r → InRange true n r }
+    ensures squares { (k f : ℕ) (a s c : ℤ) → 8 ≤ k → k ≤ 76 → IsRadianSine k a f s → IsRadianCosine k a f c
+        → IsOfUnitLength k f s c }
 {}
 
 /// Angles of points are from -1/2 to 1/2. If y is not 0, the negative of the angle of `(x, y)` is that of `(x, -y)`. On

@@ -1,3 +1,4 @@
+use Rattle.fixed_turns.proofs.Lengths.{radian_length}
 use Rattle.fixed_turns.proofs.RadianSines.{cosine_even, cosine_fits, cosine_of_zero, cosine_within, sine_fits, sine_minus, sine_of_zero, sine_within}
 use Rattle.fixed_turns.proofs.laws.radian_law.Goals as goal
 
@@ -30,3 +31,6 @@ returns-clause-cosine_least c k f a r h = (cosine_within k f a r h).0
 
 pub returns-clause-cosine_most : goal.returns-clause-cosine_most
 returns-clause-cosine_most c k f a r h = (cosine_within k f a r h).1
+
+pub returns-clause-squares : goal.returns-clause-squares
+returns-clause-squares c = radian_length
