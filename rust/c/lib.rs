@@ -1,5 +1,5 @@
-//! The calls for C, compiled by rustc: the proved source of `crates/fixed_c` over the library. `include/fixed.h`
-//! declares them.
+//! The calls for C, compiled by rustc: the proved source of `crates/fixed_face` and `crates/fixed_c` over the library.
+//! `include/fixed.h` declares them.
 #![no_std]
 // The code below is the proved source.
 #![allow(dead_code, unused_imports, clippy::too_many_arguments)]

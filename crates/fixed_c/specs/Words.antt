@@ -1,6 +1,6 @@
 -- What each word's calls answer.
 use Rattle.std.specs.Prelude.{ℤ, true, false, pos, Result}
-use Rattle.fixed_c.specs.declared.answer.Code.{Code}
+use Rattle.fixed_face.specs.declared.answer.Code.{Code}
 use Rattle.fixed_c.specs.declared.signed_8.AnswerI8.{AnswerI8}
 use Rattle.fixed_c.specs.declared.signed_16.AnswerI16.{AnswerI16}
 use Rattle.fixed_c.specs.declared.signed_32.AnswerI32.{AnswerI32}
@@ -18,8 +18,8 @@ use Rattle.fixed_c.specs.declared.unsigned_16.EndsU16.{EndsU16}
 use Rattle.fixed_c.specs.declared.unsigned_32.EndsU32.{EndsU32}
 use Rattle.fixed_c.specs.declared.unsigned_64.EndsU64.{EndsU64}
 use Rattle.fixed_interval.specs.Ends.{Ends}
-use Rattle.fixed_c.specs.Answers.{CallAnswers}
-use Rattle.fixed_c.specs.Intervals.{EndsAnswers}
+use Rattle.fixed_face.specs.Answers.{CallAnswers}
+use Rattle.fixed_face.specs.Intervals.{EndsAnswers}
 
 abbrev pub AnswersI8 : Result ℤ Code → AnswerI8 → AnswerI8 → ℤ → Type 0
 AnswersI8 given old new code = CallAnswers (λ x. x) true 8 given (old.bits, old.side) (new.bits, new.side) code

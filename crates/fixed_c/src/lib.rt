@@ -2,9 +2,9 @@
 //! known only at run time.
 //!
 //! Each of the eight words has its own calls, such as `fixed_i32_div`. A call has no precondition on its numbers: it
-//! returns 0 and writes its result, or it fails. It then returns the number of a [`Code`](answer::Code), and the result
-//! is unchanged, unless the comment of the call says otherwise. If several codes apply, the call returns the first one
-//! that its comment names.
+//! returns 0 and writes its result, or it fails. It then returns the number of a [`Code`](fixed_face::answer::Code),
+//! and the result is unchanged, unless the comment of the call says otherwise. If several codes apply, the call returns
+//! the first one that its comment names.
 //!
 //! The result of an operation is the wrapped word, and the side of the word's range on which the exact result lies.
 //! Other calls write a number, the ends of an interval, a text or a block. Operands and results are bits, in units of
@@ -16,22 +16,6 @@
 //! Rust crate `fixed` does not have these calls.
 #![tactic(auto)]
 
-mod answer;
-mod arrays;
-mod blocks;
-mod calls;
-mod conversions;
-mod dots;
-mod elementary;
-mod ends_calls;
-mod intervals;
-mod near_calls;
-mod one_sign;
-mod products;
-mod quotients;
-mod remainders;
-mod roots;
-mod rounded;
 mod signed_16;
 mod signed_16_functions;
 mod signed_32;
@@ -40,7 +24,6 @@ mod signed_64;
 mod signed_64_functions;
 mod signed_8;
 mod signed_8_functions;
-mod texts;
 mod unsigned_16;
 mod unsigned_16_functions;
 mod unsigned_32;

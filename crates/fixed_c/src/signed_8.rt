@@ -17,27 +17,27 @@ ghost use Rattle.fixed_convert.specs.Convert.{rounded_convert};
 ghost use Rattle.fixed_decimal.specs.Decimal.{decimal_row};
 ghost use Rattle.fixed_decimal.specs.Text.{shortest, text_of};
 ghost use Rattle.fixed_float.specs.Rows.{nearest_float, units_of_float};
-ghost use Rattle.fixed_c.specs.declared.answer.Code.{Code};
-ghost use Rattle.fixed_c.specs.declared.answer.Code.TheVariants.{ZeroDivisor, NegativeRoot, NotFinite};
+ghost use Rattle.fixed_face.specs.declared.answer.Code.{Code};
+ghost use Rattle.fixed_face.specs.declared.answer.Code.TheVariants.{ZeroDivisor, NegativeRoot, NotFinite};
 ghost use Rattle.fixed_block.specs.Blocks.{of_pairs};
-ghost use Rattle.fixed_c.specs.Answers.{ValueAnswers, at_fraction, row_or};
-ghost use Rattle.fixed_c.specs.Blocks.{BlockAnswers, at_policy};
-ghost use Rattle.fixed_c.specs.inside.Calls.{IsResultOf, given};
-ghost use Rattle.fixed_c.specs.inside.EndsCalls.{ends_in};
-ghost use Rattle.fixed_c.specs.inside.TextCalls.{text_in};
-ghost use Rattle.fixed_c.specs.Dots.{IsDot};
-ghost use Rattle.fixed_c.specs.Intervals.{difference_in, from_to, product_in, quotient_in, root_in, sum_in};
-ghost use Rattle.fixed_c.specs.Near.{allowed};
-ghost use Rattle.fixed_c.specs.Places.{with_as_many};
-ghost use Rattle.fixed_c.specs.Roundings.{at_rounding};
-ghost use Rattle.fixed_c.specs.Texts.{TextAnswers, at_places, or_code};
+ghost use Rattle.fixed_face.specs.Answers.{ValueAnswers, at_fraction, row_or};
+ghost use Rattle.fixed_face.specs.Blocks.{BlockAnswers, at_policy};
+ghost use Rattle.fixed_face.specs.Calls.{IsResultOf, given};
+ghost use Rattle.fixed_face.specs.EndsCalls.{ends_in};
+ghost use Rattle.fixed_face.specs.TextCalls.{text_in};
+ghost use Rattle.fixed_face.specs.Dots.{IsDot};
+ghost use Rattle.fixed_face.specs.Intervals.{difference_in, from_to, product_in, quotient_in, root_in, sum_in};
+ghost use Rattle.fixed_face.specs.Near.{allowed};
+ghost use Rattle.fixed_face.specs.Places.{with_as_many};
+ghost use Rattle.fixed_face.specs.Roundings.{at_rounding};
+ghost use Rattle.fixed_face.specs.Texts.{TextAnswers, at_places, or_code};
 ghost use Rattle.fixed_c.specs.Words.{AnswersI8, EndsI8Answers};
 
-use crate::answer::{Code, side_of};
-use crate::calls::{Call, result_of};
-use crate::ends_calls::{EndsCall, ends_of};
-use crate::texts::{TextCall, put_text};
-use crate::{blocks, conversions, dots, one_sign, texts};
+use fixed_face::answer::{Code, side_of};
+use fixed_face::calls::{Call, result_of};
+use fixed_face::ends_calls::{EndsCall, ends_of};
+use fixed_face::texts::{TextCall, put_text};
+use fixed_face::{blocks, conversions, dots, one_sign, texts};
 use fixed_word::Outcome;
 
 /// The result of an operation.
@@ -64,7 +64,7 @@ pub struct EndsI8 {
 impl AnswerI8 {
     /// Writes the outcome and returns 0; or returns the number of the code, and leaves the result unchanged.
     #[inline]
-    #[tactic(auto, unfolding(crate::specs::Answers::CallAnswers, crate::specs::inside::Calls::IsResultOf))]
+    #[tactic(auto, unfolding(fixed_face::specs::Answers::CallAnswers, fixed_face::specs::Calls::IsResultOf))]
     fn leave(&mut self, answer: Result<Outcome<i8>, Code>) -> i32
         ensures { (given : Result ℤ Code) → IsResultOf (λ x. x) true 8 given answer → AnswersI8 given self.old self.new result }
     {

@@ -15,16 +15,16 @@ ghost use Rattle.fixed_turns.specs.Angles.{IsAngleOf, turn_room};
 ghost use Rattle.fixed_turns.specs.RadianAngles.{IsRadianAngle};
 ghost use Rattle.fixed_turns.specs.Radians.{IsRadianCosine, IsRadianSine};
 ghost use Rattle.fixed_turns.specs.Sines.{IsCosine, IsSine, sine_room};
-ghost use Rattle.fixed_c.specs.Answers.{at_fraction};
-ghost use Rattle.fixed_c.specs.FilterBlocks.{FilterBlockAnswers, left_of};
-ghost use Rattle.fixed_c.specs.Filters.{filter_of, fractions, output_in, past_after};
-ghost use Rattle.fixed_c.specs.Near.{NearAnswers, NearPairAnswers, allowed, off_origin, positive};
-ghost use Rattle.fixed_c.specs.Places.{PlaceAnswers};
-ghost use Rattle.fixed_c.specs.Polynomials.{horner_in};
-ghost use Rattle.fixed_c.specs.inside.NearCalls.{IsNear, operands};
+ghost use Rattle.fixed_face.specs.Answers.{at_fraction};
+ghost use Rattle.fixed_face.specs.FilterBlocks.{FilterBlockAnswers, left_of};
+ghost use Rattle.fixed_face.specs.Filters.{filter_of, fractions, output_in, past_after};
+ghost use Rattle.fixed_face.specs.Near.{NearAnswers, NearPairAnswers, allowed, off_origin, positive};
+ghost use Rattle.fixed_face.specs.Places.{PlaceAnswers};
+ghost use Rattle.fixed_face.specs.Polynomials.{horner_in};
+ghost use Rattle.fixed_face.specs.NearCalls.{IsNear, operands};
 
-use crate::near_calls::{NearCall, near_of};
-use crate::{arrays, elementary};
+use fixed_face::near_calls::{NearCall, near_of};
+use fixed_face::{arrays, elementary};
 use fixed_filter::Shape;
 
 /// Writes the number of a call, or returns the code of why there is none, as [`near_of`] does.

@@ -1,5 +1,0 @@
--- What private functions alone cite.
-pub mod Calls
-pub mod EndsCalls
-pub mod NearCalls
-pub mod TextCalls

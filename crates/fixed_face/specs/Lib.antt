@@ -1,0 +1,15 @@
+pub mod Answers
+pub mod Intervals
+pub mod Places
+pub mod Polynomials
+pub mod Filters
+pub mod FilterBlocks
+pub mod Roundings
+pub mod Texts
+pub mod Blocks
+pub mod Near
+pub mod Dots
+pub mod Calls
+pub mod EndsCalls
+pub mod NearCalls
+pub mod TextCalls
