@@ -2,3 +2,4 @@ pub mod Fronts
 pub mod Fours
 pub mod Tested
 pub mod Sums
+pub mod Signs

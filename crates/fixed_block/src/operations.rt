@@ -1,10 +1,11 @@
 //! The operations on blocks.
 
 ghost use Rattle.std.specs.Prelude.{◌≡◌, ◌≤◌, ◌+ℤ◌, ◌-ℤ◌, ◌*ℤ◌, neg_ℤ};
+ghost use Rattle.fixed_word.specs.Format.{fits};
 ghost use Rattle.fixed_convert.specs.Convert.{rounded_convert};
 ghost use Rattle.fixed_kernel.specs.Rows.{exact_abs, exact_mul, exact_mul_add};
 
-use crate::each::Each;
+use crate::each::{Each, fits_of};
 use crate::pairs::Pairs;
 use fixed_convert::{Castable, convert_round_of};
 use fixed_kernel::{abs_of, add_of, dist_of, mul_add_of, mul_int_of, mul_of, neg_of, sub_of};
@@ -252,6 +253,34 @@ impl<T: Castable + Word> Each<T> for Raise {
     }
 }
 
+/// Returns whether `x + y` fits. Loops over signed words take many such tests of signs in one instruction.
+#[inline(always)]
+fn sum_fits<T: Word>(x: T, y: T) -> bool
+    ensures { result ≡ fits T.SIGNED T.BITS (T.value x +ℤ T.value y) }
+{
+    let sum = add_of(x, y);
+    if T::SIGNED {
+        let below_zero = x.is_below_zero();
+        below_zero != y.is_below_zero() || sum.wrapped.is_below_zero() == below_zero
+    } else {
+        fits_of(sum)
+    }
+}
+
+/// Returns whether `x - y` fits, by its signs as `sum_fits` does.
+#[inline(always)]
+fn difference_fits<T: Word>(x: T, y: T) -> bool
+    ensures { result ≡ fits T.SIGNED T.BITS (T.value x -ℤ T.value y) }
+{
+    let difference = sub_of(x, y);
+    if T::SIGNED {
+        let below_zero = x.is_below_zero();
+        below_zero == y.is_below_zero() || difference.wrapped.is_below_zero() == below_zero
+    } else {
+        fits_of(difference)
+    }
+}
+
 /// The sum `x + y`.
 #[derive(Clone, Copy, Debug)]
 pub struct Add;
@@ -272,8 +301,13 @@ impl<T: Word> Pairs<T> for Add {
     }
 
     #[inline(always)]
+    fn fits(&self, x: T, y: T) -> bool {
+        sum_fits(x, y)
+    }
+
+    #[inline(always)]
     fn is_tested_first(&self) -> bool {
-        T::BITS == 8 || T::BITS == 16 && !T::SIGNED
+        T::SIGNED || T::BITS <= 16
     }
 }
 
@@ -297,8 +331,13 @@ impl<T: Word> Pairs<T> for Sub {
     }
 
     #[inline(always)]
+    fn fits(&self, x: T, y: T) -> bool {
+        difference_fits(x, y)
+    }
+
+    #[inline(always)]
     fn is_tested_first(&self) -> bool {
-        T::BITS == 8 || T::BITS == 16 && !T::SIGNED
+        T::SIGNED || T::BITS <= 16
     }
 }
 

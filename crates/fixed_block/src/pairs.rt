@@ -40,6 +40,15 @@ pub trait Pairs<T: Word> {
         false
     }
 
+    /// Returns whether the exact result fits. Precondition: the operation is ready.
+    #[inline(always)]
+    fn fits(&self, x: T, y: T) -> bool
+        requires { pairs_ready self.now }
+        ensures { result ≡ fits T.SIGNED T.BITS (exact self.now (T.value x) (T.value y)) }
+    {
+        fits_of(self.outcome(x, y))
+    }
+
     /// Returns the number of the word that differs from the exact result by a multiple of `2^n` units, where n is the
     /// width. Precondition: the operation is ready.
     #[inline(always)]
@@ -232,7 +241,7 @@ fn all_fit<T: Word, O: Pairs<T>>(operation: &O, block: &[T], others: &[T]) -> bo
 {
     let mut all = true;
     for at in 0..block.len() {
-        all &= fits_of(operation.outcome(block[at], others[at]));
+        all &= operation.fits(block[at], others[at]);
     }
     all
 }

@@ -16,7 +16,7 @@ loop-at-preserved g c =
     let y = c.index-others-at.result in
     let block = c.args.block.now in
     let others = c.args.others.now in
-    one_passed test (of_pairs exact (map value block) (map value others)) c.loop-at.at (value x) (exact (value x) (value y)) c.loop-at.all c.fits_of-all.result c.loop-at.invariant (pair_at value exact block others c.loop-at.at x y c.requires.lengths c.index-block-at.is c.index-others-at.is (omega arith)) (c.fits_of-all.ensures (exact (value x) (value y)) c.outcome.ensures)
+    one_passed test (of_pairs exact (map value block) (map value others)) c.loop-at.at (value x) (exact (value x) (value y)) c.loop-at.all c.fits-all.result c.loop-at.invariant (pair_at value exact block others c.loop-at.at x y c.requires.lengths c.index-block-at.is c.index-others-at.is (omega arith)) c.fits-all.ensures
 
 pub returns : goal.returns
 returns g c =
