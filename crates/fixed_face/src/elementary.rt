@@ -31,9 +31,9 @@ use fixed_turns::{
 };
 use fixed_word::{Outcome, RawWord, Word, checked_of};
 
-/// Returns whether `a` is positive.
+/// Returns whether `a` is above 0.
 #[inline]
-fn is_positive<T: RawWord>(a: T) -> bool
+fn is_above_zero<T: RawWord>(a: T) -> bool
     ensures { result ≡ int_lt (pos 0) (T.value a) }
 {
     !a.is_below_zero() && a.magnitude() > 0
@@ -105,7 +105,7 @@ pub fn recip_sqrt<T: Word>(a: T, frac: u32, number: &mut T) -> i32
     if frac > T::BITS {
         return Code::FractionPastWidth.number();
     }
-    if !is_positive(a) {
+    if !is_above_zero(a) {
         return Code::NotPositive.number();
     }
     leave(recip_sqrt_of(a, frac), number)
@@ -123,7 +123,7 @@ pub fn log2<T: Word>(a: T, frac: u32, number: &mut T) -> i32
     if frac > T::BITS {
         return Code::FractionPastWidth.number();
     }
-    if !is_positive(a) {
+    if !is_above_zero(a) {
         return Code::NotPositive.number();
     }
     leave(log2_of(a, frac), number)
@@ -141,7 +141,7 @@ pub fn ln<T: Word>(a: T, frac: u32, number: &mut T) -> i32
     if frac > T::BITS {
         return Code::FractionPastWidth.number();
     }
-    if !is_positive(a) {
+    if !is_above_zero(a) {
         return Code::NotPositive.number();
     }
     leave(ln_of(a, frac), number)
@@ -159,7 +159,7 @@ pub fn log10<T: Word>(a: T, frac: u32, number: &mut T) -> i32
     if frac > T::BITS {
         return Code::FractionPastWidth.number();
     }
-    if !is_positive(a) {
+    if !is_above_zero(a) {
         return Code::NotPositive.number();
     }
     leave(log10_of(a, frac), number)
@@ -205,7 +205,7 @@ pub fn pow<T: Word>(a: T, b: T, frac: u32, number: &mut T) -> i32
     if frac > T::BITS {
         return Code::FractionPastWidth.number();
     }
-    if !is_positive(a) {
+    if !is_above_zero(a) {
         return Code::NotPositive.number();
     }
     leave(pow_of(a, b, frac), number)
