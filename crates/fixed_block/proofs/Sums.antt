@@ -3,7 +3,7 @@ use Rattle.std.proofs.Common.{◌≡◌, ◌+◌, ◌-◌, ◌<◌, ◌≤◌, �
 use Rattle.std.specs.Prelude.{◌+ℤ◌, ◌*ℤ◌, nat_abs}
 use Rattle.std.proofs.lemmas.Int.{ints, unsigned_abs-mul}
 use Rattle.std.proofs.Math.Nat.{pow-le-pow_right}
-use Rattle.std.proofs.lemmas.List.{length-drop, length-map, length-take-le}
+use Rattle.std.proofs.lemmas.List.{length-drop, length-map, length-take, length-take-le}
 use Rattle.fixed_word.specs.Format.{InRange}
 use Rattle.fixed_block.specs.Dots.{SumsFit, partial_sum, products, total}
 
@@ -27,12 +27,15 @@ next_sum value a b i x y l e p q =
     let more : i + 1 ≡ suc i = omega arith in
     ap (λ k. partial_sum (map value a) (map value b) k) more ∙ next value a b i x y l e p q
 
+-- ---- from any number
+pub next_from : (from s p t z more : ℤ) → s ≡ from +ℤ t → more ≡ s +ℤ p → z ≡ t +ℤ p → more ≡ from +ℤ z
+next_from from s p t z more is new next = omega (arith, ints)
+
 -- a partial sum that does not fit
-pub signed_past : {A : Type 0} (value : A → ℤ) (a b : List A) (i : ℕ) (s p : ℤ) → i < length a → partial_sum (map value a) (map value b) (i + 1) ≡ partial_sum (map value a) (map value b) i +ℤ p → s ≡ partial_sum (map value a) (map value b) i
-    → SumsFit true (map value a) (map value b) → (InRange true 128 (s +ℤ p) → ⊥) → ⊥
-signed_past value a b i s p l next is fit never =
-    let long : i + 1 ≤ length (map value a) = omega (arith, length-map a value) in
-    never (rw (is, sym next) (fit (i + 1) long))
+pub past_from : {A : Type 0} (value : A → ℤ) (a b : List A) (i : ℕ) (from s p : ℤ) → i < length a → partial_sum (map value a) (map value b) (i + 1) ≡ partial_sum (map value a) (map value b) i +ℤ p → s ≡ from +ℤ partial_sum (map value a) (map value b) i
+    → ((k : ℕ) → k ≤ length a → InRange true 128 (from +ℤ partial_sum (map value a) (map value b) k)) → (InRange true 128 (s +ℤ p) → ⊥) → ⊥
+past_from value a b i from s p l more is fit never =
+    never (rw (next_from from s p _ _ (s +ℤ p) is refl more) (fit (i + 1) (omega arith)))
 
 -- ---- unsigned words
 from_zero : (s : Bool) (n : ℕ) (v : ℤ) (m : ℕ) → s ≡ false → InRange s n v → m ≡ nat_abs v → v ≡ pos m
@@ -81,26 +84,45 @@ pub word_size : (s : Bool) (n : ℕ) (v : ℤ) → s ≡ true → n ≤ 32 → I
 word_size true n v e l r = width_size n v l r
 word_size false n v e l r = absurd (cc)
 
--- ---- a sum over chunks
-front_sum : {A : Type 0} (value : A → ℤ) (a b : List A) (k : ℕ) → partial_sum (map value (take k a)) (map value (take k b)) k ≡ partial_sum (map value a) (map value b) k
-front_sum value a b zero = refl
-front_sum value [] b (suc k) = refl
-front_sum value (u ∷ a) [] (suc k) = refl
-front_sum value (u ∷ a) (v ∷ b) (suc k) = ap (λ (z : ℤ). (value u *ℤ value v) +ℤ z) (front_sum value a b k)
+unsigned_width_size : (n : ℕ) (v : ℤ) → n ≤ 32 → InRange false n v → nat_abs v ≤ 4294967296
+unsigned_width_size n v l r = let p : 2 ^ n ≤ 2 ^ 32 = pow-le-pow_right (omega arith) l in let low = r.0 in let high = r.1 in omega (arith, ints, p, low, high)
 
-chunk_next : {A : Type 0} (value : A → ℤ) (a b : List A) (i k : ℕ) → i ≤ length a → length a ≡ length b
-    → partial_sum (map value a) (map value b) (i + k) ≡ partial_sum (map value a) (map value b) i +ℤ partial_sum (map value (take k (drop i a))) (map value (take k (drop i b))) k
-chunk_next value a b zero k l e =
+unsigned_word_size : (s : Bool) (n : ℕ) (v : ℤ) (m : ℕ) → s ≡ false → n ≤ 32 → InRange s n v → m ≡ nat_abs v → m ≤ 4294967296
+unsigned_word_size false n v m e l r is = let size = unsigned_width_size n v l r in omega arith
+unsigned_word_size true n v m e l r is = absurd (cc)
+
+pub unsigned_sum_size : (s : Bool) (n : ℕ) (x y : ℤ) (i sum mx my : ℕ) → s ≡ false → n ≤ 32 → InRange s n x → InRange s n y → mx ≡ nat_abs x → my ≡ nat_abs y → sum ≤ i * 2 ^ 64
+    → sum + mx * my ≤ (i + 1) * 2 ^ 64
+unsigned_sum_size s n x y i sum mx my e l rx ry ix iy size =
+    let product : mx * my ≤ 4294967296 * 4294967296 = mul-le-mul (unsigned_word_size s n x mx e l rx ix) (unsigned_word_size s n y my e l ry iy) in
+    omega arith
+
+-- ---- a sum over chunks
+front_sum : {A : Type 0} (value : A → ℤ) (a b : List A) (m k : ℕ) → k ≤ m → partial_sum (map value (take m a)) (map value (take m b)) k ≡ partial_sum (map value a) (map value b) k
+front_sum value a b m zero l = refl
+front_sum value a b zero (suc k) l = absurd (omega arith)
+front_sum value [] b (suc m) (suc k) l = refl
+front_sum value (u ∷ a) [] (suc m) (suc k) l = refl
+front_sum value (u ∷ a) (v ∷ b) (suc m) (suc k) l = ap (λ (z : ℤ). (value u *ℤ value v) +ℤ z) (front_sum value a b m k (omega arith))
+
+rest_next : {A : Type 0} (value : A → ℤ) (a b : List A) (i k : ℕ) → i ≤ length a → length a ≡ length b
+    → partial_sum (map value a) (map value b) (i + k) ≡ partial_sum (map value a) (map value b) i +ℤ partial_sum (map value (drop i a)) (map value (drop i b)) k
+rest_next value a b zero k l e =
     let none : 0 + k ≡ k = omega arith in
-    ap (λ j. partial_sum (map value a) (map value b) j) none ∙ sym (start _ _ (front_sum value a b k))
+    ap (λ j. partial_sum (map value a) (map value b) j) none ∙ start (partial_sum (map value a) (map value b) k)
   where
-    start : (y z : ℤ) → y ≡ z → pos 0 +ℤ y ≡ z
-    start y z e = omega (arith, ints)
-chunk_next value [] b (suc i) k l e = absurd (omega arith)
-chunk_next value (u ∷ a) [] (suc i) k l e = absurd (omega arith)
-chunk_next value (u ∷ a) (v ∷ b) (suc i) k l e =
+    start : (z : ℤ) → z ≡ pos 0 +ℤ z
+    start z = omega (arith, ints)
+rest_next value [] b (suc i) k l e = absurd (omega arith)
+rest_next value (u ∷ a) [] (suc i) k l e = absurd (omega arith)
+rest_next value (u ∷ a) (v ∷ b) (suc i) k l e =
     let more : suc i + k ≡ suc (i + k) = omega arith in
-    ap (λ j. partial_sum (map value (u ∷ a)) (map value (v ∷ b)) j) more ∙ grown (value u *ℤ value v) _ _ _ (chunk_next value a b i k (omega arith) (omega arith))
+    ap (λ j. partial_sum (map value (u ∷ a)) (map value (v ∷ b)) j) more ∙ grown (value u *ℤ value v) _ _ _ (rest_next value a b i k (omega arith) (omega arith))
+
+slice_next : {A : Type 0} (value : A → ℤ) (a b : List A) (i m n k : ℕ) → i ≤ length a → length a ≡ length b → k ≤ m → m ≡ n
+    → partial_sum (map value a) (map value b) (i + k) ≡ partial_sum (map value a) (map value b) i +ℤ partial_sum (map value (take m (drop i a))) (map value (take n (drop i b))) k
+slice_next value a b i m n k l e le same =
+    rw (sym same) (rest_next value a b i k l e ∙ ap (λ (z : ℤ). partial_sum (map value a) (map value b) i +ℤ z) (sym (front_sum value (drop i a) (drop i b) m k le)))
 
 -- a chunk as a loop slices it
 pub chunk_step : {A : Type 0} (value : A → ℤ) (a b : List A) (i k : ℕ) (s : ℤ) → i + k ≤ length a → length a ≡ length b
@@ -110,7 +132,7 @@ chunk_step value a b i k s l e is =
     let same : i + k - i ≡ k = omega arith in
     let long : length (take k (drop i a)) ≡ k = length-take-le k (drop i a) (omega (arith, length-drop i a)) in
     let sum : s ≡ partial_sum (map value (take k (drop i a))) (map value (take k (drop i b))) k = rw (same, long) at is in
-    chunk_next value a b i k (omega arith) e ∙ ap (λ (z : ℤ). partial_sum (map value a) (map value b) i +ℤ z) (sym sum)
+    slice_next value a b i k k k (omega arith) e (omega arith) refl ∙ ap (λ (z : ℤ). partial_sum (map value a) (map value b) i +ℤ z) (sym sum)
 
 pub chunk_size : (s p : ℤ) (i k m : ℕ) → nat_abs s ≤ i * m → nat_abs p ≤ m → 1 ≤ k → nat_abs (s +ℤ p) ≤ (i + k) * m
 chunk_size s p i k m l e one =
@@ -118,3 +140,20 @@ chunk_size s p i k m l e one =
     let step = sum_size s p i m l e in
     let le : (i + 1) * m ≤ (i + k) * m = mul-le-mul_right m more in
     omega (arith, step, le)
+
+-- the part after the last chunk
+pub rest_sum : {A : Type 0} (value : A → ℤ) (a b : List A) (i : ℕ) (s : ℤ) → i ≤ length a → length a ≡ length b → s ≡ partial_sum (map value a) (map value b) i
+    → s +ℤ partial_sum (map value (take (length a - i) (drop i a))) (map value (take (length b - i) (drop i b))) (length (take (length a - i) (drop i a))) ≡ partial_sum (map value a) (map value b) (length a)
+rest_sum value a b i s l e is =
+    let long : length (take (length a - i) (drop i a)) ≡ length a - i = length-take-le (length a - i) (drop i a) (omega (arith, length-drop i a)) in
+    let all : i + (length a - i) ≡ length a = omega arith in
+    let same : length a - i ≡ length b - i = omega arith in
+    rw (long, is) (sym (slice_next value a b i (length a - i) (length b - i) (length a - i) l e (omega arith) same) ∙ ap (λ k. partial_sum (map value a) (map value b) k) all)
+
+-- what fits with a sum from the front fits with one from a slice
+pub slice_fits : {A : Type 0} (value : A → ℤ) (a b : List A) (i m n : ℕ) (s : ℤ) → i ≤ length a → length a ≡ length b → m ≡ n → s ≡ partial_sum (map value a) (map value b) i → SumsFit true (map value a) (map value b)
+    → (k : ℕ) → k ≤ length (take m (drop i a)) → InRange true 128 (s +ℤ partial_sum (map value (take m (drop i a))) (map value (take n (drop i b))) k)
+slice_fits value a b i m n s l e same is fit k le =
+    let short = length-take m (drop i a) in
+    let within : i + k ≤ length (map value a) = omega (arith, length-map a value, length-drop i a, short) in
+    rw (is, sym (slice_next value a b i m n k l e (omega arith) same)) (fit (i + k) within)

@@ -1,6 +1,6 @@
 //! The sum of the products of two blocks, which is rounded once.
 
-ghost use Rattle.std.specs.Prelude.{◌≡◌, ◌≤◌, ◌<◌, ◌+◌, ◌*◌, ◌^◌, ◌+ℤ◌, ◌*ℤ◌, true, false, IfSome, IsNone, length, map, nat_abs, pos};
+ghost use Rattle.std.specs.Prelude.{ℕ, ◌≡◌, ◌≤◌, ◌<◌, ◌+◌, ◌*◌, ◌^◌, ◌+ℤ◌, ◌*ℤ◌, true, false, IfSome, IsNone, length, map, nat_abs, pos};
 ghost use Rattle.fixed_word.specs.Format.{InRange};
 ghost use Rattle.fixed_word.specs.Quotient.{floor_quotient};
 ghost use Rattle.fixed_word.specs.Standing.{StandsFor};
@@ -27,12 +27,13 @@ fn unsigned_added(sum: u128, x: u64, y: u64) -> Option<u128>
     ensures some { IfSome result (λ more. more ≡ sum + x * y) }
     ensures none { IsNone result → sum + x * y < 2 ^ 128 → ⊥ }
 {
-    sum.checked_add(u128::from(x) * u128::from(y))
+    let more = sum.wrapping_add(u128::from(x) * u128::from(y));
+    if more < sum { None } else { Some(more) }
 }
 
 /// Returns the sum of the products of signed words of at most 32 bits.
 #[inline(always)]
-fn middle_sum<T: Castable>(a: &[T], b: &[T]) -> i128
+fn signed_middle_sum<T: Castable>(a: &[T], b: &[T]) -> i128
     requires sign { T.SIGNED ≡ true }
     requires width { T.BITS ≤ 32 }
     requires lengths { length a.now ≡ length b.now }
@@ -45,7 +46,44 @@ fn middle_sum<T: Castable>(a: &[T], b: &[T]) -> i128
     sum
 }
 
-/// Returns the sum of the products of signed words, or `None` if a partial sum does not fit.
+/// Returns the sum of the products of unsigned words of at most 32 bits.
+#[inline(always)]
+fn unsigned_middle_sum<T: Castable>(a: &[T], b: &[T]) -> u128
+    requires sign { T.SIGNED ≡ false }
+    requires width { T.BITS ≤ 32 }
+    requires lengths { length a.now ≡ length b.now }
+    ensures { pos result ≡ partial_sum (map T.value a.now) (map T.value b.now) (length a.now) }
+{
+    let mut sum: u128 = 0;
+    for at in 0..a.len() {
+        sum += u128::from(a[at].magnitude()) * u128::from(b[at].magnitude());
+    }
+    sum
+}
+
+/// Returns a number plus the sum of the products of signed words, or `None` if the number plus a partial sum does not
+/// fit.
+#[inline(always)]
+fn signed_sum_from<T: Castable>(from: i128, a: &[T], b: &[T]) -> Option<i128>
+    requires sign { T.SIGNED ≡ true }
+    requires lengths { length a.now ≡ length b.now }
+    ensures sum { IfSome result (λ sum.
+        sum ≡ from +ℤ partial_sum (map T.value a.now) (map T.value b.now) (length a.now)) }
+    ensures none { IsNone result → ((k : ℕ) → k ≤ length a.now
+        → InRange true 128 (from +ℤ partial_sum (map T.value a.now) (map T.value b.now) k)) → ⊥ }
+{
+    let mut sum = from;
+    for at in 0..a.len() {
+        match signed_added(sum, a[at].to_wide(), b[at].to_wide()) {
+            Some(more) => sum = more,
+            None => return None,
+        }
+    }
+    Some(sum)
+}
+
+/// Returns the sum of the products of signed words, or `None` if a partial sum does not fit. Chunks of four make
+/// the loop cheaper.
 #[inline(always)]
 fn signed_sum<T: Castable>(a: &[T], b: &[T]) -> Option<i128>
     requires sign { T.SIGNED ≡ true }
@@ -54,13 +92,15 @@ fn signed_sum<T: Castable>(a: &[T], b: &[T]) -> Option<i128>
     ensures none { IsNone result → SumsFit true (map T.value a.now) (map T.value b.now) → ⊥ }
 {
     let mut sum: i128 = 0;
-    for at in 0..a.len() {
-        match signed_added(sum, a[at].to_wide(), b[at].to_wide()) {
+    let mut at = 0;
+    while a.len() - at >= 4 {
+        match signed_sum_from(sum, &a[at..at + 4], &b[at..at + 4]) {
             Some(more) => sum = more,
             None => return None,
         }
+        at += 4;
     }
-    Some(sum)
+    signed_sum_from(sum, &a[at..], &b[at..])
 }
 
 /// Returns the sum of the products of unsigned words, or `None` if a partial sum does not fit.
@@ -92,6 +132,23 @@ fn outcome_of_sum<T: Castable>(sum: i128, frac: u32) -> Outcome<T>
 }
 
 /// Returns the outcome of the sum of the products of the numbers at the same places, over `2^frac` and rounded down
+/// once. Preconditions: the words have at most 32 bits, both blocks have the same length, and `frac` is at most the
+/// width.
+#[inline(always)]
+fn middle_dot<T: Castable>(a: &[T], b: &[T], frac: u32) -> Outcome<T>
+    requires width { T.BITS ≤ 32 }
+    requires lengths { length a.now ≡ length b.now }
+    requires frac { frac ≤ T.BITS }
+    ensures { StandsFor T.value T.SIGNED T.BITS (exact_dot (map T.value a.now) (map T.value b.now) frac) result }
+{
+    if T::SIGNED {
+        outcome_of_sum(signed_middle_sum(a, b), frac)
+    } else {
+        outcome_of_magnitude(false, unsigned_middle_sum(a, b).floored(frac))
+    }
+}
+
+/// Returns the outcome of the sum of the products of the numbers at the same places, over `2^frac` and rounded down
 /// once. Returns `None` only if a partial sum of the products does not fit in an integer of 128 bits, which is signed
 /// if the words are. For words of up to 32 bits, every slice is too short for that. Preconditions: both blocks have the
 /// same length, and `frac` is at most the width.
@@ -104,8 +161,8 @@ pub fn dot_of<T: Castable>(a: &[T], b: &[T], frac: u32) -> Option<Outcome<T>>
 {
     if T::BITS < 32 {
         Some(outcome_of_sum(short_sum(a, b), frac))
-    } else if T::SIGNED && T::BITS == 32 {
-        Some(outcome_of_sum(middle_sum(a, b), frac))
+    } else if T::BITS == 32 {
+        Some(middle_dot(a, b, frac))
     } else if T::SIGNED {
         match signed_sum(a, b) {
             Some(sum) => Some(outcome_of_sum(sum, frac)),

@@ -20,8 +20,3 @@ pub returns-then-BITS-lt32-clause-dot : goal.returns-then-BITS-lt32-clause-dot
 returns-then-BITS-lt32-clause-dot g c =
     let same : to_z w128 (of_z w128 c.short_sum.result) ≡ c.short_sum.result = search rules in
     rw (same ∙ (c.short_sum.ensures ∙ whole_sum g.T.Valued.value c.args.a.now c.args.b.now c.requires.lengths)) at c.outcome_of_sum.ensures
-
-pub returns-then-BITS-eq32-clause-dot : goal.returns-then-BITS-eq32-clause-dot
-returns-then-BITS-eq32-clause-dot g c =
-    let same : to_z w128 (of_z w128 c.middle_sum.result) ≡ c.middle_sum.result = search rules in
-    rw (same ∙ (c.middle_sum.ensures ∙ whole_sum g.T.Valued.value c.args.a.now c.args.b.now c.requires.lengths)) at c.outcome_of_sum-then-BITS-eq32.ensures

@@ -1,6 +1,6 @@
 use Rattle.std.specs.Prelude.{◌≡◌, ◌≤◌, ◌*◌, ◌^◌, map, nat_abs}
 use Rattle.fixed_block.specs.Dots.{partial_sum}
-use Rattle.fixed_block.proofs.dots.middle_sum.Given as goal
+use Rattle.fixed_block.proofs.dots.signed_middle_sum.Given as goal
 
 abbrev pub invariant-loop-at : goal.invariant-loop-at
 invariant-loop-at g l = record {

@@ -2,7 +2,7 @@ use Rattle.std.proofs.Common.{rules, ◌≡◌, ◌+ℤ◌, ◌*ℤ◌, ℤ, Fit
 use Rattle.std.specs.Int.{w128}
 use Rattle.std.proofs.lemmas.Int.{to_z-of_z}
 use Rattle.fixed_block.proofs.Sums.{next_sum, product_size, sum_size, word_size}
-use Rattle.fixed_block.proofs.dots.middle_sum.Goals as goal
+use Rattle.fixed_block.proofs.dots.signed_middle_sum.Goals as goal
 
 pub overflow_add-sum : goal.overflow_add-sum
 overflow_add-sum g c =
