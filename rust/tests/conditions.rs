@@ -159,6 +159,7 @@ stops! {
     kernel_places_up, "frac_nbits is at least minus the width", kernel::overflowing_mul_add(1_i8, 1, 1, -9);
     block_operation, "the operation is ready", block::wrapping_each(&block::Scale { by: 1, frac: 9 }, &mut [1_i8]);
     block_outcome, "the operation is ready", block::Each::outcome(&block::Scale { by: 1, frac: 9 }, 1_i8);
+    block_numbers, "the block has at most 64 numbers", block::Each::all_fit(&block::Neg, &[1_i8; 65]);
     blocks_operation, "the operation is ready",
         block::saturating_pairs(&block::Mul { frac: 9 }, &mut [1_i8], &[1]);
     blocks_outcome, "the operation is ready", block::Pairs::outcome(&block::Mul { frac: 9 }, 1_i8, 1);

@@ -3,3 +3,4 @@ pub mod Fours
 pub mod Tested
 pub mod Sums
 pub mod Signs
+pub mod Parts

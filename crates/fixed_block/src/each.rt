@@ -57,6 +57,31 @@ pub trait Each<T: Word> {
     {
         nearest_of(self.outcome(x))
     }
+
+    /// Returns whether the exact results of all numbers of a block fit, from the outcome of each. Precondition: the
+    /// operation is ready.
+    #[inline(always)]
+    fn all_fit_singly(&self, block: &[T]) -> bool
+        requires { each_ready self.now }
+        ensures { result ≡ list_all (fits T.SIGNED T.BITS) (map (exact self.now) (map T.value block.now)) }
+    {
+        let mut all = true;
+        for x in block {
+            all &= fits_of(self.outcome(*x));
+        }
+        all
+    }
+
+    /// Returns whether the exact results of all numbers of a block fit. Preconditions: the operation is ready, and the
+    /// block has at most 64 numbers.
+    #[inline(always)]
+    fn all_fit(&self, block: &[T]) -> bool
+        requires ready { each_ready self.now }
+        requires few { length block.now ≤ 64 }
+        ensures { result ≡ list_all (fits T.SIGNED T.BITS) (map (exact self.now) (map T.value block.now)) }
+    {
+        self.all_fit_singly(block)
+    }
 }
 
 /// Replaces each number by the number of the word that is nearest to the exact result. Precondition: the operation is
@@ -196,23 +221,10 @@ fn fitting_of<T: Word, O: Each<T>>(operation: &O, block: &[T]) -> usize
     ensures within { result ≤ length block.now }
 {
     let mut at = 0;
-    while block.len() - at >= 64 && all_fit(operation, &block[at..at + 64]) {
+    while block.len() - at >= 64 && operation.all_fit(&block[at..at + 64]) {
         at += 64;
     }
     at + fitting_singly(operation, &block[at..])
-}
-
-/// Returns whether the exact results of all numbers of a block fit. Precondition: the operation is ready.
-#[inline(always)]
-fn all_fit<T: Word, O: Each<T>>(operation: &O, block: &[T]) -> bool
-    requires { O.each_ready operation.now }
-    ensures { result ≡ list_all (fits T.SIGNED T.BITS) (map (O.exact operation.now) (map T.value block.now)) }
-{
-    let mut all = true;
-    for x in block {
-        all &= fits_of(operation.outcome(*x));
-    }
-    all
 }
 
 /// Does what `fitting_of` does, number by number.

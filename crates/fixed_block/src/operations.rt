@@ -1,9 +1,11 @@
 //! The operations on blocks.
 
-ghost use Rattle.std.specs.Prelude.{◌≡◌, ◌≤◌, ◌+ℤ◌, ◌-ℤ◌, ◌*ℤ◌, neg_ℤ};
-ghost use Rattle.fixed_word.specs.Format.{fits};
+ghost use Rattle.std.specs.Prelude.{◌≡◌, ◌≤◌, ◌+ℤ◌, ◌-ℤ◌, ◌*ℤ◌, false, length, map, neg_ℤ};
+ghost use Rattle.std.specs.List.{list_all};
 ghost use Rattle.fixed_convert.specs.Convert.{rounded_convert};
 ghost use Rattle.fixed_kernel.specs.Rows.{exact_abs, exact_mul, exact_mul_add};
+ghost use Rattle.fixed_kernel.specs.inside.Size.{IsProduct};
+ghost use Rattle.fixed_word.specs.Format.{fits};
 
 use crate::each::{Each, fits_of};
 use crate::pairs::Pairs;
@@ -31,9 +33,26 @@ fn factor_for<T: Word>(x: T, by: T) -> T
 /// Returns the product of two words. Loops over short words take many such products in one instruction.
 #[inline(always)]
 fn whole_product<T: Word>(x: T, k: T) -> T::Whole
-    ensures { T.Whole.value result ≡ T.value x *ℤ T.value k }
+    ensures value { T.Whole.value result ≡ T.value x *ℤ T.value k }
+    ensures size { IsProduct T.SIGNED T.BITS (T.value x *ℤ T.value k) }
 {
     x.whole().times(k.whole())
+}
+
+/// Returns whether the products of `k` and all numbers of a block fit: whether the sum of their parts above the word is
+/// 0. Compilers do not use vectors where each product is compared with the greatest word. Preconditions: the words are
+/// unsigned, and the block has at most 64 numbers.
+#[inline(always)]
+fn short_products_fit<T: Word>(block: &[T], k: T) -> bool
+    requires sign { T.SIGNED ≡ false }
+    requires few { length block.now ≤ 64 }
+    ensures { result ≡ list_all (fits T.SIGNED T.BITS) (map (λ x. x *ℤ T.value k) (map T.value block.now)) }
+{
+    let mut past = T::ZERO.whole();
+    for x in block {
+        past = past.plus(whole_product(*x, k).floored(T::BITS));
+    }
+    past.equals(T::ZERO.whole())
 }
 
 /// The negative of `x`.
@@ -168,6 +187,15 @@ impl<T: Word> Each<T> for MulInt<T> {
             nearest_of(mul_int_of(x, self.k))
         } else {
             nearest_of_whole(whole_product(x, factor_for(x, self.k)))
+        }
+    }
+
+    #[inline(always)]
+    fn all_fit(&self, block: &[T]) -> bool {
+        if !T::SIGNED && T::BITS <= 16 {
+            short_products_fit(block, self.k)
+        } else {
+            self.all_fit_singly(block)
         }
     }
 }
