@@ -3,7 +3,7 @@
 //! Operands and results are bits, in units of `2^-frac` unless a comment names another unit. Operands named `k` are
 //! integers. A call returns 0 and writes its result, or it fails: it returns the number of a [`Code`] and leaves the
 //! result unchanged, unless its comment says otherwise. If several codes apply, it returns the first one that its
-//! comment names. [`blocks`] states what calls over blocks leave.
+//! comment names. [`fixed_face::block_calls`] states what calls over blocks leave.
 
 ghost use Rattle.std.specs.Prelude.{◌≡◌, ℤ, Result, Ok, true, pos, neg_ℤ, ◌*ℤ◌, ◌+ℤ◌, ◌-ℤ◌, map};
 ghost use Rattle.std.specs.Float.{binary64};
@@ -21,6 +21,7 @@ ghost use Rattle.fixed_face.specs.declared.answer.Code.{Code};
 ghost use Rattle.fixed_face.specs.declared.answer.Code.TheVariants.{ZeroDivisor, NegativeRoot, NotFinite};
 ghost use Rattle.fixed_block.specs.Blocks.{of_pairs};
 ghost use Rattle.fixed_face.specs.Answers.{ValueAnswers, at_fraction, row_or};
+ghost use Rattle.fixed_face.specs.BlockCalls.{each_in, pairs_in};
 ghost use Rattle.fixed_face.specs.Blocks.{BlockAnswers, at_policy};
 ghost use Rattle.fixed_face.specs.Calls.{IsResultOf, given};
 ghost use Rattle.fixed_face.specs.EndsCalls.{ends_in};
@@ -34,10 +35,11 @@ ghost use Rattle.fixed_face.specs.Texts.{TextAnswers, at_places, or_code};
 ghost use Rattle.fixed_c.specs.Words.{AnswersI8, EndsI8Answers};
 
 use fixed_face::answer::{Code, side_of};
+use fixed_face::block_calls::{EachCall, PairsCall, put_each, put_pairs};
 use fixed_face::calls::{Call, result_of};
 use fixed_face::ends_calls::{EndsCall, ends_of};
 use fixed_face::texts::{TextCall, put_text};
-use fixed_face::{blocks, conversions, dots, one_sign, texts};
+use fixed_face::{conversions, dots, one_sign, texts};
 use fixed_word::Outcome;
 
 /// The result of an operation.
@@ -104,6 +106,30 @@ fn write(call: TextCall<i8>, buffer: &mut [u8], length: &mut usize) -> i32
         (buffer.old, length.old) (buffer.new, length.new) result }
 {
     put_text(call, buffer, length)
+}
+
+/// Writes the results of a call over a block, or returns the number of its code.
+#[inline(always)]
+fn each(call: EachCall<i8>, policy: u32, block: &mut [i8], place: &mut usize) -> i32
+    ensures { BlockAnswers (λ x. x) true 8 (each_in (λ x. x) 8 call policy block.old)
+        (block.old, place.old) (block.new, place.new) result }
+{
+    put_each(call, policy, block, place)
+}
+
+/// Writes the results of a call over two blocks, or returns the number of its code.
+#[inline(always)]
+fn pairs(
+    call: PairsCall<i8>,
+    policy: u32,
+    block: &mut [i8],
+    others: &[i8],
+    place: &mut usize,
+) -> i32
+    ensures { BlockAnswers (λ x. x) true 8 (pairs_in (λ x. x) 8 call policy block.old others.now)
+        (block.old, place.old) (block.new, place.new) result }
+{
+    put_pairs(call, policy, block, others, place)
 }
 
 /// Writes `-a`. Always returns 0.
@@ -616,7 +642,7 @@ pub extern "C" fn fixed_i8_neg_block(block: &mut [i8], policy: u32, place: &mut 
         (at_policy policy (map neg_ℤ (map (λ x. x) block.old)))
         (block.old, place.old) (block.new, place.new) result }
 {
-    blocks::neg(block, policy, place)
+    each(EachCall::Neg, policy, block, place)
 }
 
 /// Writes the magnitude of x over each x of the block. Fails with `NoPolicy` or `OutOfRange`.
@@ -626,7 +652,7 @@ pub extern "C" fn fixed_i8_abs_block(block: &mut [i8], policy: u32, place: &mut 
         (at_policy policy (map exact_abs (map (λ x. x) block.old)))
         (block.old, place.old) (block.new, place.new) result }
 {
-    blocks::abs(block, policy, place)
+    one_sign::abs_block(block, policy, place)
 }
 
 /// Writes `x k` over each x of the block, for an integer `k`. Fails with `NoPolicy` or `OutOfRange`.
@@ -641,7 +667,7 @@ pub extern "C" fn fixed_i8_mul_int_block(
         (at_policy policy (map (λ x. x *ℤ k) (map (λ x. x) block.old)))
         (block.old, place.old) (block.new, place.new) result }
 {
-    blocks::mul_int(block, k, policy, place)
+    each(EachCall::MulInt(k), policy, block, place)
 }
 
 /// Writes `x by / 2^frac`, rounded down, over each x of the block. Fails with `FractionPastWidth`, `NoPolicy` or
@@ -658,7 +684,7 @@ pub extern "C" fn fixed_i8_scale_block(
         (at_fraction 8 frac (at_policy policy (map (λ x. exact_mul x by frac) (map (λ x. x) block.old))))
         (block.old, place.old) (block.new, place.new) result }
 {
-    blocks::scale(block, by, frac, policy, place)
+    each(EachCall::Scale(by, frac), policy, block, place)
 }
 
 /// Writes `x / 2^from` in units of `2^-to`, rounded as named, over each x of the block. Fails with `FractionPastWidth`,
@@ -677,7 +703,7 @@ pub extern "C" fn fixed_i8_convert_block(
         (λ r. at_policy policy (map (λ x. rounded_convert x from to r) (map (λ x. x) block.old))))))
         (block.old, place.old) (block.new, place.new) result }
 {
-    blocks::convert(block, from, to, rounding, policy, place)
+    each(EachCall::Convert(from, to, rounding), policy, block, place)
 }
 
 /// Writes `x + y` over each x of the block, where y is the other number at its index. Fails with `CountsDiffer`,
@@ -693,7 +719,7 @@ pub extern "C" fn fixed_i8_add_block(
         (with_as_many block.old others.now (at_policy policy (of_pairs (λ x y. x +ℤ y) (map (λ x. x) block.old) (map (λ x. x) others.now))))
         (block.old, place.old) (block.new, place.new) result }
 {
-    blocks::add(block, others, policy, place)
+    pairs(PairsCall::Add, policy, block, others, place)
 }
 
 /// Writes `x - y` over each x of the block, where y is the other number at its index. Fails with `CountsDiffer`,
@@ -709,7 +735,7 @@ pub extern "C" fn fixed_i8_sub_block(
         (with_as_many block.old others.now (at_policy policy (of_pairs (λ x y. x -ℤ y) (map (λ x. x) block.old) (map (λ x. x) others.now))))
         (block.old, place.old) (block.new, place.new) result }
 {
-    blocks::sub(block, others, policy, place)
+    pairs(PairsCall::Sub, policy, block, others, place)
 }
 
 /// Writes `x y / 2^frac`, rounded down, over each x of the block, where y is the other number at its index. Fails with
@@ -726,7 +752,7 @@ pub extern "C" fn fixed_i8_mul_block(
         (at_fraction 8 frac (with_as_many block.old others.now (at_policy policy (of_pairs (λ x y. exact_mul x y frac) (map (λ x. x) block.old) (map (λ x. x) others.now)))))
         (block.old, place.old) (block.new, place.new) result }
 {
-    blocks::mul(block, others, frac, policy, place)
+    pairs(PairsCall::Mul(frac), policy, block, others, place)
 }
 
 /// Writes x plus `y by / 2^frac`, which is rounded down, over each x of the block, where y is the other number at its
@@ -744,7 +770,7 @@ pub extern "C" fn fixed_i8_mul_add_block(
         (at_fraction 8 frac (with_as_many block.old others.now (at_policy policy (of_pairs (λ x y. exact_mul_add y by x frac) (map (λ x. x) block.old) (map (λ x. x) others.now)))))
         (block.old, place.old) (block.new, place.new) result }
 {
-    blocks::mul_add(block, others, by, frac, policy, place)
+    pairs(PairsCall::MulAdd(by, frac), policy, block, others, place)
 }
 
 /// Writes the sum of the products of the numbers at the same index, over `2^frac` and rounded down once. Fails with

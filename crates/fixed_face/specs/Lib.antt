@@ -13,3 +13,4 @@ pub mod Calls
 pub mod EndsCalls
 pub mod NearCalls
 pub mod TextCalls
+pub mod BlockCalls

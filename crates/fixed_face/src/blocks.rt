@@ -1,14 +1,9 @@
 //! Operations on blocks: arrays of the caller whose numbers have the same number of fraction bits. Numbers are bits, in
-//! units of `2^-frac`.
-//!
-//! Each function writes the result for each number of the block over that number, by the policy with the number
-//! `policy`, and returns 0. It fails with `OutOfRange` only if the policy is `Checked` and a result does not fit:
-//! `place` is then the index of the first such result, and the block is unchanged from there on. Otherwise `place` is
-//! unchanged, and with another code the block is, too.
+//! units of `2^-frac`. [`block_calls`](crate::block_calls) states what each function leaves.
 #![tactic(auto, unfolding(crate::specs::Answers::at_fraction, crate::specs::Places::with_as_many, crate::specs::Roundings::for_rounding, crate::specs::Blocks::for_policy, crate::specs::Blocks::BlockAnswers))]
 
 ghost use Rattle.std.specs.Prelude.{◌≡◌, ◌+ℤ◌, ◌-ℤ◌, ◌*ℤ◌, length, map, neg_ℤ};
-ghost use Rattle.fixed_kernel.specs.Rows.{exact_abs, exact_mul, exact_mul_add};
+ghost use Rattle.fixed_kernel.specs.Rows.{exact_mul, exact_mul_add};
 ghost use Rattle.fixed_convert.specs.Convert.{rounded_convert};
 ghost use Rattle.fixed_block.specs.Blocks.{of_pairs};
 ghost use Rattle.fixed_face.specs.Answers.{at_fraction};
@@ -19,11 +14,11 @@ ghost use Rattle.fixed_face.specs.Roundings.{at_rounding};
 use crate::answer::Code;
 use crate::rounded::rounding_of;
 use fixed_block::{
-    Abs, Add, Convert, Each, Mul, MulAdd, MulInt, Neg, Pairs, Raise, Scale, Sub, checked_each,
+    Add, Convert, Each, Mul, MulAdd, MulInt, Neg, Pairs, Raise, Scale, Sub, checked_each,
     checked_pairs, saturating_each, saturating_pairs, wrapping_each, wrapping_pairs,
 };
 use fixed_convert::Castable;
-use fixed_word::{SignedWord, Word};
+use fixed_word::Word;
 
 /// What a call over a block writes for an exact result that does not fit.
 #[derive(Clone, Copy, PartialEq, Eq, Debug)]
@@ -38,7 +33,7 @@ pub enum BlockPolicy {
 
 /// Returns the policy that has the number, or `None` if none has.
 #[inline]
-pub fn policy_of(number: u32) -> Option<BlockPolicy>
+pub(crate) fn policy_of(number: u32) -> Option<BlockPolicy>
     ensures { result ≡ policy_of number }
 {
     match number {
@@ -53,7 +48,12 @@ pub fn policy_of(number: u32) -> Option<BlockPolicy>
 /// `policy`, and with `OutOfRange` if the policy is `Checked` and a result does not fit. Precondition: the operation is
 /// ready.
 #[inline]
-fn each<T: Word, O: Each<T>>(operation: &O, policy: u32, block: &mut [T], place: &mut usize) -> i32
+pub(crate) fn each<T: Word, O: Each<T>>(
+    operation: &O,
+    policy: u32,
+    block: &mut [T],
+    place: &mut usize,
+) -> i32
     requires { O.each_ready operation.now }
     ensures { BlockAnswers T.value T.SIGNED T.BITS
         (at_policy policy (map (O.exact operation.now) (map T.value block.old)))
@@ -121,7 +121,7 @@ fn pairs<T: Word, O: Pairs<T>>(
 /// Writes `-x` over each x of the block. Fails with `NoPolicy` if no policy has the number `policy`, and with
 /// `OutOfRange` if the policy is `Checked` and a result does not fit.
 #[inline]
-pub fn neg<T: Word>(block: &mut [T], policy: u32, place: &mut usize) -> i32
+pub(crate) fn neg<T: Word>(block: &mut [T], policy: u32, place: &mut usize) -> i32
     ensures { BlockAnswers T.value T.SIGNED T.BITS
         (at_policy policy (map neg_ℤ (map T.value block.old)))
         (block.old, place.old) (block.new, place.new) result }
@@ -129,21 +129,10 @@ pub fn neg<T: Word>(block: &mut [T], policy: u32, place: &mut usize) -> i32
     each(&Neg, policy, block, place)
 }
 
-/// Writes the magnitude of x over each x of the block. Fails with `NoPolicy` if no policy has the number `policy`, and
-/// with `OutOfRange` if the policy is `Checked` and a result does not fit.
-#[inline]
-pub fn abs<T: SignedWord>(block: &mut [T], policy: u32, place: &mut usize) -> i32
-    ensures { BlockAnswers T.value T.SIGNED T.BITS
-        (at_policy policy (map exact_abs (map T.value block.old)))
-        (block.old, place.old) (block.new, place.new) result }
-{
-    each(&Abs, policy, block, place)
-}
-
 /// Writes `x k` over each x of the block, for an integer `k`. Fails with `NoPolicy` if no policy has the number
 /// `policy`, and with `OutOfRange` if the policy is `Checked` and a result does not fit.
 #[inline]
-pub fn mul_int<T: Word>(block: &mut [T], k: T, policy: u32, place: &mut usize) -> i32
+pub(crate) fn mul_int<T: Word>(block: &mut [T], k: T, policy: u32, place: &mut usize) -> i32
     ensures { BlockAnswers T.value T.SIGNED T.BITS
         (at_policy policy (map (λ x. x *ℤ T.value k) (map T.value block.old)))
         (block.old, place.old) (block.new, place.new) result }
@@ -156,7 +145,13 @@ pub fn mul_int<T: Word>(block: &mut [T], k: T, policy: u32, place: &mut usize) -
 /// `NoPolicy` if no policy has the number `policy`, and with `OutOfRange` if the policy is `Checked` and a result does
 /// not fit.
 #[inline]
-pub fn scale<T: Word>(block: &mut [T], by: T, frac: u32, policy: u32, place: &mut usize) -> i32
+pub(crate) fn scale<T: Word>(
+    block: &mut [T],
+    by: T,
+    frac: u32,
+    policy: u32,
+    place: &mut usize,
+) -> i32
     ensures { BlockAnswers T.value T.SIGNED T.BITS
         (at_fraction T.BITS frac (at_policy policy (map (λ x. exact_mul x (T.value by) frac) (map T.value block.old))))
         (block.old, place.old) (block.new, place.new) result }
@@ -171,7 +166,7 @@ pub fn scale<T: Word>(block: &mut [T], by: T, frac: u32, policy: u32, place: &mu
 /// blocks have different lengths, with `NoPolicy` if no policy has the number `policy`, and with `OutOfRange` if the
 /// policy is `Checked` and a result does not fit.
 #[inline]
-pub fn add<T: Word>(block: &mut [T], others: &[T], policy: u32, place: &mut usize) -> i32
+pub(crate) fn add<T: Word>(block: &mut [T], others: &[T], policy: u32, place: &mut usize) -> i32
     ensures { BlockAnswers T.value T.SIGNED T.BITS
         (with_as_many block.old others.now (at_policy policy (of_pairs (λ x y. x +ℤ y) (map T.value block.old) (map T.value others.now))))
         (block.old, place.old) (block.new, place.new) result }
@@ -183,7 +178,7 @@ pub fn add<T: Word>(block: &mut [T], others: &[T], policy: u32, place: &mut usiz
 /// blocks have different lengths, with `NoPolicy` if no policy has the number `policy`, and with `OutOfRange` if the
 /// policy is `Checked` and a result does not fit.
 #[inline]
-pub fn sub<T: Word>(block: &mut [T], others: &[T], policy: u32, place: &mut usize) -> i32
+pub(crate) fn sub<T: Word>(block: &mut [T], others: &[T], policy: u32, place: &mut usize) -> i32
     ensures { BlockAnswers T.value T.SIGNED T.BITS
         (with_as_many block.old others.now (at_policy policy (of_pairs (λ x y. x -ℤ y) (map T.value block.old) (map T.value others.now))))
         (block.old, place.old) (block.new, place.new) result }
@@ -196,7 +191,13 @@ pub fn sub<T: Word>(block: &mut [T], others: &[T], policy: u32, place: &mut usiz
 /// with `NoPolicy` if no policy has the number `policy`, and with `OutOfRange` if the policy is `Checked` and a result
 /// does not fit.
 #[inline]
-pub fn mul<T: Word>(block: &mut [T], others: &[T], frac: u32, policy: u32, place: &mut usize) -> i32
+pub(crate) fn mul<T: Word>(
+    block: &mut [T],
+    others: &[T],
+    frac: u32,
+    policy: u32,
+    place: &mut usize,
+) -> i32
     ensures { BlockAnswers T.value T.SIGNED T.BITS
         (at_fraction T.BITS frac (with_as_many block.old others.now (at_policy policy (of_pairs (λ x y. exact_mul x y frac) (map T.value block.old) (map T.value others.now)))))
         (block.old, place.old) (block.new, place.new) result }
@@ -213,7 +214,7 @@ pub fn mul<T: Word>(block: &mut [T], others: &[T], frac: u32, policy: u32, place
 /// with `NoPolicy` if no policy has the number `policy`, and with `OutOfRange` if the policy is `Checked` and a result
 /// does not fit.
 #[inline]
-pub fn mul_add<T: Word>(
+pub(crate) fn mul_add<T: Word>(
     block: &mut [T],
     others: &[T],
     by: T,
@@ -236,7 +237,7 @@ pub fn mul_add<T: Word>(
 /// `NoPolicy` if no policy has the number `policy`, and with `OutOfRange` if the policy is `Checked` and a result does
 /// not fit.
 #[inline]
-pub fn convert<T: Castable + Word>(
+pub(crate) fn convert<T: Castable + Word>(
     block: &mut [T],
     from: u32,
     to: u32,

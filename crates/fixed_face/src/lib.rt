@@ -6,7 +6,8 @@
 
 pub mod answer;
 pub mod arrays;
-pub mod blocks;
+pub mod block_calls;
+mod blocks;
 pub mod calls;
 pub mod conversions;
 pub mod dots;
