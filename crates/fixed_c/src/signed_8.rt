@@ -34,9 +34,9 @@ ghost use Rattle.fixed_face.specs.Roundings.{at_rounding};
 ghost use Rattle.fixed_face.specs.Texts.{TextAnswers, at_places, or_code};
 ghost use Rattle.fixed_c.specs.Words.{AnswersI8, EndsI8Answers};
 
-use fixed_face::answer::{Code, side_of};
+use fixed_face::answer::Code;
 use fixed_face::block_calls::{EachCall, PairsCall, put_each, put_pairs};
-use fixed_face::calls::{Call, result_of};
+use fixed_face::calls::{Call, put, put_result};
 use fixed_face::ends_calls::{EndsCall, ends_of};
 use fixed_face::texts::{TextCall, put_text};
 use fixed_face::{conversions, dots, one_sign, texts};
@@ -65,19 +65,11 @@ pub struct EndsI8 {
 
 impl AnswerI8 {
     /// Writes the outcome and returns 0; or returns the number of the code, and leaves the result unchanged.
-    #[inline]
-    #[tactic(auto, unfolding(fixed_face::specs::Answers::CallAnswers, fixed_face::specs::Calls::IsResultOf))]
+    #[inline(always)]
     fn leave(&mut self, answer: Result<Outcome<i8>, Code>) -> i32
         ensures { (given : Result ℤ Code) → IsResultOf (λ x. x) true 8 given answer → AnswersI8 given self.old self.new result }
     {
-        match answer {
-            Ok(outcome) => {
-                self.bits = outcome.wrapped;
-                self.side = side_of(outcome.side);
-                0
-            }
-            Err(code) => code.number(),
-        }
+        put(answer, &mut self.bits, &mut self.side)
     }
 
     /// Writes the outcome of a call, or returns the number of its code, as `leave` does.
@@ -85,7 +77,7 @@ impl AnswerI8 {
     fn take(&mut self, call: Call<i8>) -> i32
         ensures { AnswersI8 (given (λ x. x) 8 call) self.old self.new result }
     {
-        self.leave(result_of(call))
+        put_result(call, &mut self.bits, &mut self.side)
     }
 }
 

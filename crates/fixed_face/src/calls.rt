@@ -1,11 +1,14 @@
 //! The calls whose result is an outcome, each with its operands.
 //!
 //! Each word's calls pass their operands as a [`Call`], so that one function has the operations of all words.
-#![tactic(auto, unfolding(crate::specs::Calls::IsResultOf))]
+#![tactic(auto, unfolding(crate::specs::Calls::IsResultOf, crate::specs::Answers::CallAnswers))]
 
+ghost use Rattle.std.specs.Prelude.{ℤ, Result};
+ghost use Rattle.fixed_face.specs.declared.answer.Code.{Code};
+ghost use Rattle.fixed_face.specs.Answers.{CallAnswers};
 ghost use Rattle.fixed_face.specs.Calls.{IsResultOf, given};
 
-use crate::answer::Code;
+use crate::answer::{Code, side_of};
 use crate::{conversions, products, quotients, remainders, roots, rounded};
 use fixed_convert::Castable;
 use fixed_kernel::{add_of, dist_of, mul_int_of, neg_of, sub_of};
@@ -110,4 +113,29 @@ pub fn result_of<T: Castable + Word>(call: Call<T>) -> Result<Outcome<T>, Code>
         Call::ConvertUnsigned(number, from, to, by) => conversions::convert(number, from, to, by),
         Call::FromDouble(number, frac, by) => conversions::from_double(number, frac, by),
     }
+}
+
+/// Writes an outcome, its wrapped number and its side, and returns 0; or returns the number of the code, and leaves both
+/// unchanged.
+#[inline]
+pub fn put<T: Word>(answer: Result<Outcome<T>, Code>, bits: &mut T, side: &mut i32) -> i32
+    ensures { (given : Result ℤ Code) → IsResultOf T.value T.SIGNED T.BITS given answer
+        → CallAnswers T.value T.SIGNED T.BITS given (bits.old, side.old) (bits.new, side.new) result }
+{
+    match answer {
+        Ok(outcome) => {
+            *bits = outcome.wrapped;
+            *side = side_of(outcome.side);
+            0
+        }
+        Err(code) => code.number(),
+    }
+}
+
+/// Writes the outcome of a call, or returns the number of its code, as [`put`] does.
+#[inline(always)]
+pub fn put_result<T: Castable + Word>(call: Call<T>, bits: &mut T, side: &mut i32) -> i32
+    ensures { CallAnswers T.value T.SIGNED T.BITS (given T.value T.BITS call) (bits.old, side.old) (bits.new, side.new) result }
+{
+    put(result_of(call), bits, side)
 }
