@@ -1,17 +1,13 @@
 -- Whether a sum or a difference of two signed words fits, by signs.
 use Rattle.std.proofs.Common.{◌≡◌, ◌^◌, ◌<◌, ◌≤ℤ◌, ◌<ℤ◌, ◌+ℤ◌, ◌-ℤ◌, ◌-◌, ℕ, ℤ, Bool, true, false, pos, neg_ℤ, refl, sym, ◌∙◌, arith, inl, inr}
 use Rattle.std.specs.Prelude.{◌↔◌, IsTrue}
-use Rattle.std.proofs.lemmas.Bool.{false≢true}
+use Rattle.std.proofs.lemmas.Bool.{false_from_ne_true, false≢true}
 use Rattle.std.proofs.lemmas.Int.{ints}
 use Rattle.std.proofs.lemmas.Nat.{pow_pos}
 use mathlib.Core.Bool.{beq, not}
 use Rattle.fixed_word.specs.Format.{InRange, fits, wrap}
 use Rattle.fixed_word.proofs.Nearest.{cases_int, fits_is, places}
 use Rattle.fixed_word.proofs.Wraps.{double, neg-times, wrap_same, wrap_unique}
-
-no_by : (b : Bool) (P : Type 0) → (IsTrue b ↔ P) → (P → ⊥) → b ≡ false
-no_by false P same never = refl
-no_by true P same never = absurd (never (same.0 refl))
 
 -- a number fits exactly if its sign stays when it is wrapped
 pub sign_kept : (n : ℕ) (z w : ℤ) (p r : Bool) → 0 < n → neg_ℤ (pos (2 ^ n)) ≤ℤ z → z <ℤ pos (2 ^ n) → (IsTrue p ↔ (z <ℤ pos 0)) → w ≡ wrap true n z → (IsTrue r ↔ (w <ℤ pos 0)) → beq r p ≡ fits true n z
@@ -21,16 +17,16 @@ sign_kept n z w p r some least most sign is left =
       | inl below ↦
           let moved = is ∙ wrap_unique true n z (z +ℤ pos (2 ^ n)) some (omega (arith, ints), omega (arith, ints)) (neg_ℤ (pos 1), omega (arith, ints, neg-times 1 (2 ^ n))) in
           let p_is : p ≡ true = sign.1 (omega (arith, ints)) in
-          let r_is : r ≡ false = no_by r (w <ℤ pos 0) left (λ l. absurd (omega (arith, ints))) in
-          let misses : fits true n z ≡ false = no_by (fits true n z) (InRange true n z) (fits_is true n z) (λ f. let low = f.0 in absurd (omega (arith, ints))) in
+          let r_is : r ≡ false = false_from_ne_true r (λ t. let l = left.0 t in absurd (omega (arith, ints))) in
+          let misses : fits true n z ≡ false = false_from_ne_true (fits true n z) (λ t. let low = ((fits_is true n z).0 t).0 in absurd (omega (arith, ints))) in
           rw (p_is, r_is, misses) refl
       | inr rest ↦ elim rest [
         | inl above ↦
             let moved = is ∙ wrap_unique true n z (z -ℤ pos (2 ^ n)) some (omega (arith, ints), omega (arith, ints)) (pos 1, omega (arith, ints)) in
             let power = pow_pos (n - 1) in
-            let p_is : p ≡ false = no_by p (z <ℤ pos 0) sign (λ l. absurd (omega (arith, ints))) in
+            let p_is : p ≡ false = false_from_ne_true p (λ t. let l = sign.0 t in absurd (omega (arith, ints))) in
             let r_is : r ≡ true = left.1 (omega (arith, ints)) in
-            let misses : fits true n z ≡ false = no_by (fits true n z) (InRange true n z) (fits_is true n z) (λ f. let high = f.1 in absurd (omega (arith, ints))) in
+            let misses : fits true n z ≡ false = false_from_ne_true (fits true n z) (λ t. let high = ((fits_is true n z).0 t).1 in absurd (omega (arith, ints))) in
             rw (p_is, r_is, misses) refl
         | inr within ↦
             let same = is ∙ wrap_same true n z some within in
