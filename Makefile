@@ -3,6 +3,7 @@
 #     make                             builds the static and the shared library
 #     make install PREFIX=/usr/local   installs the header, both libraries, and the files for pkg-config and CMake
 #     make uninstall PREFIX=..         removes them
+#     make package                     writes src and rust/c/src, of which Cargo builds, from the proved sources
 #
 # DESTDIR is a folder that a package is made in: files are installed below it, and none of them names it. LIBDIR is the
 # folder of the libraries, $(PREFIX)/lib. STATIC is the static library that is installed. It may be the one that
@@ -26,7 +27,7 @@ BUILT := rust/c/target/install
 CARGO_STATIC := $(BUILT)/release/libfixed_c.a
 STATIC ?= $(CARGO_STATIC)
 SHARED := $(BUILT)/release/libfixed_c.so
-SOURCES := $(wildcard crates/*/src/*.rt rust/*.rs rust/script/* rust/c/*.rs) Cargo.toml rust/c/Cargo.toml
+SOURCES := $(wildcard src/*.rs src/*/*.rs rust/c/src/*.rs rust/c/src/*/*.rs) Cargo.toml rust/c/Cargo.toml
 
 # What the static library needs beside what a C compiler links, as `rustc --print native-static-libs` lists it.
 STATIC_NEEDS := -lutil -lrt -lpthread -lm -ldl
@@ -38,7 +39,7 @@ INSTALLED := $(INCLUDEDIR)/fixed.h $(LIBDIR)/libfixed_c.a $(LIBDIR)/libfixed_c.s
 FILLED := sed -e 's|@VERSION@|$(VERSION)|' -e 's|@SONAME@|$(SONAME)|' -e 's|@LIBDIR@|$(LIBDIR)|' \
 	-e 's|@INCLUDEDIR@|$(INCLUDEDIR)|' -e 's|@STATIC_NEEDS@|$(STATIC_NEEDS)|'
 
-.PHONY: all install uninstall
+.PHONY: all install uninstall package
 
 all: $(CARGO_STATIC) $(SHARED)
 
@@ -63,3 +64,6 @@ install: $(STATIC) $(SHARED)
 uninstall:
 	rm -f $(addprefix $(DESTDIR),$(INSTALLED))
 	-rmdir $(DESTDIR)$(INCLUDEDIR) $(DESTDIR)$(CONFIGS)
+
+package:
+	$(CARGO) run --quiet --offline --manifest-path rust/script/Cargo.toml

@@ -1,8 +1,8 @@
 //! `#[must_use]` on each public call that returns a value and changes nothing: without its result such a call does
 //! nothing.
 
-use crate::script::edits::{Edits, bytes};
-use crate::script::items::{Function, Item, Part, Source};
+use crate::edits::{Edits, bytes};
+use crate::items::{Function, Item, Part, Source};
 
 /// The edits that mark each such call of a source.
 pub fn mark(source: &Source, edits: &mut Edits) {

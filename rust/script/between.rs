@@ -1,8 +1,6 @@
 //! The conversions between words that Rust wants spelled out for each pair, since a pair has `From` or `TryFrom` and
 //! not both. They are not proved: each forwards to a proved call.
 
-use std::{env, fs};
-
 /// The words: the name, how many bits it has, and whether it holds numbers below 0.
 const WORDS: [(&str, u32, bool); 8] = [
     ("i8", 8, true),
@@ -98,11 +96,10 @@ impl<const F: u32> From<Fixed<$Source, F>> for $Float {
 }
 ";
 
-/// Writes the conversions as a file of Rust.
-pub fn write_between(name: &str) -> Result<(), String> {
-    let folder = env::var("OUT_DIR").map_err(|error| error.to_string())?;
-    let text: String = WORDS.map(of_source).concat();
-    fs::write(format!("{folder}/{name}"), text).map_err(|error| error.to_string())
+/// The conversions as a file of Rust.
+pub fn between() -> String {
+    let head = "// Made by `make package` of the tables in rust/script/between.rs: changes go there.\n\nuse super::{\n    Castable, ConversionError, Distinct, Fixed, FromNum, Narrower, Numeric, Order, ToFloat, exact, holds,\n};\nuse core::cmp::Ordering;\n\n";
+    head.to_string() + &WORDS.map(of_source).concat()
 }
 
 /// What a word has as a source.

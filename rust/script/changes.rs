@@ -1,8 +1,8 @@
 //! Forms that Rust writes otherwise, by a table; and derives, attributes and the names of crates.
 
-use crate::script::edits::{Edits, bytes};
-use crate::script::items::Source;
-use crate::script::tokens::code;
+use crate::edits::{Edits, bytes};
+use crate::items::Source;
+use crate::tokens::code;
 
 /// What a source has, and what Rust has in its place.
 const CHANGES: &str = include_str!("changes.txt");

@@ -1,8 +1,8 @@
 //! The conditions of calls: what Rust tests, and says in docs, where the proved language has a proof.
 
-use crate::script::items::Source;
-use crate::script::table::Table;
-use crate::script::tokens::code;
+use crate::items::Source;
+use crate::table::Table;
+use crate::tokens::code;
 use std::ops::Range;
 
 /// What docs say of the conditions `$` of a kind, and how the kind is asserted, with `$` for the test and its words.

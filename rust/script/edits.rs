@@ -1,6 +1,6 @@
 //! Changes of a source. What no edit names stays letter for letter.
 
-use crate::script::items::Source;
+use crate::items::Source;
 use std::cmp::Reverse;
 use std::ops::Range;
 

@@ -1,13 +1,13 @@
 //! A proved source as Rust: contracts, ghost items and what speaks to the prover go, code and docs stay letter for
 //! letter. The contract of a public call joins its docs, and its conditions are asserted before its body.
 
-use crate::script::changes::change;
-use crate::script::conditions::{Condition, Known, assertions, doc_lines, docs, facts_of};
-use crate::script::edits::{Edits, bytes};
-use crate::script::items::{Function, Item, Part, Source};
-use crate::script::pages::Pages;
-use crate::script::tokens::Kind;
-use crate::script::traits::{Trait, Traits, names_in};
+use crate::changes::change;
+use crate::conditions::{Condition, Known, assertions, doc_lines, docs, facts_of};
+use crate::edits::{Edits, bytes};
+use crate::items::{Function, Item, Part, Source};
+use crate::pages::Pages;
+use crate::tokens::Kind;
+use crate::traits::{Trait, Traits, names_in};
 use std::ops::Range;
 
 /// The traits whose implementations go: in the proved language a `Clone` may fail, and `Model` speaks to the prover.
@@ -154,7 +154,7 @@ impl Erasing<'_> {
         let indent = &" ".repeat(before.len() - before.trim_end_matches(' ').len());
         if self.is_offered(item, function) && self.has_docs(item) {
             edits.insert(
-                start,
+                self.docs_end(item),
                 &doc_lines(&self.docs(&path, &contract, &conditions)?, indent),
             );
         }
@@ -227,6 +227,13 @@ impl Erasing<'_> {
     fn is_of_trait(&self, item: &Item) -> bool {
         let block = item.block.map(|block| &self.source.items[block].part);
         matches!(block, Some(Part::Trait(_) | Part::Impl(Some(_), _)))
+    }
+
+    /// Where the docs above an item end: before its first attribute, if one is behind them.
+    fn docs_end(&self, item: &Item) -> usize {
+        let is_docs = |at: &usize| self.source.tokens[*at].text.starts_with("///");
+        let last = (item.above..item.place.start).rev().find(is_docs);
+        self.source.tokens[last.map_or(item.place.start, |at| at + 1)].at
     }
 
     fn has_docs(&self, item: &Item) -> bool {

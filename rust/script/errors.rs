@@ -1,6 +1,6 @@
 //! What the derive of `thiserror` writes in the proved language: the message of each variant of an error.
 
-use crate::script::items::Source;
+use crate::items::Source;
 
 /// `Display` and `Error` of each type of a file that derives `Error`. A field in a message is one without a name in an
 /// enum, and one with a name in a struct.

@@ -1,6 +1,6 @@
 //! The items of a source: functions with their contracts, blocks with items of their own, and what is ghost.
 
-use crate::script::tokens::{Kind, Token, tokens};
+use crate::tokens::{Kind, Token, tokens};
 use std::ops::Range;
 
 /// A source as tokens, and what they are. Ranges are those of tokens.

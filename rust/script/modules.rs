@@ -1,18 +1,18 @@
 //! Crates as modules of Rust: each file becomes an inline module where its `mod` item stood.
 
-use crate::script::attributes::mark;
-use crate::script::conditions::Known;
-use crate::script::edits::{Edits, bytes};
-use crate::script::erasing::Erasing;
-use crate::script::errors::errors;
-use crate::script::items::{Item, Part, Source};
-use crate::script::names::Names;
-use crate::script::pages::Pages;
-use crate::script::traits::{Traits, imports};
+use crate::attributes::mark;
+use crate::conditions::Known;
+use crate::edits::{Edits, bytes};
+use crate::erasing::Erasing;
+use crate::errors::errors;
+use crate::items::{Item, Part, Source};
+use crate::names::Names;
+use crate::pages::Pages;
+use crate::traits::{Traits, imports};
 use std::collections::BTreeMap;
 use std::ops::Range;
 use std::path::Path;
-use std::{env, fs};
+use std::fs;
 
 /// The crates of the library, lowest first, without the `fixed_` in front.
 pub const LIBRARY: [&str; 26] = [
@@ -74,15 +74,16 @@ pub const SHARED: [&str; 3] = [
     "elementary/wide",
 ];
 
-/// The files that take memory, or serve the runs that do, and so are left out where there is none.
-pub const LEFT_OUT: [&str; 20] = [
+/// The files of the guide that take memory, which the tests of the library leave out.
+pub const LEFT_OUT: [&str; 2] = ["guide/arriving", "guide/desk"];
+
+/// The files that take memory, or serve the runs that do, and so are compiled with some features.
+pub const GATED: [&str; 18] = [
     "filter/bank",
     "filter/channel",
     "filter/fault",
     "filter/header",
     "filter/filter_script",
-    "guide/arriving",
-    "guide/desk",
     "interval/fault",
     "interval/header",
     "interval/line",
@@ -101,47 +102,35 @@ pub const LEFT_OUT: [&str; 20] = [
 /// The file whose module comes first in its crate, so that the page of `Fixed` begins with its calls.
 pub const FIRST: &str = "num/format";
 
-/// What the proved language has by itself, for crates that take memory.
-pub const MEMORY: &str = "use crate::memory::{Drop, String, Vec};\n";
+/// What the proved language has by itself, for files that take memory; and the casts of words, which std has from Rust
+/// 1.87 on, by their calls.
+const IMPORTS: [(&str, &str, &[&str]); 5] = [
+    // In a derive the name goes.
+    ("Drop", "crate::memory::Drop", &[":", "+"]),
+    ("String", "crate::memory::String", &[]),
+    ("Vec", "crate::memory::Vec", &[]),
+    ("cast_signed", "crate::casts::CastSigned", &["."]),
+    ("cast_unsigned", "crate::casts::CastUnsigned", &["."]),
+];
 
-/// What a file names that casts words: std has these calls from Rust 1.87 on.
-pub const CASTS: &str = "use crate::casts::{CastSigned, CastUnsigned};\n";
+/// With which features the files of `GATED` are compiled, by their crate. The calculator needs the text that it writes.
+const FEATURES: [(&str, &str); 4] = [
+    ("filter", "feature = \"runs\""),
+    ("interval", "feature = \"runs\""),
+    ("poly", "feature = \"runs\""),
+    ("text", "any(feature = \"calc\", feature = \"runs\")"),
+];
 
-/// Writes the crates of the library with what the docs of their calls have, and the pages of the docs.
-pub fn write_library(crates: &[&str], with_memory: &[&str]) -> Result<(), String> {
-    let pages = Pages::of(crates, with_memory)?;
-    let library = written_with(Path::new("crates"), crates, with_memory, Some(&pages))?;
-    pages.examples.end()?;
-    write_file("library.rs", &library)?;
-    write_file("pages.rs", &pages.definitions.modules(crates)?)
-}
-
-/// Writes crates as the modules of one file. Those of `with_memory` take memory, and the others have no module that
-/// does.
-pub fn write(name: &str, crates: &[&str], with_memory: &[&str]) -> Result<(), String> {
-    write_file(name, &written(Path::new("crates"), crates, with_memory)?)
-}
-
-fn write_file(name: &str, text: &str) -> Result<(), String> {
-    let folder = env::var("OUT_DIR").map_err(|error| error.to_string())?;
-    fs::write(format!("{folder}/{name}"), text).map_err(|error| error.to_string())
-}
-
-/// Crates, which are folders of `top`, as modules of Rust.
-pub fn written(top: &Path, crates: &[&str], with_memory: &[&str]) -> Result<String, String> {
-    written_with(top, crates, with_memory, None)
-}
-
-/// The same, with what the docs of their calls have.
-fn written_with(
+/// Crates, which are folders of `top`, as files of Rust, each by its path below the folder of the package's sources.
+/// Where there are pages, the docs of calls have examples, and links to definitions.
+pub fn written(
     top: &Path,
     crates: &[&str],
-    with_memory: &[&str],
     pages: Option<&Pages>,
-) -> Result<String, String> {
+) -> Result<BTreeMap<String, String>, String> {
     let mut files = BTreeMap::new();
     for krate in crates {
-        gather(top, krate, root(krate), with_memory, &mut files)?;
+        gather(top, krate, root(krate), &mut files)?;
     }
     let mut modules = Modules::default();
     for (name, file) in &files {
@@ -153,17 +142,15 @@ fn written_with(
             .map_err(|error| file.named(&error))?;
         modules.sources.insert(name, (file, source));
     }
-    modules.with_memory = with_memory;
     modules.pages = pages;
     let known = Known::new();
-    let mut out = String::new();
-    for krate in crates {
-        let text = modules.written(&format!("{krate}/{}", root(krate)), &known)?;
-        out += &format!("pub mod {krate} {{\n{text}}}\n");
+    let mut out = BTreeMap::new();
+    let is_written = |name: &&String| !LEFT_OUT.contains(&name.as_str());
+    for name in files.keys().filter(is_written) {
+        out.insert(path_of(name), modules.written(name, &known)?);
     }
     let mut all = LIBRARY.iter().chain(&CALCULATOR);
-    let is_whole =
-        all.all(|krate| crates.contains(krate)) && files.values().all(|file| !file.is_left_out);
+    let is_whole = all.all(|krate| crates.contains(krate));
     let unused = known.unused().into_iter().filter(|_| is_whole);
     let unmatched: Vec<String> = unmatched(crates, &files).chain(unused).collect();
     if unmatched.is_empty() {
@@ -171,6 +158,38 @@ fn written_with(
     } else {
         Err(unmatched.join("\n"))
     }
+}
+
+/// Where a file of a crate stands: `num/format` in `num/format.rs`, and what a crate begins with in `num/mod.rs`.
+pub fn path_of(name: &str) -> String {
+    let (krate, file) = name.split_once('/').unwrap_or((name, ""));
+    let folder = place(krate).replace("::", "/");
+    match file {
+        "adapters" => format!("{folder}.rs"),
+        "lib" => format!("{folder}/mod.rs"),
+        file => format!("{folder}/{file}.rs"),
+    }
+}
+
+/// The module of a crate: those of tests stand in one.
+pub fn place(krate: &str) -> String {
+    match krate.strip_prefix("tests_") {
+        Some(of) => format!("tests::{of}"),
+        None if krate == "guide" => "tests::guide".to_string(),
+        None => krate.to_string(),
+    }
+}
+
+/// With which features a file is compiled, if it is not with each.
+fn features(name: &str) -> Option<&'static str> {
+    let krate = name.split('/').next().unwrap_or_default();
+    let of_crate = FEATURES.iter().find(|(of, _)| *of == krate);
+    of_crate.filter(|_| GATED.contains(&name)).map(|(_, features)| *features)
+}
+
+/// The folder of a crate.
+fn folder(krate: &str) -> String {
+    format!("fixed_{krate}").replace("fixed_tests_", "tests_")
 }
 
 /// The file in which a crate begins.
@@ -183,7 +202,7 @@ fn unmatched<'a>(
     crates: &'a [&str],
     files: &'a BTreeMap<String, File>,
 ) -> impl Iterator<Item = String> + 'a {
-    let entries = INSIDE.iter().chain(&SHARED).chain(&LEFT_OUT);
+    let entries = INSIDE.iter().chain(&SHARED).chain(&LEFT_OUT).chain(&GATED);
     let of_crates = entries.filter(|entry| {
         crates
             .iter()
@@ -197,7 +216,6 @@ fn unmatched<'a>(
 struct File {
     path: String,
     text: String,
-    is_left_out: bool,
 }
 
 impl File {
@@ -212,29 +230,20 @@ fn gather(
     top: &Path,
     krate: &str,
     name: &str,
-    with_memory: &[&str],
     files: &mut BTreeMap<String, File>,
 ) -> Result<(), String> {
-    let folder = format!("fixed_{krate}").replace("fixed_tests_", "tests_");
-    let path = format!("{}/{folder}/src/{name}.rt", top.display());
+    let path = format!("{}/{}/src/{name}.rt", top.display(), folder(krate));
     let text = fs::read_to_string(&path).map_err(|error| format!("{path}: {error}"))?;
     let source = Source::new(&text).map_err(|error| format!("{path}:{error}"))?;
     let key = format!("{krate}/{name}");
-    let is_left_out = LEFT_OUT.contains(&key.as_str()) && !with_memory.contains(&krate);
+    let is_left_out = LEFT_OUT.contains(&key.as_str());
     for item in source.items.iter().filter(|_| !is_left_out) {
         if let Part::Module(module) = item.part {
-            gather(top, krate, source.sign(module), with_memory, files)?;
+            gather(top, krate, source.sign(module), files)?;
         }
     }
     let text = text.clone();
-    files.insert(
-        key,
-        File {
-            path,
-            text,
-            is_left_out,
-        },
-    );
+    files.insert(key, File { path, text });
     Ok(())
 }
 
@@ -243,19 +252,17 @@ fn gather(
 struct Modules<'a> {
     sources: BTreeMap<&'a str, (&'a File, Source<'a>)>,
     traits: Traits,
-    with_memory: &'a [&'a str],
     pages: Option<&'a Pages>,
 }
 
 impl Modules<'_> {
-    /// A file in Rust, with those that it names.
+    /// A file in Rust.
     fn written(&self, name: &str, known: &Known) -> Result<String, String> {
         let (file, source) = self
             .sources
             .get(name)
             .ok_or_else(|| format!("no file {name}"))?;
         let krate = name.split('/').next().unwrap_or_default();
-        let has_memory = self.with_memory.contains(&krate);
         let is_library = LIBRARY.contains(&krate) || CALCULATOR.contains(&krate);
         let is_offered = is_library && !INSIDE.contains(&name);
         let erasing = Erasing {
@@ -271,16 +278,16 @@ impl Modules<'_> {
         if is_library {
             mark(source, &mut edits);
         }
-        let left_out = self.modules(name, known, &mut edits)?;
-        let names = Names {
-            krate,
-            is_library,
-            left_out,
-        };
+        self.modules(name, &mut edits)?;
+        let names = Names { krate, is_library };
         names.edit(source, &mut edits);
-        let memory = if has_memory { MEMORY } else { "" };
-        let casts = if source.text.contains(".cast_") { CASTS } else { "" };
-        Ok(edits.applied(source.text) + memory + casts + &errors(source))
+        if is_library && !["lib", "laws"].contains(&name.rsplit('/').next().unwrap_or_default()) {
+            import(source, &mut edits);
+        }
+        let text = edits.applied(&file.text) + &errors(source);
+        let (folder, name) = (folder(krate), name.rsplit('/').next().unwrap_or_default());
+        let head = format!("// Made by `make package` of crates/{folder}/src/{name}.rt, which is proved: changes go there.");
+        Ok(format!("{head}\n\n{}", spaced(&text)))
     }
 
     /// The names that a crate offers of one of its files.
@@ -301,55 +308,83 @@ impl Modules<'_> {
         uses.flat_map(|item| offered(source, &item.part)).collect()
     }
 
-    /// The edits for the modules that a file names. It says which names would be offered by those that are left out.
-    fn modules(&self, name: &str, known: &Known, edits: &mut Edits) -> Result<Vec<String>, String> {
+    /// The edits for the modules that a file names: who sees them, and with which features.
+    fn modules(&self, name: &str, edits: &mut Edits) -> Result<(), String> {
         let (file, source) = &self.sources[name];
         let krate = name.split('/').next().unwrap_or_default();
-        let mut left_out = Vec::new();
         for item in &source.items {
             let (Part::Module(start) | Part::Use(Range { start, .. })) = &item.part else {
                 continue;
             };
             let path = format!("{krate}/{}", source.sign(source.past_root(*start)));
-            let found = self.sources.get(path.as_str());
-            let is_inside = INSIDE.contains(&path.as_str()) && source.is_public(item.place.start);
-            match &item.part {
-                _ if found.is_some_and(|(file, _)| file.is_left_out) => {
-                    left_out.extend(offered(source, &item.part));
-                    edits.remove(source, source.with_above(item));
-                }
-                Part::Use(_) if is_inside => {
-                    let public = item.place.start..item.place.start + 1;
-                    edits.replace(bytes(source, &public), "pub(crate)");
-                }
-                Part::Module(_) if is_inside => {
-                    let error =
-                        source.at_line(*start, "a public module of a file that is not offered");
-                    return Err(file.named(&error));
-                }
-                Part::Module(_) if SHARED.contains(&path.as_str()) => {
-                    let head = source.sign(*start);
-                    let text = self.written(&path, known)?;
-                    let module = format!("pub(crate) mod {head} {{\n{text}}}");
-                    edits.replace(bytes(source, &item.place), &module);
-                }
-                Part::Module(_) if path == FIRST => {
-                    let text = self.written(&path, known)?;
-                    let head = source.slice(&(item.place.start..*start + 1));
-                    edits.insert(first_module(source), &format!("{head} {{\n{text}}}\n"));
-                    edits.remove(source, item.place.clone());
-                }
-                Part::Module(_) => {
-                    let text = self.written(&path, known)?;
-                    let end = source.tokens[item.place.end - 1].end();
-                    let start = source.tokens[*start].end();
-                    edits.replace(start..end, &format!(" {{\n{text}}}"));
-                }
-                _ => {}
+            let path = path.as_str();
+            let is_module = matches!(item.part, Part::Module(_));
+            let is_inside = INSIDE.contains(&path) && source.is_public(item.place.start);
+            let place = bytes(source, &item.place);
+            if LEFT_OUT.contains(&path) {
+                edits.remove(source, source.with_above(item));
+                continue;
+            }
+            if is_inside && is_module {
+                let error = source.at_line(*start, "a public module of a file that is not offered");
+                return Err(file.named(&error));
+            }
+            if let Some(features) = features(path) {
+                edits.insert(place.start, &format!("#[cfg({features})]\n"));
+            }
+            if is_inside || is_module && SHARED.contains(&path) {
+                let public = item.place.start..item.place.start + 1;
+                edits.replace(bytes(source, &public), "pub(crate)");
+            }
+            if is_module && path == FIRST {
+                edits.insert(first_module(source), &format!("{}\n\n", source.slice(&item.place)));
+                edits.remove(source, item.place.clone());
             }
         }
-        Ok(left_out)
+        Ok(())
     }
+}
+
+/// What a file imports beside what its source does, before its first import or item.
+fn import(source: &Source, edits: &mut Edits) {
+    let is_named = |(name, _, before): &&(&str, &str, &[&str])| {
+        let is_behind = |sign| before.is_empty() || before.contains(&sign);
+        let mut all = 1..source.tokens.len();
+        all.any(|at| source.sign(at) == *name && is_behind(source.sign(at - 1)))
+    };
+    let paths = IMPORTS.iter().filter(is_named).map(|(_, path, _)| format!("use {path};\n"));
+    let paths: String = paths.collect();
+    let is_import = |item: &&Item| matches!(item.part, Part::Use(_));
+    let is_code = |item: &&Item| !matches!(item.part, Part::Ghost);
+    let mut items = source.items.iter();
+    let first = items.clone().find(is_import).or_else(|| items.find(is_code));
+    if let Some(first) = first.filter(|_| !paths.is_empty()) {
+        let start = bytes(source, &source.with_above(first)).start;
+        let gap = if is_import(&first) { "" } else { "\n" };
+        edits.insert(start, &format!("{paths}{gap}"));
+    }
+}
+
+/// A text in which no two blank lines follow another, and none begins or ends it or a block.
+fn spaced(text: &str) -> String {
+    let mut out = String::new();
+    for line in text.trim().lines() {
+        let is_blank = line.trim().is_empty();
+        if line.trim() == "}" && out.ends_with("\n\n") {
+            out.pop();
+        }
+        if line.trim() == "}" && out.ends_with("{\n") {
+            out.pop();
+            out += "}\n";
+            continue;
+        }
+        let is_needless = out.ends_with("\n\n") || out.ends_with("{\n");
+        if !(is_blank && is_needless) {
+            out += line.trim_end();
+            out += "\n";
+        }
+    }
+    out
 }
 
 /// Where the first module of a file is named.

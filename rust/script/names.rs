@@ -1,16 +1,14 @@
 //! The names of crates, which are modules of one crate here. The front crate `fixed` is the package itself.
 
-use crate::script::edits::{Edits, bytes};
-use crate::script::items::Source;
-use crate::script::modules::STRICT;
-use crate::script::tokens::{Kind, Token};
+use crate::edits::{Edits, bytes};
+use crate::items::Source;
+use crate::modules::{STRICT, place};
+use crate::tokens::{Kind, Token};
 
 /// How the names of crates are written in a crate.
 pub struct Names<'a> {
     pub krate: &'a str,
     pub is_library: bool,
-    /// What docs do not link to, since it is left out.
-    pub left_out: Vec<String>,
 }
 
 impl Names<'_> {
@@ -41,9 +39,9 @@ impl Names<'_> {
         };
         match name.strip_prefix("fixed_") {
             Some("num") => format!("crate::{numbers}"),
-            Some(other) => format!("crate::{other}"),
+            Some(other) => format!("crate::{}", place(other)),
             None => match name {
-                "crate" => format!("crate::{}", self.krate),
+                "crate" => format!("crate::{}", place(self.krate)),
                 "fixed" => "crate".to_string(),
                 "std" if self.is_library => "core".to_string(),
                 _ => name.to_string(),
@@ -54,11 +52,7 @@ impl Names<'_> {
     fn comment(&self, comment: &Token) -> String {
         let text = comment
             .text
-            .replace("](crate::", &format!("](crate::{}::", self.krate));
-        let text = text.replace("](fixed_", "](crate::");
-        let without = |text: String, name: &String| {
-            text.replace(&format!("[`{name}`]"), &format!("`{name}`"))
-        };
-        self.left_out.iter().fold(text, without)
+            .replace("](crate::", &format!("](crate::{}::", place(self.krate)));
+        text.replace("](fixed_", "](crate::")
     }
 }

@@ -1,8 +1,8 @@
 //! The pages of the docs beside those of items: the guide, the definitions, and a page for each file of definitions in
 //! `crates/*/specs`, to which the contracts of calls link.
 
-use crate::script::examples::Examples;
-use std::collections::BTreeSet;
+use crate::examples::Examples;
+use std::collections::{BTreeMap, BTreeSet};
 use std::fs;
 
 /// What the docs of a library have beside the contracts of its calls.
@@ -93,16 +93,30 @@ impl Definitions {
         own.or(candidates.last()).copied()
     }
 
-    /// The guide, the definitions and their files as modules of Rust.
-    pub fn modules(&self, krates: &[&str]) -> Result<String, String> {
+    /// The guide, the definitions and their files as files of Rust, each a module without items. Those of some crates
+    /// stand where the calculator does.
+    pub fn files(&self, krates: &[&str], calculator: &[&str]) -> Result<BTreeMap<String, String>, String> {
         let guide = linked(&read("docs/GUIDE.md")?, krates)?;
         let definitions = self.named(linked(&read("docs/DEFINITIONS.md")?, krates)?);
-        let files: Vec<String> = self.files.iter().map(File::page).collect();
-        let inner = format!("{}\n{}", inner_docs(&definitions), files.concat());
-        Ok(format!(
-            "pub mod guide {{\n{}}}\npub mod definitions {{\n{inner}}}\n",
-            inner_docs(&guide)
-        ))
+        let item = |file: &File| {
+            let is_gated = calculator.contains(&file.krate.as_str());
+            let gate = if is_gated { "#[cfg(feature = \"calc\")]\n" } else { "" };
+            format!("{gate}pub mod {};\n", file.module())
+        };
+        let items: String = self.files.iter().map(item).collect();
+        let mut files = BTreeMap::new();
+        let mut put = |path: String, of: String, text: String| {
+            let head = format!("// Made by `make package` of {of}: changes go there.\n\n");
+            files.insert(path, head + &text);
+        };
+        put("guide/mod.rs".to_string(), "docs/GUIDE.md".to_string(), inner_docs(&guide));
+        let definitions = format!("{}\n{items}", inner_docs(&definitions));
+        put("definitions/mod.rs".to_string(), "docs/DEFINITIONS.md".to_string(), definitions);
+        for file in &self.files {
+            let of = format!("crates/fixed_{}/specs/{}.antt", file.krate, file.name);
+            put(format!("definitions/{}.rs", file.module()), of, file.page());
+        }
+        Ok(files)
     }
 
     /// A page with links where it names a file of definitions, such as `fixed_kernel/specs/Rows`.
@@ -150,7 +164,7 @@ impl File {
             about.join("\n"),
             code.trim()
         );
-        format!("pub mod {} {{\n{}}}\n", self.module(), inner_docs(&text))
+        inner_docs(&text)
     }
 }
 

@@ -1,8 +1,6 @@
 //! The operators on references to numbers, as Rust's integers have them. They are not proved: each copies what it
 //! refers to and forwards to a proved operator.
 
-use std::{env, fs};
-
 const NUMBER: &str = "Fixed<T, F>";
 
 /// The operators of two operands: the trait, the method, and the types that stand on the right.
@@ -77,17 +75,16 @@ where
 }
 ";
 
-/// Writes the operators on references as a file of Rust.
-pub fn write_references(name: &str) -> Result<(), String> {
-    let folder = env::var("OUT_DIR").map_err(|error| error.to_string())?;
+/// The operators on references as a file of Rust.
+pub fn references() -> String {
+    let head = "// Made by `make package` of the tables in rust/script/references.rs: changes go there.\n\nuse super::{Fixed, Word};\n";
     let of_two = BINARY.map(|(of_trait, call, rights)| {
         let with =
             |right: &&str| implemented(ON_THE_RIGHT, of_trait, call).replace("$Right", right);
         implemented(ON_THE_LEFT, of_trait, call) + &rights.iter().map(with).collect::<String>()
     });
     let of_one = UNARY.map(|(of_trait, call)| implemented(ALONE, of_trait, call));
-    let text = of_two.concat() + &of_one.concat();
-    fs::write(format!("{folder}/{name}"), text).map_err(|error| error.to_string())
+    head.to_string() + &of_two.concat() + &of_one.concat()
 }
 
 /// A form for an operator.

@@ -1,7 +1,7 @@
 //! What the traits of the library require, by the path of module and name: an `impl` has it without saying so.
 
-use crate::script::conditions::facts_of;
-use crate::script::items::{Item, Part, Source};
+use crate::conditions::facts_of;
+use crate::items::{Item, Part, Source};
 use std::collections::BTreeMap;
 use std::ops::Range;
 

@@ -1,9 +1,5 @@
 //! Which calls the build script marks with `#[must_use]`.
 
-#[path = "../script/mod.rs"]
-#[allow(dead_code)]
-mod script;
-
 use script::attributes::mark;
 use script::edits::Edits;
 use script::items::Source;

@@ -1,9 +1,5 @@
 //! The tables of examples and the pages of the docs, on small ones.
 
-#[path = "../script/mod.rs"]
-#[allow(dead_code)]
-mod script;
-
 use script::examples::Examples;
 use script::pages::{Definitions, linked};
 

@@ -2,15 +2,13 @@
 //! one is a sign of the other, but for what speaks to the prover, assertions, what docs say of contracts, and the names
 //! of crates. What goes is said here once more, without the build script's reading of items.
 
-#[path = "../script/mod.rs"]
-#[allow(dead_code)]
-mod script;
-
-use script::modules::{CALCULATOR, CASTS, FIRST, INSIDE, LEFT_OUT, LIBRARY, MEMORY, SHARED};
+use script::modules::{CALCULATOR, FIRST, INSIDE, LIBRARY, SHARED, path_of};
+use script::package::{Files, unformatted};
 use script::tokens::{Kind, code, tokens};
+use std::collections::BTreeMap;
 use std::fs;
-
-const WRITTEN: &str = include_str!(concat!(env!("OUT_DIR"), "/library.rs"));
+use std::path::Path;
+use std::sync::OnceLock;
 
 /// Forms of sources, and what Rust has in their place.
 const FORMS: [(&str, &str); 12] = [
@@ -136,60 +134,42 @@ fn derives(signs: &[Sign]) -> (String, usize) {
     }
 }
 
-/// Whether a crate takes memory, by the features of this build.
-fn has_memory(krate: &str) -> bool {
-    let of_runs = cfg!(feature = "runs") && ["text", "poly", "filter", "interval"].contains(&krate);
-    of_runs || cfg!(feature = "calc") && (krate == "text" || CALCULATOR.contains(&krate))
-}
-
 /// Whether a table of the script has a file of a crate.
 fn is_of(table: &[&str], krate: &str, file: &Sign) -> bool {
     let path = format!("{krate}/{}", file.text);
     table.contains(&path.as_str())
 }
 
-/// Whether a file of a crate is left out of this build.
-fn is_left_out(krate: &str, file: &Sign) -> bool {
-    !has_memory(krate) && is_of(&LEFT_OUT, krate, file)
-}
-
-/// What the library has to have of a file, with those that it names.
-fn expected(krate: &str, file: &str, out: &mut Vec<Sign>) {
+/// What the library has to have of each file of a crate, from one on that names others, by their paths.
+fn expected(krate: &str, file: &str, out: &mut BTreeMap<String, Vec<Sign>>) {
     let path = format!("crates/fixed_{krate}/src/{file}.rt");
     let text = fs::read_to_string(&path).expect("a source");
     let source = signs(&path, &text);
-    let mut first = first_of(krate, file);
+    let (mut first, mut signs_of) = (first_of(krate, file), Vec::new());
     let mut at = 0;
     while at < source.len() {
         let rest = &source[at..];
         let is_module = begin(rest, "mod") && rest[2].text == ";";
         if let Some(name) = first.take_if(|_| is_module) {
-            out.extend(signs(&path, &format!("mod {name} {{")));
-            expected(krate, name, out);
-            out.extend(signs(&path, "}"));
+            signs_of.extend(signs(&path, &format!("mod {name};")));
+        }
+        let is_public_module = begin(rest, "pub mod") && rest[3].text == ";";
+        if is_module || is_public_module {
+            expected(krate, &rest[1 + usize::from(is_public_module)].text, out);
         }
         if is_module && first_of(krate, file) == Some(&rest[1].text) {
             at += 3;
             continue;
         }
         let (text, length) = replaced(krate, rest);
-        out.extend(signs("", &text).into_iter().map(|sign| Sign {
+        signs_of.extend(signs("", &text).into_iter().map(|sign| Sign {
             place: rest[0].place.clone(),
             ..sign
         }));
-        if is_module && !text.is_empty() {
-            expected(krate, &rest[1].text, out);
-            out.extend(signs(&path, "}"));
-        }
         at += length;
     }
-    if has_memory(krate) {
-        out.extend(signs(&path, MEMORY));
-    }
-    if text.contains(".cast_") {
-        out.extend(signs(&path, CASTS));
-    }
-    out.extend(signs(&path, &messages(&text)));
+    signs_of.extend(signs(&path, &messages(&text)));
+    out.insert(path_of(&format!("{krate}/{file}")), signs_of);
 }
 
 /// What the library has of errors beside their source: the message of each variant or struct, as `thiserror` writes it.
@@ -255,12 +235,8 @@ fn replaced(krate: &str, rest: &[Sign]) -> (String, usize) {
         return (new.to_string(), code(old).len());
     }
     let is_use = begin(rest, "pub use");
-    let is_module = begin(rest, "mod") && rest[2].text == ";";
     match &rest[0].text {
         _ if begin(rest, "#[derive(") => derives(rest),
-        _ if is_module && is_left_out(krate, &rest[1]) => (String::new(), 3),
-        _ if is_module => (format!("mod {} {{", rest[1].text), 3),
-        _ if is_use && is_left_out(krate, &rest[2]) => (String::new(), length(rest, &[";"])),
         _ if is_use && is_of(&INSIDE, krate, &rest[2]) => ("pub(crate)".to_string(), 1),
         _ if begin(rest, "pub mod") && is_of(&SHARED, krate, &rest[2]) => {
             ("pub(crate)".to_string(), 1)
@@ -285,8 +261,8 @@ fn crate_name(krate: &str, name: &str) -> String {
 }
 
 /// The signs of the library, without the assertions of conditions.
-fn written(text: &str) -> Vec<Sign> {
-    let all = signs("library.rs", text);
+fn written(path: &str, text: &str) -> Vec<Sign> {
+    let all = signs(path, text);
     let mut kept = vec![true; all.len()];
     let mut at = 0;
     while at < all.len() {
@@ -315,7 +291,12 @@ fn added(signs: &[Sign]) -> usize {
         let is_docs = |sign: &&Sign| sign.text.starts_with("///");
         return signs.iter().take_while(is_docs).count();
     }
-    for attribute in ["#[track_caller]", "#[must_use]"] {
+    let cfgs = ["any(feature = \"calc\", feature = \"runs\")", "feature = \"runs\""];
+    let cfgs = cfgs.map(|features| format!("#[cfg({features})]"));
+    let imports = ["memory::Drop", "memory::String", "memory::Vec", "casts::CastSigned", "casts::CastUnsigned"];
+    let imports = imports.map(|path| format!("use crate::{path};"));
+    let attributes = ["#[track_caller]", "#[must_use]"].map(str::to_string);
+    for attribute in attributes.iter().chain(&cfgs).chain(&imports) {
         if begin(signs, attribute) {
             return code(attribute).len();
         }
@@ -334,16 +315,26 @@ fn added(signs: &[Sign]) -> usize {
     if says { end } else { 0 }
 }
 
-/// Where a library and the sources first differ.
-fn difference(library: &str) -> Option<String> {
-    let mut all = Vec::new();
-    let calculator = CALCULATOR.iter().filter(|_| cfg!(feature = "calc"));
-    for krate in LIBRARY.iter().chain(calculator) {
-        all.extend(signs("", &format!("pub mod {krate} {{")));
+/// A file of the package, by its path in `src`, before rustfmt. (`package.rs` tests that rustfmt makes of it what stands
+/// there.)
+fn text_of(path: &str) -> String {
+    static FILES: OnceLock<Files> = OnceLock::new();
+    let top = Path::new(env!("CARGO_MANIFEST_DIR"));
+    let files = FILES.get_or_init(|| unformatted(top).expect("the sources are read"));
+    files.get(&format!("src/{path}")).cloned().unwrap_or_default()
+}
+
+fn sources() -> BTreeMap<String, Vec<Sign>> {
+    let mut all = BTreeMap::new();
+    for krate in LIBRARY.iter().chain(&CALCULATOR) {
         expected(krate, "lib", &mut all);
-        all.extend(signs("", "}"));
     }
-    let written = written(library);
+    all
+}
+
+/// Where a file and its source first differ.
+fn difference_in(path: &str, all: &[Sign], text: &str) -> Option<String> {
+    let written = written(path, text);
     let end = Sign {
         text: "the end".to_string(),
         place: String::new(),
@@ -361,33 +352,42 @@ fn difference(library: &str) -> Option<String> {
 
 #[test]
 fn each_sign_is_that_of_the_sources() {
-    assert_eq!(difference(WRITTEN), None);
+    for (path, all) in sources() {
+        assert_eq!(difference_in(&path, &all, &text_of(&path)), None);
+    }
 }
 
 /// What goes, what comes and what changes places is seen.
 #[test]
 fn planted_differences() {
-    assert_eq!(WRITTEN.matches("steps.tick();\n").count(), 32);
-    let erased = difference(&WRITTEN.replace("steps.tick();\n", "\n"));
-    assert!(erased.is_some_and(|said| said.contains("fixed_word/src/digits.rt")));
-    let added =
-        difference(&WRITTEN.replacen("steps.tick();\n", "steps.tick(); steps.tick();\n", 1));
-    assert!(added.is_some_and(|said| said.contains("fixed_word/src/digits.rt")));
-    let checked = "Checked, CheckedSigned";
-    let moved = difference(&WRITTEN.replacen(checked, "CheckedSigned, Checked", 1));
-    assert!(moved.is_some_and(|said| said.contains("fixed_policy/src/lib.rt")));
-    let docs = difference(&WRITTEN.replacen("    /// Returns the bits: the number in units of `2^-F`.\n", "", 1));
-    assert!(docs.is_some_and(|said| said.contains("fixed_num/src/format.rt")));
-    let cut = difference(&WRITTEN[..WRITTEN.len() - 2]);
-    assert!(cut.is_some_and(|said| said.contains("the end")));
+    let sources = sources();
+    let ticks = |path: &String| text_of(path).matches("steps.tick();\n").count();
+    assert_eq!(sources.keys().map(ticks).sum::<usize>(), 32);
+    let planted = |path: &str, old: &str, new: &str| {
+        let text = text_of(path);
+        assert!(text.contains(old), "{path}");
+        difference_in(path, &sources[path], &text.replacen(old, new, 1)).unwrap_or_default()
+    };
+    let erased = planted("word/digits.rs", "steps.tick();\n", "\n");
+    assert!(erased.contains("fixed_word/src/digits.rt"), "{erased}");
+    let added = planted("word/digits.rs", "steps.tick();\n", "steps.tick(); steps.tick();\n");
+    assert!(added.contains("fixed_word/src/digits.rt"), "{added}");
+    let moved = planted("policy/mod.rs", "Checked, CheckedSigned", "CheckedSigned, Checked");
+    assert!(moved.contains("fixed_policy/src/lib.rt"), "{moved}");
+    let line = "    /// Returns the bits: the number in units of `2^-F`.\n";
+    let docs = planted("num/format.rs", line, "");
+    assert!(docs.contains("fixed_num/src/format.rt"), "{docs}");
+    let cut = planted("policy/mod.rs", "};\npub use", "\npub use");
+    assert!(cut.contains("fixed_policy/src/lib.rt"), "{cut}");
 }
 
 /// A strict conversion has no public clause that becomes an assertion: it stops by a line of `rust/script/added.txt`,
 /// which has to hold in release builds too.
 #[test]
 fn strict_conversions_stop_in_every_build() {
-    let start = WRITTEN.find("fn strict_word<").expect("the function");
-    let body: Vec<&str> = WRITTEN[start..].lines().take(3).collect();
+    let text = text_of("cast/policies.rs");
+    let start = text.find("fn strict_word<").expect("the function");
+    let body: Vec<&str> = text[start..].lines().take(3).collect();
     assert!(
         body[1].trim_start().starts_with("assert!(outcome.side == crate::word::Side::Fits"),
         "{body:?}"

@@ -1,14 +1,8 @@
-//! The build script over the sources with something planted: nothing is lost in silence.
+//! The script over the sources with something planted: nothing is lost in silence.
 
-#[path = "../script/mod.rs"]
-#[allow(dead_code)]
-mod script;
-
-#[path = "../c/pointers.rs"]
-mod pointers;
-
-use pointers::with_pointers;
 use script::modules::{CALCULATOR, LIBRARY, written};
+use script::pointers::with_pointers;
+use std::collections::BTreeMap;
 use std::fs;
 use std::path::{Path, PathBuf};
 
@@ -40,18 +34,26 @@ fn of_crates(
     crates: &[&str],
     changes: &[(&str, &str, &str)],
 ) -> Result<String, String> {
-    written_of(&copied(name, crates, changes), crates, &[])
+    written_of(&copied(name, crates, changes), crates).map(joined)
 }
 
 /// What it makes of the whole library, with each feature.
 fn with_changes(name: &str, changes: &[(&str, &str, &str)]) -> Result<String, String> {
     let crates = [&LIBRARY[..], &CALCULATOR].concat();
-    written_of(&copied(name, &crates, changes), &crates, &crates)
+    written_of(&copied(name, &crates, changes), &crates).map(joined)
 }
 
-fn written_of(top: &Path, crates: &[&str], with_memory: &[&str]) -> Result<String, String> {
+type Files = BTreeMap<String, String>;
+
+fn written_of(top: &Path, crates: &[&str]) -> Result<Files, String> {
     let from = format!("{}/", top.display());
-    written(top, crates, with_memory).map_err(|error| error.replace(&from, ""))
+    written(top, crates, None).map_err(|error| error.replace(&from, ""))
+}
+
+/// Files as one text, each behind its path.
+fn joined(files: Files) -> String {
+    let of_file = |(path, text)| format!("==> {path}\n{text}");
+    files.into_iter().map(of_file).collect()
 }
 
 /// What it makes of `fixed_num` with one more file.
@@ -67,12 +69,12 @@ fn with_file(name: &str, text: &str) -> Result<String, String> {
     of_crates(name, &["num"], &at_end)
 }
 
-/// The lines of a file's module, up to its last.
+/// The lines of a file.
 fn module<'a>(library: &'a str, name: &str) -> &'a str {
     let (_, text) = library
-        .split_once(&format!("mod {name} {{\n"))
+        .split_once(&format!("{name}.rs\n"))
         .expect("the module");
-    text.split_once("\npub mod ").map_or(text, |(text, _)| text)
+    text.split_once("\n==> ").map_or(text, |(text, _)| text)
 }
 
 /// Sources of which something would be lost, and the error.
@@ -209,7 +211,7 @@ fn a_public_module_of_any_name() {
     let body =
         "/// One.\n#[must_use]\npub fn one() -> u8 {\n    let line;\n    line = 1;\n    line\n}\n";
     assert!(
-        library.contains(&format!("pub mod line {{\n{body}}}")),
+        module(&library, "line").ends_with(body.trim_end()),
         "{}",
         module(&library, "line")
     );
@@ -277,7 +279,7 @@ fn what_is_shared() {
     let crates = ["elementary"];
     let library = of_crates("shared", &crates, &[power]).expect("a library");
     for name in ["exponentials", "logarithms", "wide"] {
-        let module = format!("pub(crate) mod {name} {{");
+        let module = format!("pub(crate) mod {name};");
         assert!(library.contains(&module), "{name}");
     }
     let exponentials = module(&library, "exponentials");
@@ -367,17 +369,16 @@ fn strict_calls_by_the_path_of_their_trait() {
     );
     let before = with_changes("strict", &[]).expect("a library");
     let after = with_changes("strict_by_path", &[(strict, named.0, named.1)]).expect("a library");
-    assert_eq!(
-        before.replacen(named.0, "crate::strict::strict::Strict for Fixed<T, F>", 1),
-        after
-    );
-    assert!(module(&after, "strict").contains("assert!(rhs < T::BITS"));
+    let expected = before.replacen(named.0, "crate::strict::strict::Strict for Fixed<T, F>", 1);
+    let differing = expected.lines().zip(after.lines()).find(|(a, b)| a != b);
+    assert_eq!(differing, None);
+    assert!(module(&after, "strict/strict").contains("assert!(rhs < T::BITS"));
 }
 
 /// What the face for C is with a change in the file of one word.
 fn face(name: &str, old: &str, new: &str) -> Result<String, String> {
     let planted = [("fixed_c/src/signed_8_functions.rt", old, new)];
-    with_pointers(&of_crates(name, &["c"], &planted)?)
+    with_pointers(written_of(&copied(name, &["c"], &planted), &["c"])?).map(joined)
 }
 
 /// Each slice that an export takes becomes a pointer and a count.

@@ -1,9 +1,5 @@
 //! The build script on small sources.
 
-#[path = "../script/mod.rs"]
-#[allow(dead_code)]
-mod script;
-
 use script::conditions::{Condition, Known};
 use script::erasing::Erasing;
 use script::items::Source;
@@ -196,7 +192,6 @@ pub fn div<T: Word>(a: T, b: T, frac: u32) -> T
 }
 ";
     let want = "/// The quotient.
-#[inline]
 ///
 /// # Panics
 ///
@@ -210,6 +205,7 @@ pub fn div<T: Word>(a: T, b: T, frac: u32) -> T
 ///     ≢ pos 0 }
 /// ensures { T.value result ≡ x }
 /// ```
+#[inline]
 #[track_caller]
 pub fn div<T: Word>(a: T, b: T, frac: u32) -> T {
     assert!(frac <= T::BITS, \"precondition: the fraction frac is at most the width\");

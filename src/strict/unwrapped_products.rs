@@ -1,0 +1,373 @@
+// Made by `make package` of crates/fixed_strict/src/unwrapped_products.rt, which is proved: changes go there.
+
+//! The `unwrapped_` forms of multiply-add and of sums of products. The factors may have other fractions.
+
+use crate::stopping::{Fixed, Held, Number};
+use crate::strict::strict_products::{StrictMulAdd, StrictProducts};
+use crate::word::{RawWord, Rounding, Word};
+
+/// Multiply-add by a factor with G fraction bits. Precondition of each call: G is at most the width.
+pub trait UnwrappedMulAdd<const G: u32>: Number {
+    /// Returns the product by `mul`, rounded down, plus `add`. Precondition: the sum fits. The product alone may be
+    /// out of range.
+    ///
+    /// # Examples
+    ///
+    /// ```
+    /// use zugyelmas::prelude::*;
+    /// type Number = FixedI8<4>; // from -8 to 7.9375
+    /// let number = Number::from_num::<f64>;
+    ///
+    /// assert_eq!(number(1.5).unwrapped_mul_add(number(2.0), number(0.5)), number(3.5));
+    /// // the product alone does not fit
+    /// assert_eq!(number(4.0).unwrapped_mul_add(number(2.0), number(-0.5)), number(7.5));
+    /// // 1.5 * 1.25 + 0.5
+    /// assert_eq!(number(1.5).unwrapped_mul_add(FixedI8::<6>::from_bits(80), number(0.5)), number(2.375));
+    /// ```
+    ///
+    /// ```should_panic
+    /// # use zugyelmas::prelude::*;
+    /// # type Number = FixedI8<4>; // from -8 to 7.9375
+    /// # let number = Number::from_num::<f64>;
+    /// # std::panic::set_hook(Box::new(|_| {}));
+    /// number(4.0).unwrapped_mul_add(number(2.0), number(0.5)); // 8.5 does not fit
+    /// ```
+    ///
+    /// # Compile errors
+    ///
+    /// Compiles only if the fraction G is at most the width.
+    ///
+    /// # Panics
+    ///
+    /// Panics unless the number fits.
+    ///
+    /// # Proved
+    ///
+    /// ```text
+    /// requires fraction { G ≤ Self.BITS }
+    /// requires fits { InRange Self.SIGNED Self.BITS
+    ///     (exact_mul_add (Self.number self) (Self.Bits.value mul.bits) (Self.number add) G) }
+    /// ensures { Self.number result
+    ///     ≡ exact_mul_add (Self.number self) (Self.Bits.value mul.bits) (Self.number add) G }
+    /// ```
+    ///
+    /// Definitions: [`InRange`], [`exact_mul_add`].
+    ///
+    /// [`InRange`]: crate::definitions::word_format
+    /// [`exact_mul_add`]: crate::definitions::kernel_rows
+    #[must_use]
+    fn unwrapped_mul_add(self, mul: Fixed<Self::Bits, G>, add: Self) -> Self;
+
+    /// Returns the product by `mul`, rounded as named, plus `add`. Precondition: the sum fits.
+    ///
+    /// # Examples
+    ///
+    /// ```
+    /// use zugyelmas::prelude::*;
+    /// use zugyelmas::word::Rounding;
+    /// type Number = FixedI8<4>; // from -8 to 7.9375
+    /// let number = Number::from_num::<f64>;
+    ///
+    /// // 3.5 units: a tie, to 4 units
+    /// assert_eq!(number(0.4375).unwrapped_mul_add_round(FixedI8::<2>::from_bits(2), number(0.0625), Rounding::Even), number(0.3125));
+    /// ```
+    ///
+    /// ```should_panic
+    /// # use zugyelmas::prelude::*;
+    /// # use zugyelmas::word::Rounding;
+    /// # type Number = FixedI8<4>; // from -8 to 7.9375
+    /// # let number = Number::from_num::<f64>;
+    /// # std::panic::set_hook(Box::new(|_| {}));
+    /// // 8.5 does not fit
+    /// number(4.0).unwrapped_mul_add_round(number(2.0), number(0.5), Rounding::Even);
+    /// ```
+    ///
+    /// # Compile errors
+    ///
+    /// Compiles only if the fraction G is at most the width.
+    ///
+    /// # Panics
+    ///
+    /// Panics unless the number fits.
+    ///
+    /// # Proved
+    ///
+    /// ```text
+    /// requires fraction { G ≤ Self.BITS }
+    /// requires fits { InRange Self.SIGNED Self.BITS
+    ///     (rounded_mul_add (Self.number self) (Self.Bits.value mul.bits) (Self.number add) G rounding) }
+    /// ensures { Self.number result
+    ///     ≡ rounded_mul_add (Self.number self) (Self.Bits.value mul.bits) (Self.number add) G rounding }
+    /// ```
+    ///
+    /// Definitions: [`InRange`], [`rounded_mul_add`].
+    ///
+    /// [`InRange`]: crate::definitions::word_format
+    /// [`rounded_mul_add`]: crate::definitions::kernel_rounded_rows
+    #[must_use]
+    fn unwrapped_mul_add_round(
+        self,
+        mul: Fixed<Self::Bits, G>,
+        add: Self,
+        rounding: Rounding,
+    ) -> Self;
+}
+
+impl<T: Word, const F: u32, const G: u32> UnwrappedMulAdd<G> for Fixed<T, F> {
+    #[track_caller]
+    fn unwrapped_mul_add(self, mul: Fixed<T, G>, add: Self) -> Self {
+        const {
+            assert!(
+                G <= T::BITS,
+                "precondition: the fraction G is at most the width"
+            )
+        };
+        self.strict_mul_add(mul, add)
+    }
+
+    #[track_caller]
+    fn unwrapped_mul_add_round(self, mul: Fixed<T, G>, add: Self, rounding: Rounding) -> Self {
+        const {
+            assert!(
+                G <= T::BITS,
+                "precondition: the fraction G is at most the width"
+            )
+        };
+        self.strict_mul_add_round(mul, add, rounding)
+    }
+}
+
+/// Sums with a product of factors with A and B fraction bits. Precondition of each call: F, A and B are at most the
+/// width.
+pub trait UnwrappedProducts<const A: u32, const B: u32>: Number {
+    /// Returns the number plus the product of `a` and `b`, which is rounded down to the number's fraction bits.
+    /// Precondition: the sum fits.
+    ///
+    /// # Examples
+    ///
+    /// ```
+    /// use zugyelmas::prelude::*;
+    /// type Number = FixedI8<4>; // from -8 to 7.9375
+    /// let number = Number::from_num::<f64>;
+    ///
+    /// assert_eq!(number(0.5).unwrapped_add_prod(number(1.5), number(2.0)), number(3.5));
+    /// // the product alone does not fit
+    /// assert_eq!(number(-0.5).unwrapped_add_prod(number(4.0), number(2.0)), number(7.5));
+    /// // 0.5 + 1.25 * 1.5
+    /// assert_eq!(number(0.5).unwrapped_add_prod(FixedI8::<6>::from_bits(80), number(1.5)), number(2.375));
+    /// ```
+    ///
+    /// ```should_panic
+    /// # use zugyelmas::prelude::*;
+    /// # type Number = FixedI8<4>; // from -8 to 7.9375
+    /// # let number = Number::from_num::<f64>;
+    /// # std::panic::set_hook(Box::new(|_| {}));
+    /// number(0.5).unwrapped_add_prod(number(4.0), number(2.0)); // 8.5 does not fit
+    /// ```
+    ///
+    /// # Compile errors
+    ///
+    /// Compiles only if the fraction F is at most the width, and the fraction A is at most the width, and the fraction B is at most the width.
+    ///
+    /// # Panics
+    ///
+    /// Panics unless the number fits.
+    ///
+    /// # Proved
+    ///
+    /// ```text
+    /// requires fraction { Self.FRACTION ≤ Self.BITS }
+    /// requires a { A ≤ Self.BITS }
+    /// requires b { B ≤ Self.BITS }
+    /// requires fits { InRange Self.SIGNED Self.BITS (exact_add_prod (Self.number self)
+    ///     (Self.Bits.value a.bits) (Self.Bits.value b.bits) Self.FRACTION A B) }
+    /// ensures { Self.number result ≡ exact_add_prod (Self.number self)
+    ///     (Self.Bits.value a.bits) (Self.Bits.value b.bits) Self.FRACTION A B }
+    /// ```
+    ///
+    /// Definitions: [`InRange`], [`exact_add_prod`].
+    ///
+    /// [`InRange`]: crate::definitions::word_format
+    /// [`exact_add_prod`]: crate::definitions::kernel_rows
+    #[must_use]
+    fn unwrapped_add_prod(self, a: Fixed<Self::Bits, A>, b: Fixed<Self::Bits, B>) -> Self;
+
+    /// Returns the number plus the product of `a` and `b`, which is rounded as named to the number's fraction bits.
+    /// Precondition: the sum fits.
+    ///
+    /// # Examples
+    ///
+    /// ```
+    /// use zugyelmas::prelude::*;
+    /// use zugyelmas::word::Rounding;
+    /// type Number = FixedI8<4>; // from -8 to 7.9375
+    /// let number = Number::from_num::<f64>;
+    ///
+    /// // 3.5 units: a tie, to 4 units
+    /// assert_eq!(number(0.0625).unwrapped_add_prod_round(number(0.4375), FixedI8::<2>::from_bits(2), Rounding::Even), number(0.3125));
+    /// ```
+    ///
+    /// ```should_panic
+    /// # use zugyelmas::prelude::*;
+    /// # use zugyelmas::word::Rounding;
+    /// # type Number = FixedI8<4>; // from -8 to 7.9375
+    /// # let number = Number::from_num::<f64>;
+    /// # std::panic::set_hook(Box::new(|_| {}));
+    /// // 8.5 does not fit
+    /// number(0.5).unwrapped_add_prod_round(number(4.0), number(2.0), Rounding::Even);
+    /// ```
+    ///
+    /// # Compile errors
+    ///
+    /// Compiles only if the fraction F is at most the width, and the fraction A is at most the width, and the fraction B is at most the width.
+    ///
+    /// # Panics
+    ///
+    /// Panics unless the number fits.
+    ///
+    /// # Proved
+    ///
+    /// ```text
+    /// requires fraction { Self.FRACTION ≤ Self.BITS }
+    /// requires a { A ≤ Self.BITS }
+    /// requires b { B ≤ Self.BITS }
+    /// requires fits { InRange Self.SIGNED Self.BITS
+    ///     (rounded_add_prod (Self.number self) (Self.Bits.value a.bits) (Self.Bits.value b.bits)
+    ///     Self.FRACTION A B rounding) }
+    /// ensures { Self.number result
+    ///     ≡ rounded_add_prod (Self.number self) (Self.Bits.value a.bits) (Self.Bits.value b.bits)
+    ///     Self.FRACTION A B rounding }
+    /// ```
+    ///
+    /// Definitions: [`InRange`], [`rounded_add_prod`].
+    ///
+    /// [`InRange`]: crate::definitions::word_format
+    /// [`rounded_add_prod`]: crate::definitions::kernel_rounded_rows
+    #[must_use]
+    fn unwrapped_add_prod_round(
+        self,
+        a: Fixed<Self::Bits, A>,
+        b: Fixed<Self::Bits, B>,
+        rounding: Rounding,
+    ) -> Self;
+
+    /// Stores the result of `unwrapped_add_prod` in the number. Precondition: the result fits.
+    ///
+    /// # Examples
+    ///
+    /// ```
+    /// use zugyelmas::prelude::*;
+    /// type Number = FixedI8<4>; // from -8 to 7.9375
+    /// let number = Number::from_num::<f64>;
+    /// let mut sum = number(0.5);
+    ///
+    /// sum.unwrapped_mul_acc(number(1.5), number(2.0));
+    /// assert_eq!(sum, number(3.5));
+    /// ```
+    ///
+    /// ```should_panic
+    /// # use zugyelmas::prelude::*;
+    /// # type Number = FixedI8<4>; // from -8 to 7.9375
+    /// # let number = Number::from_num::<f64>;
+    /// # let mut sum = number(0.5);
+    /// # std::panic::set_hook(Box::new(|_| {}));
+    /// sum.unwrapped_mul_acc(number(4.0), number(2.0)); // 8.5 does not fit
+    /// ```
+    ///
+    /// # Compile errors
+    ///
+    /// Compiles only if the fraction F is at most the width, and the fraction A is at most the width, and the fraction B is at most the width.
+    ///
+    /// # Panics
+    ///
+    /// Panics unless the number fits.
+    ///
+    /// # Proved
+    ///
+    /// ```text
+    /// requires fraction { Self.FRACTION ≤ Self.BITS }
+    /// requires a { A ≤ Self.BITS }
+    /// requires b { B ≤ Self.BITS }
+    /// requires fits { InRange Self.SIGNED Self.BITS (exact_add_prod (Self.number self.old)
+    ///     (Self.Bits.value a.bits) (Self.Bits.value b.bits) Self.FRACTION A B) }
+    /// ensures { Self.number self.new ≡ exact_add_prod (Self.number self.old)
+    ///     (Self.Bits.value a.bits) (Self.Bits.value b.bits) Self.FRACTION A B }
+    /// ```
+    ///
+    /// Definitions: [`InRange`], [`exact_add_prod`].
+    ///
+    /// [`InRange`]: crate::definitions::word_format
+    /// [`exact_add_prod`]: crate::definitions::kernel_rows
+    fn unwrapped_mul_acc(&mut self, a: Fixed<Self::Bits, A>, b: Fixed<Self::Bits, B>);
+}
+
+impl<T: Word, const F: u32, const A: u32, const B: u32> UnwrappedProducts<A, B> for Fixed<T, F> {
+    #[track_caller]
+    fn unwrapped_add_prod(self, a: Fixed<T, A>, b: Fixed<T, B>) -> Self {
+        const {
+            assert!(
+                F <= T::BITS,
+                "precondition: the fraction F is at most the width"
+            )
+        };
+        const {
+            assert!(
+                A <= T::BITS,
+                "precondition: the fraction A is at most the width"
+            )
+        };
+        const {
+            assert!(
+                B <= T::BITS,
+                "precondition: the fraction B is at most the width"
+            )
+        };
+        self.strict_add_prod(a, b)
+    }
+
+    #[track_caller]
+    fn unwrapped_add_prod_round(self, a: Fixed<T, A>, b: Fixed<T, B>, rounding: Rounding) -> Self {
+        const {
+            assert!(
+                F <= T::BITS,
+                "precondition: the fraction F is at most the width"
+            )
+        };
+        const {
+            assert!(
+                A <= T::BITS,
+                "precondition: the fraction A is at most the width"
+            )
+        };
+        const {
+            assert!(
+                B <= T::BITS,
+                "precondition: the fraction B is at most the width"
+            )
+        };
+        self.strict_add_prod_round(a, b, rounding)
+    }
+
+    #[track_caller]
+    fn unwrapped_mul_acc(&mut self, a: Fixed<T, A>, b: Fixed<T, B>) {
+        const {
+            assert!(
+                F <= T::BITS,
+                "precondition: the fraction F is at most the width"
+            )
+        };
+        const {
+            assert!(
+                A <= T::BITS,
+                "precondition: the fraction A is at most the width"
+            )
+        };
+        const {
+            assert!(
+                B <= T::BITS,
+                "precondition: the fraction B is at most the width"
+            )
+        };
+        *self = self.unwrapped_add_prod(a, b);
+    }
+}
