@@ -13,11 +13,6 @@ pub struct Global;
 #[derive(Clone, Copy, Debug, PartialEq, Eq)]
 pub struct AllocError;
 
-/// What the proved language asks of a type that may be dropped, and Rust of none.
-pub trait Drop {}
-
-impl<T> Drop for T {}
-
 /// A vector that says where there is no memory.
 #[derive(Debug, PartialEq, Eq)]
 pub struct Vec<T> {

@@ -104,9 +104,7 @@ pub const FIRST: &str = "num/format";
 
 /// What the proved language has by itself, for files that take memory; and the casts of words, which std has from Rust
 /// 1.87 on, by their calls.
-const IMPORTS: [(&str, &str, &[&str]); 5] = [
-    // In a derive the name goes.
-    ("Drop", "crate::memory::Drop", &[":", "+"]),
+const IMPORTS: [(&str, &str, &[&str]); 4] = [
     ("String", "crate::memory::String", &[]),
     ("Vec", "crate::memory::Vec", &[]),
     ("cast_signed", "crate::casts::CastSigned", &["."]),
@@ -278,12 +276,12 @@ impl Modules<'_> {
         if is_library {
             mark(source, &mut edits);
         }
-        self.modules(name, &mut edits)?;
-        let names = Names { krate, is_library };
-        names.edit(source, &mut edits);
         if is_library && !["lib", "laws"].contains(&name.rsplit('/').next().unwrap_or_default()) {
             import(source, &mut edits);
         }
+        self.modules(name, &mut edits)?;
+        let names = Names { krate, is_library };
+        names.edit(source, &mut edits);
         let text = edits.applied(&file.text) + &errors(source);
         let (folder, name) = (folder(krate), name.rsplit('/').next().unwrap_or_default());
         let head = format!("// Made by `make package` of crates/{folder}/src/{name}.rt, which is proved: changes go there.");

@@ -1,4 +1,4 @@
-//! Which calls the build script marks with `#[must_use]`.
+//! Which calls the script marks with `#[must_use]`.
 
 use script::attributes::mark;
 use script::edits::Edits;

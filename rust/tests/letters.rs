@@ -1,6 +1,6 @@
 //! The library's code and docs are the proved sources', letter for letter: file by file and in order, each sign of the
 //! one is a sign of the other, but for what speaks to the prover, assertions, what docs say of contracts, and the names
-//! of crates. What goes is said here once more, without the build script's reading of items.
+//! of crates. What goes is said here once more, without the script's reading of items.
 
 use script::modules::{CALCULATOR, FIRST, INSIDE, LIBRARY, SHARED, path_of};
 use script::package::{Files, unformatted};
@@ -11,7 +11,7 @@ use std::path::Path;
 use std::sync::OnceLock;
 
 /// Forms of sources, and what Rust has in their place.
-const FORMS: [(&str, &str); 12] = [
+const FORMS: [(&str, &str); 13] = [
     ("use std::alloc::AllocError;", ""),
     ("std::alloc", "crate::memory"),
     ("std::num::{nearest_i64_to_f32", "crate::casts::{nearest_i64_to_f32"),
@@ -20,13 +20,14 @@ const FORMS: [(&str, &str); 12] = [
     ("type Unsigned: RawWord", "type Unsigned: UnsignedWord"),
     ("type Signed: RawWord;", "type Signed: SignedWord;"),
     ("RawWord: Valued {", "RawWord: Valued + Eq + Ord + Hash {"),
+    ("Run: Sized + Drop {", "Run: Sized {"),
     ("use std::marker::Model;", ""),
     ("use thiserror::Error;", ""),
     ("<W: fmt::Write>(", "("),
     ("fmt::Formatter<W>", "fmt::Formatter<'_>"),
 ];
 
-/// The headings of docs that the build script writes, which come last.
+/// The headings of docs that the script writes, which come last.
 const HEADINGS: [&str; 4] = ["Examples", "Compile errors", "Panics", "Proved"];
 
 /// A sign or a line of docs, and the file and the line where it stands.
@@ -277,7 +278,7 @@ fn written(path: &str, text: &str) -> Vec<Sign> {
         .collect()
 }
 
-/// Whether signs begin with what the build script adds to docs: a blank line and a heading.
+/// Whether signs begin with what the script adds to docs: a blank line and a heading.
 fn begins_docs(signs: &[Sign]) -> bool {
     let heading = signs
         .get(1)
@@ -285,7 +286,7 @@ fn begins_docs(signs: &[Sign]) -> bool {
     signs[0].text == "///" && heading.is_some_and(|heading| HEADINGS.contains(&heading))
 }
 
-/// How many signs the build script adds.
+/// How many signs the script adds.
 fn added(signs: &[Sign]) -> usize {
     if begins_docs(signs) {
         let is_docs = |sign: &&Sign| sign.text.starts_with("///");
@@ -293,7 +294,7 @@ fn added(signs: &[Sign]) -> usize {
     }
     let cfgs = ["any(feature = \"calc\", feature = \"runs\")", "feature = \"runs\""];
     let cfgs = cfgs.map(|features| format!("#[cfg({features})]"));
-    let imports = ["memory::Drop", "memory::String", "memory::Vec", "casts::CastSigned", "casts::CastUnsigned"];
+    let imports = ["memory::String", "memory::Vec", "casts::CastSigned", "casts::CastUnsigned"];
     let imports = imports.map(|path| format!("use crate::{path};"));
     let attributes = ["#[track_caller]", "#[must_use]"].map(str::to_string);
     for attribute in attributes.iter().chain(&cfgs).chain(&imports) {

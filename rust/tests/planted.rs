@@ -45,9 +45,12 @@ fn with_changes(name: &str, changes: &[(&str, &str, &str)]) -> Result<String, St
 
 type Files = BTreeMap<String, String>;
 
+/// What it makes of a copy, which it removes: the gate reads each source below the top.
 fn written_of(top: &Path, crates: &[&str]) -> Result<Files, String> {
     let from = format!("{}/", top.display());
-    written(top, crates, None).map_err(|error| error.replace(&from, ""))
+    let made = written(top, crates, None).map_err(|error| error.replace(&from, ""));
+    fs::remove_dir_all(top).expect("the copy");
+    made
 }
 
 /// Files as one text, each behind its path.

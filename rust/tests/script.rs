@@ -1,4 +1,4 @@
-//! The build script on small sources.
+//! The script on small sources.
 
 use script::conditions::{Condition, Known};
 use script::erasing::Erasing;

@@ -2,10 +2,10 @@
 
 //! Banks of channels.
 
+#[cfg(feature = "runs")]
 use crate::filter::channel::Channel;
 use crate::filter::reply::Reply;
 use crate::filter::shape::Shape;
-#[cfg(feature = "runs")]
 use crate::memory::Vec;
 use crate::memory::{AllocError, Global};
 use crate::word::{RawWord, Word};

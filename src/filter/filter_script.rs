@@ -2,6 +2,7 @@
 
 //! The run of a script.
 
+#[cfg(feature = "runs")]
 use crate::filter::bank::Bank;
 #[cfg(feature = "runs")]
 use crate::filter::fault::FilterFault;
@@ -9,7 +10,6 @@ use crate::filter::fault::FilterFault;
 use crate::filter::header::{FilterHeader, read_header};
 use crate::filter::reply::Reply;
 use crate::filter::shape::Shape;
-#[cfg(feature = "runs")]
 use crate::memory::Vec;
 use crate::memory::{AllocError, Global};
 use crate::text::{

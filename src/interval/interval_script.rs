@@ -2,6 +2,7 @@
 
 //! The run of a script.
 
+#[cfg(feature = "runs")]
 use crate::interval::fault::IntervalFault;
 #[cfg(feature = "runs")]
 use crate::interval::header::{IntervalHeader, read_header};
@@ -14,7 +15,6 @@ use crate::interval::products::mul_in;
 use crate::interval::quotients::div_in;
 use crate::interval::roots::sqrt_in;
 use crate::interval::sums::{add_in, sub_in};
-#[cfg(feature = "runs")]
 use crate::memory::Vec;
 use crate::memory::{AllocError, Global};
 use crate::text::{Decimal, InWord, LineFault, Output, Run, RunFault, open, run_lines, value_in};

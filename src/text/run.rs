@@ -2,9 +2,8 @@
 
 //! The loop that all runs share.
 
-#[cfg(any(feature = "calc", feature = "runs"))]
-use crate::memory::Drop;
 use crate::memory::Global;
+#[cfg(any(feature = "calc", feature = "runs"))]
 use crate::text::fault::{LineFault, RunFault};
 use crate::text::names::WordName;
 #[cfg(any(feature = "calc", feature = "runs"))]
@@ -13,7 +12,7 @@ use crate::text::pieces::{body_of, piece_end};
 use crate::word::{RawWord, Valued, Word};
 
 /// The state of a run, which each line changes.
-pub trait Run: Sized + Drop {
+pub trait Run: Sized {
     /// Takes a line, without its newline: changes the state and adds what the line prints. Fails with
     /// `LineFault::Unformed` if the line is malformed, and with `LineFault::Unfit` if a number in it is out of range.
     /// Whatever the line is, it may fail with `LineFault::Wanting`, if memory runs out.
